@@ -1,0 +1,86 @@
+-- What the kernel covers: the six public calls, each one function from the memory and its arguments to an outcome. Refusals and faults: "Refusals
+-- leave all memory untouched, first that applies".
+use Prim.Native.Nat.{ℕ}
+use mathlib.Core.Bool.{Bool, true, false, cond}
+use lib.Dec.{eqb, ltb}
+use Rattle.model.specs.declared.Registers.{Registers}
+use Rattle.model.specs.declared.Answer.the-variants.{Done}
+use Rattle.model.specs.declared.Held.{Held}
+use Rattle.model.specs.declared.Held.the-variants as Held
+use Rattle.model.specs.declared.Verdict.{Verdict}
+use Rattle.model.specs.declared.Verdict.the-variants as Verdict
+use Rattle.model.specs.Store.{Store}
+use Rattle.model.specs.Map.{memorySize, firstOuter, firstClassed, lastOuter, lastClass}
+use Rattle.model.specs.Address.{unless}
+use Rattle.model.specs.Processor.{running, lr, registersOf, setRegistersOf, inRange}
+use Rattle.model.specs.Turn.{whoRuns}
+use Rattle.model.specs.Answer.{Outcome, Step, refused, wrongLength, illFormed, idle, noInterrupt, wrongClass, outOfRange}
+use Rattle.model.specs.Answer.Outcome.{gives}
+use Rattle.model.specs.Interrupt.{delivered}
+use Rattle.model.specs.Execute.{fetched}
+use Rattle.model.specs.Fresh.{startable, started}
+use Rattle.model.specs.Judge.{judged}
+
+-- "24 interrupt not 16-50; 25 class number over 31, or nonzero below 48"
+unfoldable pub isOuter : ℕ → Bool
+isOuter k = cond (ltb k firstOuter) false (cond (ltb lastOuter k) false true)
+
+unfoldable pub isClass : ℕ → ℕ → Bool
+isClass k c = cond (ltb lastClass c) false (cond (ltb k firstClassed) (eqb c 0) true)
+
+module _ (S : Store) where
+  -- ---- "fresh start": 20, then 26
+  unfoldable pub fresh : S .M → ℕ → ℕ → Step S
+  fresh m line d =
+      unless (eqb (S .size m) memorySize) (refused S m wrongLength)
+      (unless (startable line d) (refused S m outOfRange)
+      (gives Done (started S m line d)))
+
+  -- ---- "one virtual instruction by the running processor": 20, 21, 22, then from the word at LR on
+  unfoldable pub instruction : S .M → Step S
+  instruction m =
+      unless (eqb (S .size m) memorySize) (refused S m wrongLength)
+      (unless (judged S m) (refused S m illFormed)
+      (cond (eqb (running S m) 0) (refused S m idle)
+      (fetched S m (lr S m))))
+
+  -- ---- "delivery of an interrupt": 20, 21, 24, 25
+  unfoldable pub interruptJudged : S .M → ℕ → ℕ → Step S
+  interruptJudged m k c =
+      unless (isOuter k) (refused S m noInterrupt)
+      (unless (isClass k c) (refused S m wrongClass)
+      (gives Done (whoRuns S (delivered S m k c))))
+
+  unfoldable pub interrupt : S .M → ℕ → ℕ → Step S
+  interrupt m k c =
+      unless (eqb (S .size m) memorySize) (refused S m wrongLength)
+      (unless (judged S m) (refused S m illFormed)
+      (interruptJudged m k c))
+
+  -- ---- "reading .. the running processor's registers": 20, 21, 22
+  unfoldable pub readRegisters : S .M → Outcome Held (S .M)
+  readRegisters m =
+      unless (eqb (S .size m) memorySize) (gives (Held.Refused wrongLength) m)
+      (unless (judged S m) (gives (Held.Refused illFormed) m)
+      (cond (eqb (running S m) 0) (gives (Held.Refused idle) m)
+      (gives (Held.Has (registersOf S m (running S m))) m)))
+
+  -- ---- "setting the running processor's registers": 20, 21, 22, 26
+  unfoldable pub setJudged : S .M → Registers → Step S
+  setJudged m r =
+      cond (eqb (running S m) 0) (refused S m idle)
+      (unless (inRange r) (refused S m outOfRange)
+      (gives Done (setRegistersOf S m (running S m) r)))
+
+  unfoldable pub setRegisters : S .M → Registers → Step S
+  setRegisters m r =
+      unless (eqb (S .size m) memorySize) (refused S m wrongLength)
+      (unless (judged S m) (refused S m illFormed)
+      (setJudged m r))
+
+  -- ---- "a judge of well-formed memory": 20, 21
+  unfoldable pub judge : S .M → Outcome Verdict (S .M)
+  judge m =
+      unless (eqb (S .size m) memorySize) (gives (Verdict.Refused wrongLength) m)
+      (unless (judged S m) (gives (Verdict.Refused illFormed) m)
+      (gives Verdict.WellFormed m))

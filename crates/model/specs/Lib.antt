@@ -1,0 +1,30 @@
+-- Document 01 in definitions, under its headings and in its order.
+-- What the kernel covers
+pub mod Call
+-- Memory map
+pub mod Map
+pub mod Address
+pub mod Queue
+pub mod Processor
+-- Instructions; Pages; Sending; Deleting; Interrupts; Who runs
+pub mod Instruction
+pub mod Operate
+pub mod Wait
+pub mod Page
+pub mod Mail
+pub mod Delete
+pub mod Interrupt
+pub mod Turn
+-- Fresh start and well-formed memory
+pub mod Fresh
+pub mod Rule
+pub mod Lists
+pub mod Judge
+-- Refusals and faults
+pub mod Answer
+pub mod Fault
+pub mod Execute
+-- What a memory is; all of the above at the memory that the code has, by short names
+pub mod Store
+pub mod Same
+pub mod Bytes

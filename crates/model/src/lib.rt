@@ -1,0 +1,200 @@
+// The kernel's types, and the methods of the register record. What they mean is in specs/.
+ghost use mathlib.Core.Path.{_≡_};
+ghost use Prim.Native.Nat.{_<_, _+_, _*_};
+ghost use lib.ListN.{length};
+ghost use Rattle.model.specs.Processor as Processor;
+ghost use Rattle.model.specs.Bytes as Model;
+
+// A control page's number, and a processor's name: both small, never mixed.
+pub struct ControlPage(pub u8);
+
+pub struct Name(pub u8);
+
+// A processor's registers by value. A host may name any of the first seven out of range, so they are wide.
+pub struct Registers {
+    pub a: u16,
+    pub s: u16,
+    pub p: u16,
+    pub z: u16,
+    pub ci: u16,
+    pub lr: u16,
+    pub w: u16,
+    pub stopped: u16,
+}
+
+// What a processor has while another runs: its registers, and words 4-6 and 16-31 of page 0.
+pub struct Context {
+    pub registers: Registers,
+    pub words: [u8; 19],
+}
+
+// What an instruction is given, directly or by EXI: its field (a code, NI, IK or I X XN), the number behind it (flag, count, priority,
+// CODE1, or EXI's X XN), W, and an address. What an instruction does not have is 0.
+pub struct Arguments {
+    pub field: u8,
+    pub second: u8,
+    pub w: u8,
+    pub address: u16,
+}
+
+// What a call answers. Handed out: the program's address, and that of n+1 or of the arguments. Fault: its number, and the name.
+pub enum Answer {
+    Done,
+    Waits,
+    HandedOut(u16, u16),
+    Fault(u8, u8),
+    Refused(u8),
+}
+
+// What reading the registers answers.
+pub enum Held {
+    Has(Registers),
+    Refused(u8),
+}
+
+// What the judge answers.
+pub enum Verdict {
+    WellFormed,
+    Refused(u8),
+}
+
+impl ControlPage {
+    // Word k of the page.
+    pub fn word(self, m: &[u8], k: u16) -> u8
+        requires { ⌜ (length (now m) ≡ 8192) × (k < 32) ⌝ }
+        ensures { λ r. ⌜ r ≡ Model.word (now (m .entry)) (self .0) k ⌝ }
+    {
+        let n = self.0;
+        let a = (n as usize) * 32 + (k as usize);
+        m[a]
+    }
+
+    // v becomes word k of the page.
+    pub fn store(self, m: &mut [u8], k: u16, v: u8)
+        requires { ⌜ (length (now m) ≡ 8192) × (k < 32) ⌝ }
+        ensures { λ _. ⌜ now (m .exit) ≡ Model.store (now (m .entry)) (self .0) k v ⌝ }
+    {
+        let n = self.0;
+        let a = (n as usize) * 32 + (k as usize);
+        m[a] = v;
+    }
+
+    // The address of word k of the page.
+    pub fn place(self, k: u16) -> u16
+        requires { ⌜ k < 32 ⌝ }
+        ensures { λ r. ⌜ (r ≡ self .0 * 32 + k) × (r < 8192) ⌝ }
+    {
+        wide(self.0) * 32 + k
+    }
+}
+
+// A word as a number that can be reckoned with.
+pub fn wide(x: u8) -> u16
+    ensures { λ r. ⌜ (r ≡ x) × (r < 256) ⌝ }
+{
+    x as u16
+}
+
+impl Registers {
+    // The registers of the processor of page p.
+    pub fn of(m: &[u8], p: ControlPage) -> Self
+        requires { ⌜ length (now m) ≡ 8192 ⌝ }
+        ensures { λ r. ⌜ (r ≡ Model.registersOf (now (m .entry)) (p .0)) × (r .lr < 8192) ⌝ }
+    {
+        let a = wide(p.word(m, 8));
+        let s = wide(p.word(m, 9));
+        let f = wide(p.word(m, 10));
+        let l = wide(p.word(m, 11));
+        let x = wide(p.word(m, 12));
+        Self {
+            a,
+            s,
+            p: f / 128,
+            z: f % 128 / 64,
+            ci: f % 64 / 32,
+            lr: f % 32 * 256 + l,
+            w: x % 16,
+            stopped: x / 128,
+        }
+    }
+
+    // LR grows by n, modulo 8,192.
+    pub fn advance(mut self, n: u16) -> Self
+        requires { ⌜ (self .lr < 8192) × (n < 8192) ⌝ }
+        ensures { λ r. ⌜ (r ≡ Processor.advanced self n) × (r .lr < 8192) ⌝ }
+    {
+        self.lr = (self.lr + n) % 8192;
+        self
+    }
+
+    pub fn set_accumulator(mut self, v: u16) -> Self
+        ensures { λ r. ⌜ r ≡ Processor.accumulated self v ⌝ }
+    {
+        self.a = v;
+        self
+    }
+
+    pub fn set_stopped(mut self) -> Self
+        ensures { λ r. ⌜ r ≡ Processor.stoppedOnce self ⌝ }
+    {
+        self.stopped = 1;
+        self
+    }
+
+    // P, Z, CI and LR, words 10 and 11 of page p, each modulo its field.
+    fn set_flags_lr(self, m: &mut [u8], p: ControlPage)
+        requires { ⌜ length (now m) ≡ 8192 ⌝ }
+        ensures { λ _. ⌜ now (m .exit) ≡ Model.setFlagsLr (now (m .entry)) (p .0) self ⌝ }
+    {
+        let h = self.p % 2 * 128 + self.z % 2 * 64 + self.ci % 2 * 32 + self.lr / 256 % 32;
+        p.store(m, 10, h as u8);
+        p.store(m, 11, (self.lr % 256) as u8);
+    }
+
+    // The seven registers go to page p: words 8-11 and the low four bits of word 12.
+    pub fn set_on(self, m: &mut [u8], p: ControlPage)
+        requires { ⌜ length (now m) ≡ 8192 ⌝ }
+        ensures { λ _. ⌜ now (m .exit) ≡ Model.setRegistersOf (now (m .entry)) (p .0) self ⌝ }
+    {
+        p.store(m, 8, (self.a % 256) as u8);
+        p.store(m, 9, (self.s % 256) as u8);
+        self.set_flags_lr(m, p);
+        let x = p.word(m, 12);
+        p.store(m, 12, x / 16 * 16 + (self.w % 16) as u8);
+    }
+
+    // The record is handed back to page p whole, the stopped bit too.
+    pub fn hand_back(self, m: &mut [u8], p: ControlPage)
+        requires { ⌜ length (now m) ≡ 8192 ⌝ }
+        ensures { λ _. ⌜ now (m .exit) ≡ Model.handBack (now (m .entry)) (p .0) self ⌝ }
+    {
+        self.set_on(m, p);
+        let x = p.word(m, 12);
+        p.store(m, 12, (self.stopped % 2) as u8 * 128 + x % 128);
+    }
+
+    // Whether each value fits its register.
+    pub fn in_range(self) -> bool
+        ensures { λ r. ⌜ r ≡ Processor.inRange self ⌝ }
+    {
+        if 255 < self.a {
+            return false;
+        }
+        if 255 < self.s {
+            return false;
+        }
+        if 1 < self.p {
+            return false;
+        }
+        if 1 < self.z {
+            return false;
+        }
+        if 1 < self.ci {
+            return false;
+        }
+        if 8191 < self.lr {
+            return false;
+        }
+        self.w <= 15
+    }
+}
