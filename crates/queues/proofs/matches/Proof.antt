@@ -1,0 +1,14 @@
+use borrow.Author.Needs.{needs}
+use Rattle.model.specs.Mail as Mail
+use Rattle.queues.proofs.matches.Statement.{statement}
+use Rattle.queues.proofs.matches.Tie as tie
+
+returns : tie.Need-returns
+unfolding Mail.matches
+returns c = cc
+
+pub matches-spec : {M : Type 1} → statement M
+matches-spec = tie.close (tie.spec
+    (λ c κs. search needs)
+    (λ c κs. search needs)
+    returns)
