@@ -1,0 +1,15 @@
+use borrow.Author.Needs.{needs}
+use Rattle.model.specs.Delete as Delete
+use Rattle.mail.proofs.unlist.Statement.{statement}
+use Rattle.mail.proofs.unlist.Tie as tie
+
+returns : tie.Need-returns
+unfolding Delete.unlisted
+returns c = cc
+
+pub unlist-spec : {M : Type 1} → statement M
+unlist-spec = tie.close (tie.spec
+    (λ c κs. search needs)
+    (λ c κs. search needs)
+    (λ c. search needs)
+    returns)

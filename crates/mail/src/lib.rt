@@ -1,0 +1,226 @@
+// Sending, the moves of mail, and deleting.
+use model::ControlPage;
+use model::Name;
+use model::wide;
+use pages::give_back;
+use processors::leave_wait;
+use processors::name;
+use processors::running;
+use processors::wake;
+use queues::find_message;
+use queues::join;
+use queues::leave;
+use queues::matches;
+use queues::page_of;
+use words::at;
+use words::copy;
+use words::wrapped;
+use words::write;
+ghost use mathlib.Core.Path.{_≡_};
+ghost use Prim.Native.Nat.{_<_, _≤_, _+_, _*_, _/_, _%_};
+ghost use lib.ListN.{length};
+ghost use Rattle.model.specs.Mail.Tested.{tested};
+ghost use Rattle.model.specs.Bytes as Model;
+
+// The first match in Q1, in Q2, of the running processor; page 0: none.
+pub fn in_q1(m: &[u8], n: Name, f: u8) -> ControlPage
+    requires { ⌜ length (now m) ≡ 8192 ⌝ }
+    ensures { λ r. ⌜ r .0 ≡ Model.inQ1 (now (m .entry)) (n .0) f ⌝ }
+{
+    let p = running(m);
+    find_message(m, n, f, p.place(5), 20)
+}
+
+pub fn in_q2(m: &[u8], n: Name, f: u8) -> ControlPage
+    requires { ⌜ length (now m) ≡ 8192 ⌝ }
+    ensures { λ r. ⌜ r .0 ≡ Model.inQ2 (now (m .entry)) (n .0) f ⌝ }
+{
+    let p = running(m);
+    find_message(m, n, f, p.place(6), 20)
+}
+
+// Whether the processor of page p waits for message q.
+pub fn awaits(m: &[u8], p: ControlPage, q: ControlPage) -> bool
+    requires { ⌜ length (now m) ≡ 8192 ⌝ }
+    ensures { λ r. ⌜ r ≡ Model.awaits (now (m .entry)) (p .0) (q .0) ⌝ }
+{
+    let own = p.word(m, 4);
+    if own == 0 {
+        return false;
+    }
+    let w = p.word(m, 2);
+    matches(m, Name(w / 16), w % 16, q)
+}
+
+// The processor of page p wakes if it waits for message q.
+fn heard(m: &mut [u8], p: ControlPage, q: ControlPage)
+    requires { ⌜ length (now m) ≡ 8192 ⌝ }
+    ensures { λ _. ⌜ now (m .exit) ≡ Model.heard (now (m .entry)) (p .0) (q .0) ⌝ }
+{
+    if awaits(m, p, q) {
+        wake(m, p.place(3), p);
+    }
+}
+
+// Message q joins Q1 of the processor of page p, which wakes if it waits for it.
+pub fn deliver(m: &mut [u8], p: ControlPage, q: ControlPage)
+    requires { ⌜ length (now m) ≡ 8192 ⌝ }
+    ensures { λ _. ⌜ now (m .exit) ≡ Model.deliver (now (m .entry)) (p .0) (q .0) ⌝ }
+{
+    join(m, p.place(5), 0, q);
+    heard(m, p, q);
+}
+
+// Page q becomes the running processor's message with flag f and the text of l words from a on.
+pub fn write_message(m: &mut [u8], q: ControlPage, f: u8, a: u16, l: u8)
+    requires { ⌜ (length (now m) ≡ 8192) × (f < 16) × (a < 8192) ⌝ }
+    ensures { λ _. ⌜ now (m .exit) ≡ Model.writeMessage (now (m .entry)) (q .0) f a l ⌝ }
+{
+    let p = running(m);
+    let n = name(m, p);
+    q.store(m, 1, n * 16 + f);
+    q.store(m, 2, l);
+    copy(m, a, q.place(3), l);
+}
+
+// Page q becomes a notice with sender n and flag f.
+pub fn make_notice(m: &mut [u8], q: ControlPage, n: Name, f: u8)
+    requires { ⌜ (length (now m) ≡ 8192) × (n .0 < 16) × (f < 16) ⌝ }
+    ensures { λ _. ⌜ now (m .exit) ≡ Model.makeNotice (now (m .entry)) (q .0) (n .0) f ⌝ }
+{
+    let a = n.0;
+    q.store(m, 1, a * 16 + f);
+    q.store(m, 2, 128);
+}
+
+// Message q goes from Q1 of the processor of page p to the end of its Q2.
+pub fn move_message(m: &mut [u8], p: ControlPage, q: ControlPage)
+    requires { ⌜ length (now m) ≡ 8192 ⌝ }
+    ensures { λ _. ⌜ now (m .exit) ≡ Model.move (now (m .entry)) (p .0) (q .0) ⌝ }
+{
+    leave(m, p.place(5), 0, q);
+    join(m, p.place(6), 0, q);
+}
+
+// The messages of Q1 are tested in order, and go to Q2, the first match too; whether there is one.
+pub fn test_q1(m: &mut [u8], p: ControlPage, n: Name, f: u8, left: u8) -> bool
+    requires { ⌜ length (now m) ≡ 8192 ⌝ }
+    ensures { λ r. ⌜ tested r (now (m .exit)) ≡ Model.testQ1 left (now (m .entry)) (p .0) (n .0) f ⌝ }
+{
+    if left == 0 {
+        return false;
+    }
+    let q = p.word(m, 5);
+    if q == 0 {
+        return false;
+    }
+    if matches(m, n, f, ControlPage(q)) {
+        move_message(m, p, ControlPage(q));
+        return true;
+    }
+    move_message(m, p, ControlPage(q));
+    test_q1(m, p, n, f, left - 1)
+}
+
+// Sender, flag, length and text of message q go to a on.
+pub fn copy_out(m: &mut [u8], q: ControlPage, a: u16)
+    requires { ⌜ (length (now m) ≡ 8192) × (a < 8192) ⌝ }
+    ensures { λ _. ⌜ now (m .exit) ≡ Model.copyOut (now (m .entry)) (q .0) a ⌝ }
+{
+    let w = q.word(m, 1);
+    let l = q.word(m, 2);
+    write(m, a, w / 16);
+    write(m, wrapped(a, 1), w % 16);
+    write(m, wrapped(a, 2), l % 128);
+    copy(m, q.place(3), wrapped(a, 3), l % 128);
+}
+
+// The processor of page p leaves any wait queue, not woken, and the processor list.
+fn unlist(m: &mut [u8], p: ControlPage)
+    requires { ⌜ length (now m) ≡ 8192 ⌝ }
+    ensures { λ _. ⌜ now (m .exit) ≡ Model.unlisted (now (m .entry)) (p .0) ⌝ }
+{
+    leave_wait(m, p);
+    leave(m, 247, 1, p);
+}
+
+// Message q becomes a notice from n to the processor of page p, its sender.
+fn notify(m: &mut [u8], n: Name, q: ControlPage, p: ControlPage)
+    requires { ⌜ (length (now m) ≡ 8192) × (n .0 < 16) ⌝ }
+    ensures { λ _. ⌜ now (m .exit) ≡ Model.noticed (now (m .entry)) (n .0) (q .0) (p .0) ⌝ }
+{
+    let w = q.word(m, 1);
+    make_notice(m, q, n, w % 16);
+    deliver(m, p, q);
+}
+
+// Message q of the deleted processor named n: a notice to its sender if there is one, else given back.
+fn return_message(m: &mut [u8], n: Name, q: ControlPage)
+    requires { ⌜ (length (now m) ≡ 8192) × (n .0 < 16) ⌝ }
+    ensures { λ _. ⌜ now (m .exit) ≡ Model.returned (now (m .entry)) (n .0) (q .0) ⌝ }
+{
+    let l = q.word(m, 2);
+    if l == 128 {
+        give_back(m, q);
+        return;
+    }
+    let w = q.word(m, 1);
+    let p = page_of(m, Name(w / 16));
+    if p.0 == 0 {
+        give_back(m, q);
+        return;
+    }
+    notify(m, n, q, p);
+}
+
+// Every message of the queue with header h, from the front.
+fn empty(m: &mut [u8], n: Name, h: u16, left: u8)
+    requires { ⌜ (length (now m) ≡ 8192) × (n .0 < 16) × (h < 8192) ⌝ }
+    ensures { λ _. ⌜ now (m .exit) ≡ Model.emptied left (now (m .entry)) (n .0) h ⌝ }
+{
+    if left == 0 {
+        return;
+    }
+    let q = at(m, h);
+    if q == 0 {
+        return;
+    }
+    leave(m, h, 0, ControlPage(q));
+    return_message(m, n, ControlPage(q));
+    empty(m, n, h, left - 1);
+}
+
+// Q2 then Q1 of the processor of page p, named n.
+fn return_mail(m: &mut [u8], n: Name, p: ControlPage)
+    requires { ⌜ (length (now m) ≡ 8192) × (n .0 < 16) ⌝ }
+    ensures { λ _. ⌜ now (m .exit) ≡ Model.mailReturned (now (m .entry)) (n .0) (p .0) ⌝ }
+{
+    empty(m, n, p.place(6), 20);
+    empty(m, n, p.place(5), 20);
+}
+
+// The grant of the processor named n is given back.
+fn return_grant(m: &mut [u8], n: Name)
+    requires { ⌜ (length (now m) ≡ 8192) × (n .0 < 16) ⌝ }
+    ensures { λ _. ⌜ now (m .exit) ≡ Model.grantReturned (now (m .entry)) (n .0) ⌝ }
+{
+    let g = 320 + wide(n.0);
+    let q = at(m, g);
+    if q == 0 {
+        return;
+    }
+    write(m, g, 0);
+    give_back(m, ControlPage(q));
+}
+
+// The processor of page p is deleted.
+pub fn delete(m: &mut [u8], p: ControlPage)
+    requires { ⌜ length (now m) ≡ 8192 ⌝ }
+    ensures { λ _. ⌜ now (m .exit) ≡ Model.delete (now (m .entry)) (p .0) ⌝ }
+{
+    let n = name(m, p);
+    unlist(m, p);
+    return_mail(m, Name(n), p);
+    return_grant(m, Name(n));
+    give_back(m, p);
+}

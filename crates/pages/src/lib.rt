@@ -1,0 +1,86 @@
+// Pages: a page taken, "SME and CRP use the page granted to them, else the first free one", and given back.
+use model::ControlPage;
+use model::wide;
+use processors::name;
+use processors::wake;
+use queues::join;
+use queues::leave;
+use words::at;
+use words::lowered;
+use words::raised;
+use words::write;
+ghost use mathlib.Core.Path.{_≡_};
+ghost use Prim.Native.Nat.{_<_, _≤_, _+_, _*_, _/_, _%_};
+ghost use lib.ListN.{length};
+ghost use Rattle.model.specs.Page.Taken.{took};
+ghost use Rattle.model.specs.Bytes as Model;
+
+// Page q leaves the free list.
+fn take_free(m: &mut [u8], q: ControlPage)
+    requires { ⌜ length (now m) ≡ 8192 ⌝ }
+    ensures { λ _. ⌜ now (m .exit) ≡ Model.takeFree (now (m .entry)) (q .0) ⌝ }
+{
+    let v = at(m, 245);
+    write(m, 245, lowered(v));
+    leave(m, 244, 0, q);
+}
+
+// The first free page is taken; page 0: there is none.
+pub fn first_free(m: &mut [u8]) -> ControlPage
+    requires { ⌜ length (now m) ≡ 8192 ⌝ }
+    ensures { λ r. ⌜ took (r .0) (now (m .exit)) ≡ Model.firstFree (now (m .entry)) ⌝ }
+{
+    let q = at(m, 244);
+    if q == 0 {
+        return ControlPage(0);
+    }
+    take_free(m, ControlPage(q));
+    ControlPage(q)
+}
+
+// The page that the processor of page p may use is taken: its grant, else the first free one; page 0: there is none.
+pub fn take_page(m: &mut [u8], p: ControlPage) -> ControlPage
+    requires { ⌜ length (now m) ≡ 8192 ⌝ }
+    ensures { λ r. ⌜ took (r .0) (now (m .exit)) ≡ Model.takePage (now (m .entry)) (p .0) ⌝ }
+{
+    let g = 320 + wide(name(m, p));
+    let q = at(m, g);
+    if q == 0 {
+        return first_free(m);
+    }
+    write(m, g, 0);
+    ControlPage(q)
+}
+
+// Page q goes to the end of the free list.
+fn free_page(m: &mut [u8], q: ControlPage)
+    requires { ⌜ length (now m) ≡ 8192 ⌝ }
+    ensures { λ _. ⌜ now (m .exit) ≡ Model.freePage (now (m .entry)) (q .0) ⌝ }
+{
+    let v = at(m, 245);
+    write(m, 245, raised(v));
+    join(m, 244, 0, q);
+}
+
+// Page q becomes the grant of the waiter of page p, which wakes.
+fn grant_page(m: &mut [u8], p: ControlPage, q: ControlPage)
+    requires { ⌜ length (now m) ≡ 8192 ⌝ }
+    ensures { λ _. ⌜ now (m .exit) ≡ Model.grantPage (now (m .entry)) (p .0) (q .0) ⌝ }
+{
+    let g = 320 + wide(name(m, p));
+    write(m, g, q.0);
+    wake(m, 245, p);
+}
+
+// Page q is given back: to the first waiter as its grant, else to the end of the free list.
+pub fn give_back(m: &mut [u8], q: ControlPage)
+    requires { ⌜ length (now m) ≡ 8192 ⌝ }
+    ensures { λ _. ⌜ now (m .exit) ≡ Model.giveBack (now (m .entry)) (q .0) ⌝ }
+{
+    let p = at(m, 246);
+    if p == 0 {
+        free_page(m, q);
+        return;
+    }
+    grant_page(m, ControlPage(p), q);
+}

@@ -1,0 +1,11 @@
+use borrow.Author.Needs.{needs}
+use Rattle.turn.proofs.Laws.{turns}
+use Rattle.turn.proofs.above.Statement.{statement}
+use Rattle.turn.proofs.above.Tie as tie
+
+pub above-spec : {M : Type 1} → statement M
+above-spec = tie.close (tie.spec
+    (λ c. search (needs, turns))
+    (λ c κs. search needs)
+    (λ c κs. search needs)
+    (λ c. search (needs, turns)))

@@ -1,0 +1,12 @@
+use borrow.Author.Needs.{needs}
+use Rattle.turn.proofs.Laws.{turns}
+use Rattle.turn.proofs.load.Statement.{statement}
+use Rattle.turn.proofs.load.Tie as tie
+
+pub load-spec : {M : Type 1} → statement M
+load-spec = tie.close (tie.spec
+    (λ c. search (needs, turns))
+    (λ c κs. search needs)
+    (λ c κs. search needs)
+    (λ c. search needs)
+    (λ c. search (needs, turns)))

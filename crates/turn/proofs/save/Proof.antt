@@ -1,0 +1,12 @@
+use borrow.Author.Needs.{needs}
+use Rattle.turn.proofs.Laws.{turns}
+use Rattle.turn.proofs.save.Statement.{statement}
+use Rattle.turn.proofs.save.Tie as tie
+
+pub save-spec : {M : Type 1} → statement M
+save-spec = tie.close (tie.spec
+    (λ c. search (needs, turns))
+    (λ c κs. search needs)
+    (λ c κs. search needs)
+    (λ c. search needs)
+    (λ c. search (needs, turns)))
