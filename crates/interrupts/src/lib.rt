@@ -1,0 +1,153 @@
+// Interrupts: each waiter served front to back, and the clock.
+use model::ControlPage;
+use model::wide;
+use processors::wake;
+use words::at;
+use words::lowered;
+use words::raised;
+use words::write;
+ghost use mathlib.Core.Path.{_≡_};
+ghost use Prim.Native.Nat.{_<_, _≤_, _+_, _*_, _/_, _%_};
+ghost use lib.ListN.{length};
+ghost use Rattle.model.specs.Bytes as Model;
+
+// The class number goes into A of page p, for interrupts 48-50.
+fn class(m: &mut [u8], k: u8, c: u8, p: ControlPage)
+    requires { ⌜ length (now m) ≡ 8192 ⌝ }
+    ensures { λ _. ⌜ now (m .exit) ≡ Model.classed (now (m .entry)) k c (p .0) ⌝ }
+{
+    if k < 48 {
+        return;
+    }
+    if 50 < k {
+        return;
+    }
+    p.store(m, 8, c);
+}
+
+// A waiter on page p: reason 1 wakes and leaves, else the reason falls by one.
+fn strike(m: &mut [u8], k: u8, c: u8, p: ControlPage)
+    requires { ⌜ (length (now m) ≡ 8192) × (k ≤ 54) ⌝ }
+    ensures { λ _. ⌜ now (m .exit) ≡ Model.struck (now (m .entry)) k c (p .0) ⌝ }
+{
+    let w = p.word(m, 2);
+    if w == 1 {
+        wake(m, 129 + 2 * wide(k), p);
+        class(m, k, c, p);
+        return;
+    }
+    p.store(m, 2, lowered(w));
+}
+
+// The waiters from page p on; the next is read before p leaves.
+fn serve_from(m: &mut [u8], k: u8, c: u8, p: ControlPage, left: u8)
+    requires { ⌜ (length (now m) ≡ 8192) × (k ≤ 54) ⌝ }
+    ensures { λ _. ⌜ now (m .exit) ≡ Model.servedFrom left (now (m .entry)) k c (p .0) ⌝ }
+{
+    if left == 0 {
+        return;
+    }
+    if p.0 == 0 {
+        return;
+    }
+    let next = p.word(m, 0);
+    strike(m, k, c, p);
+    serve_from(m, k, c, ControlPage(next), left - 1);
+}
+
+// Interrupt k is served, with class number c.
+pub fn serve(m: &mut [u8], k: u8, c: u8)
+    requires { ⌜ (length (now m) ≡ 8192) × (k ≤ 54) ⌝ }
+    ensures { λ _. ⌜ now (m .exit) ≡ Model.serve (now (m .entry)) k c ⌝ }
+{
+    let p = at(m, 130 + 2 * wide(k));
+    serve_from(m, k, c, ControlPage(p), 20);
+}
+
+// A counter counts; whether it comes to its end; there it is 0 and interrupt k is served.
+fn count(m: &mut [u8], c: u16)
+    requires { ⌜ (length (now m) ≡ 8192) × (c < 8192) ⌝ }
+    ensures { λ _. ⌜ now (m .exit) ≡ Model.counts (now (m .entry)) c ⌝ }
+{
+    let v = at(m, c);
+    write(m, c, raised(v));
+}
+
+fn ends(m: &[u8], c: u16, e: u8) -> bool
+    requires { ⌜ (length (now m) ≡ 8192) × (c < 8192) ⌝ }
+    ensures { λ r. ⌜ r ≡ Model.ends (now (m .entry)) c e ⌝ }
+{
+    let v = at(m, c);
+    raised(v) == e
+}
+
+fn turn(m: &mut [u8], c: u16, k: u8)
+    requires { ⌜ (length (now m) ≡ 8192) × (c < 8192) × (k ≤ 54) ⌝ }
+    ensures { λ _. ⌜ now (m .exit) ≡ Model.turns (now (m .entry)) c k ⌝ }
+{
+    write(m, c, 0);
+    serve(m, k, 0);
+}
+
+// The counters C3 to C0.
+fn c3_counts(m: &mut [u8])
+    requires { ⌜ length (now m) ≡ 8192 ⌝ }
+    ensures { λ _. ⌜ now (m .exit) ≡ Model.c3Counts (now (m .entry)) ⌝ }
+{
+    if ends(m, 243, 60) {
+        turn(m, 243, 54);
+        return;
+    }
+    count(m, 243);
+}
+
+fn c2_counts(m: &mut [u8])
+    requires { ⌜ length (now m) ≡ 8192 ⌝ }
+    ensures { λ _. ⌜ now (m .exit) ≡ Model.c2Counts (now (m .entry)) ⌝ }
+{
+    if ends(m, 242, 60) {
+        turn(m, 242, 53);
+        c3_counts(m);
+        return;
+    }
+    count(m, 242);
+}
+
+fn c1_counts(m: &mut [u8])
+    requires { ⌜ length (now m) ≡ 8192 ⌝ }
+    ensures { λ _. ⌜ now (m .exit) ≡ Model.c1Counts (now (m .entry)) ⌝ }
+{
+    if ends(m, 241, 10) {
+        turn(m, 241, 52);
+        c2_counts(m);
+        return;
+    }
+    count(m, 241);
+}
+
+fn c0_counts(m: &mut [u8])
+    requires { ⌜ length (now m) ≡ 8192 ⌝ }
+    ensures { λ _. ⌜ now (m .exit) ≡ Model.c0Counts (now (m .entry)) ⌝ }
+{
+    let d = at(m, 251);
+    if ends(m, 240, d) {
+        turn(m, 240, 51);
+        c1_counts(m);
+        return;
+    }
+    count(m, 240);
+}
+
+// Interrupt k from outside; on the clock line it is served, then C0 counts.
+pub fn deliver(m: &mut [u8], k: u8, c: u8)
+    requires { ⌜ (length (now m) ≡ 8192) × (k ≤ 54) ⌝ }
+    ensures { λ _. ⌜ now (m .exit) ≡ Model.delivered (now (m .entry)) k c ⌝ }
+{
+    let line = at(m, 239);
+    if k == line {
+        serve(m, k, c);
+        c0_counts(m);
+        return;
+    }
+    serve(m, k, c);
+}
