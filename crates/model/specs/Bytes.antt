@@ -179,6 +179,15 @@ direct = Instruction.direct bytes
 abbrev pub argument : Memory → ℕ → ℕ → ℕ
 argument = Instruction.argument bytes
 
+abbrev pub fourAt : Memory → ℕ → ℕ → ℕ
+fourAt = Instruction.fourAt bytes
+
+abbrev pub flagAt : Memory → ℕ → ℕ
+flagAt = Instruction.flagAt bytes
+
+abbrev pub pointedCreating : Memory → ℕ → Arguments
+pointedCreating = Instruction.pointedCreating bytes
+
 abbrev pub pointed : Memory → ℕ → ℕ → Arguments
 pointed = Instruction.pointed bytes
 

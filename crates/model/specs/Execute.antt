@@ -23,7 +23,7 @@ module _ (S : Store) where
       (cvi S m (x .field) (x .address) len
       ∷ dvi S m (x .field) len
       ∷ gin S m len
-      ∷ win S m (x .field) (x .second) len
+      ∷ win S m (x .interrupt) (x .count) len
       ∷ sme S m (x .field) (x .second) (x .address) len
       ∷ wnm S m (x .field) (x .second) len
       ∷ rme S m (x .field) (x .second) (x .address) len

@@ -7,7 +7,7 @@ use lib.Dec.{leb}
 use lib.ListN.{getD}
 use Rattle.model.specs.declared.Arguments.{Arguments}
 use Rattle.model.specs.Store.{Store}
-use Rattle.model.specs.Map.{upper, lower, top, topped, high, low, isIndexed, indexNumber, fourBits, threeBits, fiveBits, aWord, codeWord}
+use Rattle.model.specs.Map.{upper, lower, lowThree, top, topped, high, low, isIndexed, indexNumber, fourBits, threeBits, fiveBits, aWord, codeWord}
 use Rattle.model.specs.Map.{codeLow, xRegister}
 use Rattle.model.specs.Address.{at, write, addressAt, wrapped}
 
@@ -111,9 +111,12 @@ limits =
 abbrev pub limitFor : ℕ → ℕ → ℕ
 limitFor s i = getD limits (s * rowLength + i) aWord
 
--- field, second, W and address; what an instruction does not have is 0
+-- field, second, W and address; WIN's IK and count; what an instruction does not have is 0
 abbrev pub arguments : ℕ → ℕ → ℕ → ℕ → Arguments
-arguments f s w a = record { field = f; second = s; w = w; address = a }
+arguments f s w a = record { field = f; second = s; w = w; address = a; interrupt = 0; count = 0 }
+
+abbrev pub countedArguments : ℕ → ℕ → Arguments
+countedArguments k c = record { field = 0; second = 0; w = 0; address = 0; interrupt = k; count = c }
 
 module _ (S : Store) where
   -- "n+1 has the code and a four-bit field"
@@ -132,7 +135,7 @@ module _ (S : Store) where
 
   -- WIN: "n+2 is IK, n+3 the count"
   unfoldable pub directCounted : S .M → ℕ → Arguments
-  directCounted m n = arguments (at S m (wrapped n 2)) (at S m (wrapped n 3)) 0 0
+  directCounted m n = countedArguments (at S m (wrapped n 2)) (at S m (wrapped n 3))
 
   -- CRP: "n+2 is priority, W; address in n+3 (low five bits), n+4"
   unfoldable pub directCreating : S .M → ℕ → Arguments
@@ -153,20 +156,29 @@ module _ (S : Store) where
       s
       (arguments 0 0 0 0)
 
-  -- "EXI arguments, one a word, an address two": those at e, of shape s
+  -- "EXI arguments, one a word, an address two": those at e, of shape s; a word beyond its field has been refused before, and is cut to it
   abbrev pub argument : S .M → ℕ → ℕ → ℕ
   argument m e i = at S m (wrapped e i)
+
+  abbrev pub fourAt : S .M → ℕ → ℕ → ℕ
+  fourAt m e i = lower (argument m e i)
+
+  abbrev pub flagAt : S .M → ℕ → ℕ
+  flagAt m e = lowThree (argument m e 1)
+
+  unfoldable pub pointedCreating : S .M → ℕ → Arguments
+  pointedCreating m e = arguments (fourAt m e 0) (fourAt m e 1) (fourAt m e 2) (addressAt S m (wrapped e 3))
 
   unfoldable pub pointed : S .M → ℕ → ℕ → Arguments
   pointed m e s =
       getD
       (arguments 0 0 0 0
-      ∷ arguments (argument m e 0) 0 0 0
-      ∷ arguments (argument m e 0) 0 0 (addressAt S m (wrapped e 1))
-      ∷ arguments (argument m e 0) (argument m e 1) 0 0
-      ∷ arguments (argument m e 0) (argument m e 1) 0 0
-      ∷ arguments (argument m e 0) (argument m e 1) 0 (addressAt S m (wrapped e 2))
-      ∷ arguments (argument m e 0) (argument m e 1) (argument m e 2) (addressAt S m (wrapped e 3))
+      ∷ arguments (fourAt m e 0) 0 0 0
+      ∷ arguments (fourAt m e 0) 0 0 (addressAt S m (wrapped e 1))
+      ∷ countedArguments (argument m e 0) (argument m e 1)
+      ∷ arguments (fourAt m e 0) (flagAt m e) 0 0
+      ∷ arguments (fourAt m e 0) (flagAt m e) 0 (addressAt S m (wrapped e 2))
+      ∷ pointedCreating m e
       ∷ [])
       s
       (arguments 0 0 0 0)

@@ -35,6 +35,9 @@ lower w = w % 16
 abbrev pub top : ℕ → ℕ
 top w = w / 32
 
+abbrev pub lowThree : ℕ → ℕ
+lowThree w = w % 8
+
 abbrev pub topped : ℕ → ℕ → ℕ
 topped t h = t * 32 + h
 

@@ -28,13 +28,15 @@ pub struct Context {
     pub words: [u8; 19],
 }
 
-// What an instruction is given, directly or by EXI: its field (a code, NI, IK or I X XN), the number behind it (flag, count, priority,
-// CODE1, or EXI's X XN), W, and an address. What an instruction does not have is 0.
+// What an instruction is given, directly or by EXI: its field (a code, NI or I X XN), the number behind it (flag, priority, CODE1, or EXI's
+// X XN), W, and an address; WIN's IK and count. What an instruction does not have is 0.
 pub struct Arguments {
     pub field: u8,
     pub second: u8,
     pub w: u8,
     pub address: u16,
+    pub interrupt: u8,
+    pub count: u8,
 }
 
 // What a call answers. Handed out: the program's address, and that of n+1 or of the arguments. Fault: its number, and the name.
