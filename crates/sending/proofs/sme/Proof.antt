@@ -1,0 +1,20 @@
+use borrow.Author.Needs.{needs}
+use Rattle.sending.proofs.Laws.{sends}
+use Rattle.sending.proofs.sme.Statement.{statement}
+use Rattle.sending.proofs.sme.Tie as tie
+
+pub sme-spec : {M : Type 1} → statement M
+sme-spec = tie.close (tie.spec
+    (λ c κs. search needs)
+    (λ c. search needs)
+    (λ c. search (needs, sends))
+    (λ c κs. search needs)
+    (λ c. search needs)
+    (λ c. search (needs, sends))
+    (λ c κs. search needs)
+    (λ c κs. search needs)
+    (λ c. search needs)
+    (λ c. search (needs, sends))
+    (λ c κs. search needs)
+    (λ c. search needs)
+    (λ c. search (needs, sends)))
