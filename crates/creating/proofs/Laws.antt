@@ -106,6 +106,26 @@ module _ (m : Memory) (o : Step) (n b w a len : ℕ) where
     unfolding Operate.crp
     crp-exists h e = rw (ne-eqb n 0 y, ne-eqb b 0 z, ← ep, ne-eqb p 0 h) e
 
-pub ruleset creates =
-    (dep-gone, dep-runs, st2-runs, st2-starts, st2-waits, page-st1, page-stp, page-dep, named-nobody, named-absent, named-found, st2-nobody, st2-absent,
-    st2-found, created-is, crp-waits, crp-made, crp-nobody, crp-priority, crp-page, crp-exists)
+pub ruleset creates = (
+  dep-gone,
+  dep-runs,
+  st2-runs,
+  st2-starts,
+  st2-waits,
+  page-st1,
+  page-stp,
+  page-dep,
+  named-nobody,
+  named-absent,
+  named-found,
+  st2-nobody,
+  st2-absent,
+  st2-found,
+  created-is,
+  crp-waits,
+  crp-made,
+  crp-nobody,
+  crp-priority,
+  crp-page,
+  crp-exists,
+)

@@ -2,11 +2,11 @@
 use answers::done;
 use answers::fault;
 use mail::delete;
-use model::wide;
 use model::Answer;
 use model::ControlPage;
 use model::Name;
 use model::Registers;
+use model::wide;
 use pages::take_page;
 use processors::running;
 use processors::set_lr;

@@ -1,0 +1,18 @@
+use borrow.Author.Needs.{needs}
+use Rattle.codes.proofs.Laws.{codes}
+use Rattle.codes.proofs.follow.Statement.{statement}
+use Rattle.codes.proofs.follow.Tie as tie
+
+pub follow-spec : {M : Type 1} → statement M
+follow-spec = tie.close (tie.spec
+    (λ c κs. search needs)
+    (λ c. search needs)
+    (λ c. search (needs, codes))
+    (λ c κs. search needs)
+    (λ c κs. search needs)
+    (λ c κs. search needs)
+    (λ c. search needs)
+    (λ c. search (needs, codes))
+    (λ c κs. search needs)
+    (λ c. search needs)
+    (λ c. search (needs, codes)))

@@ -1,0 +1,14 @@
+use borrow.Author.Needs.{needs}
+use Rattle.codes.proofs.Laws.{codes}
+use Rattle.codes.proofs.thirteen.Statement.{statement}
+use Rattle.codes.proofs.thirteen.Tie as tie
+
+pub thirteen-spec : {M : Type 1} → statement M
+thirteen-spec = tie.close (tie.spec
+    (λ c κs. search needs)
+    (λ c. search needs)
+    (λ c. search (needs, codes))
+    (λ c κs. search needs)
+    (λ c κs. search needs)
+    (λ c. search needs)
+    (λ c. search (needs, codes)))
