@@ -1,0 +1,10 @@
+use borrow.Author.Needs.{needs}
+use Rattle.arguments.proofs.Table.{tables}
+use Rattle.arguments.proofs.count_for.Statement.{statement}
+use Rattle.arguments.proofs.count_for.Tie as tie
+
+pub count-for-spec : {M : Type 1} → statement M
+count-for-spec = tie.close (tie.spec
+    (λ c. search needs)
+    (λ c. search (needs, tables))
+    (λ c. search (needs, tables)))

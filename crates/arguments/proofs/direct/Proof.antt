@@ -1,0 +1,29 @@
+use borrow.Author.Needs.{needs}
+use Rattle.arguments.proofs.Laws.{arguing}
+use Rattle.arguments.proofs.direct.Statement.{statement}
+use Rattle.arguments.proofs.direct.Tie as tie
+
+pub direct-spec : {M : Type 1} → statement M
+direct-spec = tie.close (tie.spec
+    (λ c κs. search needs)
+    (λ c κs. search needs)
+    (λ c κs. search needs)
+    (λ c κs. search needs)
+    (λ c κs. search needs)
+    (λ c κs. search needs)
+    (λ c κs. search needs)
+    (λ c κs. search needs)
+    (λ c κs. search needs)
+    (λ c κs. search needs)
+    (λ c κs. search needs)
+    (λ c κs. search needs)
+    (λ c κs. search needs)
+    (λ c κs. search needs)
+    (λ c κs. search needs)
+    (λ c. search (needs, arguing))
+    (λ c. search (needs, arguing))
+    (λ c. search (needs, arguing))
+    (λ c. search (needs, arguing))
+    (λ c. search (needs, arguing))
+    (λ c. search (needs, arguing))
+    (λ c. search (needs, arguing)))

@@ -1,0 +1,35 @@
+use borrow.Author.Needs.{needs}
+use Rattle.arguments.proofs.Laws.{arguing}
+use Rattle.arguments.proofs.pointed.Statement.{statement}
+use Rattle.arguments.proofs.pointed.Tie as tie
+
+pub pointed-spec : {M : Type 1} → statement M
+pointed-spec = tie.close (tie.spec
+    (λ c κs. search needs)
+    (λ c κs. search needs)
+    (λ c κs. search needs)
+    (λ c κs. search needs)
+    (λ c κs. search needs)
+    (λ c κs. search needs)
+    (λ c κs. search needs)
+    (λ c κs. search needs)
+    (λ c κs. search needs)
+    (λ c κs. search needs)
+    (λ c κs. search needs)
+    (λ c κs. search needs)
+    (λ c κs. search needs)
+    (λ c κs. search needs)
+    (λ c κs. search needs)
+    (λ c κs. search needs)
+    (λ c κs. search needs)
+    (λ c κs. search needs)
+    (λ c κs. search needs)
+    (λ c κs. search needs)
+    (λ c κs. search needs)
+    (λ c. search (needs, arguing))
+    (λ c. search (needs, arguing))
+    (λ c. search (needs, arguing))
+    (λ c. search (needs, arguing))
+    (λ c. search (needs, arguing))
+    (λ c. search (needs, arguing))
+    (λ c. search (needs, arguing)))

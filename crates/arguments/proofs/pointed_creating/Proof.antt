@@ -1,0 +1,18 @@
+use borrow.Author.Needs.{needs}
+use Rattle.model.specs.Instruction as Instruction
+use Rattle.arguments.proofs.pointed_creating.Statement.{statement}
+use Rattle.arguments.proofs.pointed_creating.Tie as tie
+
+returns : tie.Need-returns
+unfolding Instruction.pointedCreating
+returns c = (cc, search needs, search needs, search needs, search needs)
+
+pub pointed-creating-spec : {M : Type 1} → statement M
+pointed-creating-spec = tie.close (tie.spec
+    (λ c κs. search needs)
+    (λ c κs. search needs)
+    (λ c κs. search needs)
+    (λ c κs. search needs)
+    (λ c κs. search needs)
+    (λ c κs. search needs)
+    returns)

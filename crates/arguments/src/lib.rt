@@ -1,0 +1,239 @@
+// Instructions: the table of lengths and argument counts, and the arguments of each code, direct and for EXI.
+use model::Arguments;
+use model::wide;
+use words::address_at;
+use words::at;
+use words::wrapped;
+ghost use mathlib.Core.Path.{_≡_};
+ghost use Prim.Native.Nat.{_<_, _≤_, _+_, _-_, _*_, _/_, _%_};
+ghost use lib.ListN.{length};
+ghost use Rattle.model.specs.Instruction as Instruction;
+ghost use Rattle.model.specs.Bytes as Model;
+
+// CVI DVI GIN WIN SME WNM RME TME ST1 STP ST2 CRP DEP 13 EXI: the length of each, how many argument words it has for EXI, and its shape.
+const LENGTHS: [u8; 15] = [4, 2, 2, 4, 4, 3, 4, 4, 2, 2, 4, 5, 2, 4, 4];
+
+const COUNTS: [u8; 15] = [3, 1, 0, 2, 4, 2, 4, 4, 1, 1, 3, 5, 1, 4, 0];
+
+const SHAPES: [u8; 15] = [2, 1, 0, 3, 5, 4, 5, 5, 1, 1, 2, 6, 1, 5, 5];
+
+// The most that each of up to five argument words may be, a row for each shape.
+const LIMITS: [u8; 35] = [
+    255,
+    255,
+    255,
+    255,
+    255,
+    15,
+    255,
+    255,
+    255,
+    255,
+    15,
+    31,
+    255,
+    255,
+    255,
+    255,
+    255,
+    255,
+    255,
+    255,
+    15,
+    7,
+    255,
+    255,
+    255,
+    15,
+    7,
+    31,
+    255,
+    255,
+    15,
+    15,
+    15,
+    31,
+    255,
+];
+
+pub fn length_for(c: u8) -> u8
+    ensures { λ r. ⌜ (r ≡ Instruction.lengthFor c) × (2 ≤ r) × (r ≤ 5) ⌝ }
+{
+    if c < 15 {
+        return LENGTHS[c as usize];
+    }
+    2
+}
+
+pub fn count_for(c: u8) -> u8
+    ensures { λ r. ⌜ (r ≡ Instruction.countFor c) × (r ≤ 5) ⌝ }
+{
+    if c < 15 {
+        return COUNTS[c as usize];
+    }
+    0
+}
+
+pub fn shape_for(c: u8) -> u8
+    ensures { λ r. ⌜ (r ≡ Instruction.shapeFor c) × (r ≤ 6) ⌝ }
+{
+    if c < 15 {
+        return SHAPES[c as usize];
+    }
+    0
+}
+
+fn limit_for(s: u8, i: u8) -> u8
+    requires { ⌜ (s ≤ 6) × (i < 5) ⌝ }
+    ensures { λ r. ⌜ r ≡ Instruction.limitFor s i ⌝ }
+{
+    let a = (s as usize) * 5 + (i as usize);
+    LIMITS[a]
+}
+
+// A field, the number behind it, W and an address; or WIN's IK and count.
+fn arguments(f: u8, s: u8, w: u8, a: u16) -> Arguments
+    requires { ⌜ (f < 16) × (s < 16) × (w < 16) × (a < 8192) ⌝ }
+    ensures { λ r. ⌜ (r ≡ Instruction.arguments f s w a) × (r .field < 16) × (r .second < 16) × (r .w < 16) × (r .address < 8192) ⌝ }
+{
+    Arguments {
+        field: f,
+        second: s,
+        w,
+        address: a,
+        interrupt: 0,
+        count: 0,
+    }
+}
+
+fn counted_arguments(k: u8, c: u8) -> Arguments
+    ensures { λ r. ⌜ (r ≡ Instruction.countedArguments k c) × (r .field < 16) × (r .second < 16) × (r .w < 16) × (r .address < 8192) ⌝ }
+{
+    Arguments {
+        field: 0,
+        second: 0,
+        w: 0,
+        address: 0,
+        interrupt: k,
+        count: c,
+    }
+}
+
+// The parts of the instruction at n: its field, the three bits and the address behind it.
+fn field_at(m: &[u8], n: u16) -> u8
+    requires { ⌜ (length (now m) ≡ 8192) × (n < 8192) ⌝ }
+    ensures { λ r. ⌜ (r ≡ Model.fieldAt (now (m .entry)) n) × (r < 16) ⌝ }
+{
+    at(m, wrapped(n, 1)) % 16
+}
+
+fn three_at(m: &[u8], n: u16) -> u8
+    requires { ⌜ (length (now m) ≡ 8192) × (n < 8192) ⌝ }
+    ensures { λ r. ⌜ (r ≡ Model.threeAt (now (m .entry)) n) × (r < 16) ⌝ }
+{
+    at(m, wrapped(n, 2)) / 32
+}
+
+fn address_of(m: &[u8], n: u16) -> u16
+    requires { ⌜ (length (now m) ≡ 8192) × (n < 8192) ⌝ }
+    ensures { λ r. ⌜ (r ≡ Model.addressOf (now (m .entry)) n) × (r < 8192) ⌝ }
+{
+    address_at(m, wrapped(n, 2))
+}
+
+fn direct_counted(m: &[u8], n: u16) -> Arguments
+    requires { ⌜ (length (now m) ≡ 8192) × (n < 8192) ⌝ }
+    ensures { λ r. ⌜ (r ≡ Model.directCounted (now (m .entry)) n) × (r .field < 16) × (r .second < 16) × (r .w < 16) × (r .address < 8192) ⌝ }
+{
+    let k = at(m, wrapped(n, 2));
+    let c = at(m, wrapped(n, 3));
+    counted_arguments(k, c)
+}
+
+fn direct_creating(m: &[u8], n: u16) -> Arguments
+    requires { ⌜ (length (now m) ≡ 8192) × (n < 8192) ⌝ }
+    ensures { λ r. ⌜ (r ≡ Model.directCreating (now (m .entry)) n) × (r .field < 16) × (r .second < 16) × (r .w < 16) × (r .address < 8192) ⌝ }
+{
+    let f = field_at(m, n);
+    let w = at(m, wrapped(n, 2));
+    let a = address_at(m, wrapped(n, 3));
+    arguments(f, w / 16, w % 16, a)
+}
+
+// The arguments of the instruction at n, of shape s.
+pub fn direct(m: &[u8], n: u16, s: u8) -> Arguments
+    requires { ⌜ (length (now m) ≡ 8192) × (n < 8192) ⌝ }
+    ensures { λ r. ⌜ (r ≡ Model.direct (now (m .entry)) n s) × (r .field < 16) × (r .second < 16) × (r .w < 16) × (r .address < 8192) ⌝ }
+{
+    match s {
+        1 => arguments(field_at(m, n), 0, 0, 0),
+        2 => arguments(field_at(m, n), 0, 0, address_of(m, n)),
+        3 => direct_counted(m, n),
+        4 => arguments(field_at(m, n), three_at(m, n), 0, 0),
+        5 => arguments(field_at(m, n), three_at(m, n), 0, address_of(m, n)),
+        6 => direct_creating(m, n),
+        _ => arguments(0, 0, 0, 0),
+    }
+}
+
+// EXI's argument words at e: four bits of word i, the flag or CODE1, and an address in words i and i + 1.
+fn four_at(m: &[u8], e: u16, i: u16) -> u8
+    requires { ⌜ (length (now m) ≡ 8192) × (e < 8192) × (i < 8192) ⌝ }
+    ensures { λ r. ⌜ (r ≡ Model.fourAt (now (m .entry)) e i) × (r < 16) ⌝ }
+{
+    at(m, wrapped(e, i)) % 16
+}
+
+fn flag_at(m: &[u8], e: u16) -> u8
+    requires { ⌜ (length (now m) ≡ 8192) × (e < 8192) ⌝ }
+    ensures { λ r. ⌜ (r ≡ Model.flagAt (now (m .entry)) e) × (r < 16) ⌝ }
+{
+    at(m, wrapped(e, 1)) % 8
+}
+
+fn pointed_creating(m: &[u8], e: u16) -> Arguments
+    requires { ⌜ (length (now m) ≡ 8192) × (e < 8192) ⌝ }
+    ensures { λ r. ⌜ (r ≡ Model.pointedCreating (now (m .entry)) e) × (r .field < 16) × (r .second < 16) × (r .w < 16) × (r .address < 8192) ⌝ }
+{
+    let f = four_at(m, e, 0);
+    let b = four_at(m, e, 1);
+    let w = four_at(m, e, 2);
+    let a = address_at(m, wrapped(e, 3));
+    arguments(f, b, w, a)
+}
+
+// EXI's arguments at e, of shape s.
+pub fn pointed(m: &[u8], e: u16, s: u8) -> Arguments
+    requires { ⌜ (length (now m) ≡ 8192) × (e < 8192) ⌝ }
+    ensures { λ r. ⌜ (r ≡ Model.pointed (now (m .entry)) e s) × (r .field < 16) × (r .second < 16) × (r .w < 16) × (r .address < 8192) ⌝ }
+{
+    match s {
+        1 => arguments(four_at(m, e, 0), 0, 0, 0),
+        2 => arguments(four_at(m, e, 0), 0, 0, address_at(m, wrapped(e, 1))),
+        3 => counted_arguments(at(m, wrapped(e, 0)), at(m, wrapped(e, 1))),
+        4 => arguments(four_at(m, e, 0), flag_at(m, e), 0, 0),
+        5 => arguments(
+            four_at(m, e, 0),
+            flag_at(m, e),
+            0,
+            address_at(m, wrapped(e, 2)),
+        ),
+        6 => pointed_creating(m, e),
+        _ => arguments(0, 0, 0, 0),
+    }
+}
+
+// Whether the first n argument words at e, of shape s, lie within their fields.
+pub fn within(m: &[u8], e: u16, s: u8, n: u8) -> bool
+    requires { ⌜ (length (now m) ≡ 8192) × (e < 8192) × (s ≤ 6) × (n ≤ 5) ⌝ }
+    ensures { λ r. ⌜ r ≡ Model.within n (now (m .entry)) e s ⌝ }
+{
+    if n == 0 {
+        return true;
+    }
+    let v = at(m, wrapped(e, wide(n - 1)));
+    if v <= limit_for(s, n - 1) {
+        return within(m, e, s, n - 1);
+    }
+    false
+}
