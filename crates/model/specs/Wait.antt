@@ -7,9 +7,9 @@ use mathlib.Core.Bool.{Bool, true, false, cond}
 use lib.Dec.{eqb}
 use Rattle.model.specs.Store.{Store}
 use Rattle.model.specs.Map.{place, raised, lowered, waitSet, waitCleared, link, reason, state, ownSemaphore, freeSemaphore, semaphoreAfter}
-use Rattle.model.specs.Map.{interrupts, controlPages}
+use Rattle.model.specs.Map.{interrupts}
 use Rattle.model.specs.Address.{word, store, at, write}
-use Rattle.model.specs.Queue.{cellOf, join, leave}
+use Rattle.model.specs.Queue.{first, queue, join, leave}
 
 module _ (S : Store) where
   -- page p joins, leaves the wait queue at s
@@ -30,9 +30,9 @@ module _ (S : Store) where
       cleared : S .M → S .M
       cleared m = store S (store S m p state (waitCleared (word S m p state))) p reason 0
 
-  -- whether the queue at s holds page p
+  -- whether the queue at s holds page p; the search ends where the queue ends, whatever page 0 holds
   unfoldable pub queued : S .M → ℕ → ℕ → Bool
-  queued m s p = eqb (at S m (cellOf S controlPages m link (s + 1) p)) p
+  queued m s p = eqb (first (eqb p) (queue S m (s + 1))) p
 
   -- where p waits: in one of the first n interrupt queues, else for a page, else for a message
   unfoldable pub seat : ℕ → S .M → ℕ → ℕ

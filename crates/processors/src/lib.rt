@@ -3,7 +3,7 @@
 use model::ControlPage;
 use model::Registers;
 use model::wide;
-use queues::cell_of;
+use queues::find_page;
 use queues::join;
 use queues::leave;
 use words::at;
@@ -127,8 +127,8 @@ pub fn queued(m: &[u8], s: u16, p: ControlPage) -> bool
     requires { ⌜ (length (now m) ≡ 8192) × (s < 8191) ⌝ }
     ensures { λ r. ⌜ r ≡ Model.queued (now (m .entry)) s (p .0) ⌝ }
 {
-    let c = cell_of(m, 0, s + 1, p.0, 20);
-    at(m, c) == p.0
+    let q = find_page(m, p, s + 1, 20);
+    q.0 == p.0
 }
 
 // Where p waits: in one of the first n interrupt queues, else for a page, else for a message.

@@ -2,11 +2,11 @@
 // link alike; a walk goes by recursion along links, with at most twenty pages left.
 use model::ControlPage;
 use model::Name;
-use model::wide;
 use words::at;
 use words::write;
 ghost use mathlib.Core.Path.{_≡_};
 ghost use Prim.Native.Nat.{_<_};
+ghost use lib.Dec.{eqb};
 ghost use lib.ListN.{length};
 ghost use Rattle.model.specs.Map as Map;
 ghost use Rattle.model.specs.Queue as Queue;
@@ -28,14 +28,14 @@ pub fn cell_of(m: &[u8], k: u16, a: u16, v: u8, left: u8) -> u16
     cell_of(m, k, ControlPage(w).place(k), v, left - 1)
 }
 
-// Page p joins the queue with header h and links in word k, at its end.
-pub fn join(m: &mut [u8], h: u16, k: u16, p: ControlPage)
+// Page q joins the queue with header h and links in word k, at its end.
+pub fn join(m: &mut [u8], h: u16, k: u16, q: ControlPage)
     requires { ⌜ (length (now m) ≡ 8192) × (h < 8192) × (k < 32) ⌝ }
-    ensures { λ _. ⌜ now (m .exit) ≡ Model.join (now (m .entry)) h k (p .0) ⌝ }
+    ensures { λ _. ⌜ now (m .exit) ≡ Model.join (now (m .entry)) h k (q .0) ⌝ }
 {
-    p.store(m, k, 0);
+    q.store(m, k, 0);
     let c = cell_of(m, k, h, 0, 20);
-    write(m, c, p.0);
+    write(m, c, q.0);
 }
 
 // Page p leaves the queue with header h and links in word k.
@@ -47,6 +47,31 @@ pub fn leave(m: &mut [u8], h: u16, k: u16, p: ControlPage)
     let c = cell_of(m, k, h, p.0, 20);
     write(m, c, next);
     p.store(m, k, 0);
+}
+
+// Whether p and w are one page.
+fn is_page(p: ControlPage, w: ControlPage) -> bool
+    ensures { λ r. ⌜ r ≡ eqb (p .0) (w .0) ⌝ }
+{
+    p.0 == w.0
+}
+
+// Page p, if it hangs from the cell at a; else page 0.
+pub fn find_page(m: &[u8], p: ControlPage, a: u16, left: u8) -> ControlPage
+    requires { ⌜ (length (now m) ≡ 8192) × (a < 8192) ⌝ }
+    ensures { λ r. ⌜ r .0 ≡ Queue.first (eqb (p .0)) (Model.walk left (now (m .entry)) Map.link a) ⌝ }
+{
+    if left == 0 {
+        return ControlPage(0);
+    }
+    let w = at(m, a);
+    if w == 0 {
+        return ControlPage(0);
+    }
+    if is_page(p, ControlPage(w)) {
+        return ControlPage(w);
+    }
+    find_page(m, p, ControlPage(w).place(0), left - 1)
 }
 
 // Whether the processor of page p is named n.

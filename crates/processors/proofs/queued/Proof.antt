@@ -11,5 +11,4 @@ pub queued-spec : {M : Type 1} → statement M
 queued-spec = tie.close (tie.spec
     (λ c. search needs)
     (λ c κs. search needs)
-    (λ c κs. search needs)
     returns)

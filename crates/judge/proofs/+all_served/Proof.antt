@@ -1,0 +1,27 @@
+use borrow.Author.Needs.{needs}
+use Rattle.judge.proofs.Laws.{judges}
+use Prim.Native.Nat.{ℕ, _<_, _+_}
+use borrow.Fn.PlainCycle.{Measures, is, falls, and}
+use Rattle.judge.proofs.all_served.Reads as own
+use Rattle.judge.proofs.all_served.Kinds as kinds
+use Rattle.judge.proofs.+all_served.Lts-all_served as lts
+use Rattle.judge.proofs.served.Reads as served-reads
+use Rattle.judge.proofs.+all_served.{statement}
+use Rattle.judge.proofs.+all_served.Tie.{close}
+
+-- what is left falls
+abbrev μ : Measures 1 kinds.ps ℕ
+μ κs a = a .1 .0
+
+pub +all-served-spec : {M : Type 1} → statement M
++all-served-spec = close μ λ t. lts.spec
+    (served-reads.Asked, served-reads.Learnt, and 1 kinds.ps (falls 1 kinds.ps _<_ μ t) own.Pre, own.Post)
+    (and 1 kinds.ps (is 1 kinds.ps μ t) own.Pre)
+    own.Post
+    (λ c. search (needs, judges))
+    (λ c. search needs)
+    (λ c κs. search needs)
+    (λ c. search needs)
+    (λ c κs. search needs)
+    (λ c. search (needs, judges))
+    (λ c. search (needs, judges))

@@ -1,0 +1,5 @@
+pub mod Folds
+pub mod Sentences
+pub mod Counting
+pub mod Heads
+pub mod Laws

@@ -1,0 +1,13 @@
+use borrow.Author.Needs.{needs}
+use Rattle.judge.specs.Rules as Rules
+use Rattle.judge.proofs.Laws.{judges}
+use Rattle.judge.proofs.deep.mail_lists.Statement.{statement}
+use Rattle.judge.proofs.deep.mail_lists.Tie as tie
+
+pub mail-lists-spec : {M : Type 1} → statement M
+unfolding Rules.mailLists
+mail-lists-spec = tie.close (tie.spec
+    (λ c κs. search needs)
+    (λ c κs. search needs)
+    (λ c. search (needs, judges))
+    (λ c. search (needs, judges)))

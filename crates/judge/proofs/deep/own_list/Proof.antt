@@ -1,0 +1,11 @@
+use borrow.Author.Needs.{needs}
+use Rattle.judge.specs.Rules as Rules
+use Rattle.judge.proofs.Laws.{judges}
+use Rattle.judge.proofs.deep.own_list.Statement.{statement}
+use Rattle.judge.proofs.deep.own_list.Tie as tie
+
+pub own-list-spec : {M : Type 1} → statement M
+unfolding Rules.ownList
+own-list-spec = tie.close (tie.spec
+    (λ c κs. search needs)
+    (λ c. search (needs, judges)))

@@ -1,0 +1,12 @@
+use borrow.Author.Needs.{needs}
+use Rattle.judge.proofs.Laws.{judges}
+use Rattle.judge.proofs.deep.owner.Statement.{statement}
+use Rattle.judge.proofs.deep.owner.Tie as tie
+
+pub owner-spec : {M : Type 1} → statement M
+owner-spec = tie.close (tie.spec
+    (λ c κs. search needs)
+    (λ c κs. search needs)
+    (λ c. search (needs, judges))
+    (λ c. search (needs, judges))
+    (λ c. search (needs, judges)))

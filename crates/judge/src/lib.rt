@@ -1,0 +1,258 @@
+// Fresh start and well-formed memory: the judge, a function for each rule, in document 01's order, equal to the rules on every memory of
+// 8,192 words.
+mod counts;
+mod deep;
+mod marks;
+mod tables;
+mod tests;
+
+use counts::left_of;
+use counts::length_of;
+use counts::less;
+use counts::link_of;
+use counts::listings;
+use deep::Deep;
+use deep::all_deep;
+use deep::listed;
+use marks::used_once;
+use marks::waiting_bits;
+use model::ControlPage;
+use model::wide;
+use tables::is_at;
+use tables::tables;
+use tests::Test;
+use tests::all_of;
+use tests::every;
+use words::at;
+ghost use mathlib.Core.Path.{_≡_};
+ghost use Prim.Native.Nat.{_<_, _+_, _*_};
+ghost use lib.ListN.{length};
+ghost use Rattle.model.specs.Map as Map;
+ghost use Rattle.model.specs.Store.{bytes};
+ghost use Rattle.model.specs.Rule.{holds, each, below};
+ghost use Rattle.model.specs.Judge as Judge;
+ghost use Rattle.model.specs.Bytes as Model;
+ghost use Rattle.judge.specs.Rules as Rules;
+ghost use Rattle.judge.specs.Rules.{rule};
+
+fn names(m: &[u8]) -> bool
+    requires { ⌜ length (now m) ≡ 8192 ⌝ }
+    ensures { λ r. ⌜ r ≡ holds (rule (Judge.names bytes) (now (m .entry))) ⌝ }
+{
+    all_of(m, Test::Label, 247)
+}
+
+// Interrupt k + 1; the first n interrupts.
+fn served(m: &[u8], k: u8) -> bool
+    requires { ⌜ length (now m) ≡ 8192 ⌝ }
+    ensures { λ r. ⌜ r ≡ holds (rule (Judge.served bytes) (now (m .entry)) k) ⌝ }
+{
+    all_of(m, Test::Reasoned, 132 + 2 * wide(k))
+}
+
+fn all_served(m: &[u8], n: u8) -> bool
+    requires { ⌜ length (now m) ≡ 8192 ⌝ }
+    ensures { λ r. ⌜ r ≡ holds (below n (rule (Judge.served bytes) (now (m .entry)))) ⌝ }
+{
+    if n == 0 {
+        return true;
+    }
+    if served(m, n - 1) {
+        return all_served(m, n - 1);
+    }
+    false
+}
+
+fn reasons(m: &[u8]) -> bool
+    requires { ⌜ length (now m) ≡ 8192 ⌝ }
+    ensures { λ r. ⌜ r ≡ holds (rule (Judge.reasons bytes) (now (m .entry))) ⌝ }
+{
+    if all_served(m, 54) {
+        if all_of(m, Test::Reasonless, 246) {
+            return all_of(m, Test::Quiet, 247);
+        }
+        return false;
+    }
+    false
+}
+
+// Page p; the processors from the cell at a on; all.
+fn message_wait(m: &[u8], p: ControlPage) -> bool
+    requires { ⌜ length (now m) ≡ 8192 ⌝ }
+    ensures { λ r. ⌜ r ≡ holds (rule (Judge.messageWait bytes) (now (m .entry)) (p .0)) ⌝ }
+{
+    let a = p.place(4);
+    all_deep(m, Deep::Owner(p), link_of(a), a, left_of(a))
+}
+
+fn message_waits_from(m: &[u8], a: u16, left: u8) -> bool
+    requires { ⌜ (length (now m) ≡ 8192) × (a < 8192) ⌝ }
+    ensures { λ r. ⌜ r ≡ holds (each (Model.walk left (now (m .entry)) Map.listLink a) (rule (Judge.messageWait bytes) (now (m .entry)))) ⌝ }
+{
+    if left == 0 {
+        return true;
+    }
+    let w = at(m, a);
+    if w == 0 {
+        return true;
+    }
+    if message_wait(m, ControlPage(w)) {
+        return message_waits_from(m, ControlPage(w).place(1), left - 1);
+    }
+    false
+}
+
+fn message_waits(m: &[u8]) -> bool
+    requires { ⌜ length (now m) ≡ 8192 ⌝ }
+    ensures { λ r. ⌜ r ≡ holds (rule (Judge.messageWaits bytes) (now (m .entry))) ⌝ }
+{
+    message_waits_from(m, 247, 21)
+}
+
+fn page_semaphore(m: &[u8]) -> bool
+    requires { ⌜ length (now m) ≡ 8192 ⌝ }
+    ensures { λ r. ⌜ r ≡ holds (rule (Judge.pageSemaphore bytes) (now (m .entry))) ⌝ }
+{
+    let s = at(m, 245);
+    let a = length_of(m, 244);
+    let b = length_of(m, 246);
+    s == less(a, b)
+}
+
+fn semaphores(m: &[u8]) -> bool
+    requires { ⌜ length (now m) ≡ 8192 ⌝ }
+    ensures { λ r. ⌜ r ≡ holds (rule (Judge.semaphores bytes) (now (m .entry))) ⌝ }
+{
+    if every(m, Test::InterruptSemaphore, 54) {
+        if all_of(m, Test::MessageSemaphore, 247) {
+            return page_semaphore(m);
+        }
+        return false;
+    }
+    false
+}
+
+fn page_waits(m: &[u8]) -> bool
+    requires { ⌜ length (now m) ≡ 8192 ⌝ }
+    ensures { λ r. ⌜ r ≡ holds (rule (Judge.pageWaits bytes) (now (m .entry))) ⌝ }
+{
+    all_of(m, Test::PageWait, 246)
+}
+
+fn granted(m: &[u8]) -> bool
+    requires { ⌜ length (now m) ≡ 8192 ⌝ }
+    ensures { λ r. ⌜ r ≡ holds (rule (Judge.granted bytes) (now (m .entry))) ⌝ }
+{
+    every(m, Test::Grant, 32)
+}
+
+fn messages(m: &[u8]) -> bool
+    requires { ⌜ length (now m) ≡ 8192 ⌝ }
+    ensures { λ r. ⌜ r ≡ holds (rule (Judge.messages bytes) (now (m .entry))) ⌝ }
+{
+    all_deep(m, Deep::Mail, 1, 247, 21)
+}
+
+// The running one, of page p.
+fn runner(m: &[u8], p: ControlPage) -> bool
+    requires { ⌜ length (now m) ≡ 8192 ⌝ }
+    ensures { λ r. ⌜ r ≡ holds (rule (Judge.runner bytes) (now (m .entry)) (p .0)) ⌝ }
+{
+    let n = listings(m, p.0, 247, 21);
+    let l = at(m, 249);
+    let w = p.word(m, 7);
+    let s = p.word(m, 12);
+    if n == 1 {
+        if l == w {
+            return s < 64;
+        }
+        return false;
+    }
+    false
+}
+
+fn running(m: &[u8]) -> bool
+    requires { ⌜ length (now m) ≡ 8192 ⌝ }
+    ensures { λ r. ⌜ r ≡ holds (rule (Judge.running bytes) (now (m .entry))) ⌝ }
+{
+    let p = at(m, 248);
+    if p == 0 {
+        if is_at(m, 249, 0) {
+            return all_of(m, Test::NotHigher, 247);
+        }
+        return false;
+    }
+    if runner(m, ControlPage(p)) {
+        return all_of(m, Test::NotHigher, 247);
+    }
+    false
+}
+
+// "Well-formed", from messages on; from page waits on; from reasons on; from names on; all.
+fn mailed(m: &[u8]) -> bool
+    requires { ⌜ length (now m) ≡ 8192 ⌝ }
+    ensures { λ r. ⌜ r ≡ holds (Rules.mailed (now (m .entry))) ⌝ }
+{
+    if messages(m) {
+        if running(m) {
+            return tables(m);
+        }
+        return false;
+    }
+    false
+}
+
+fn paged(m: &[u8]) -> bool
+    requires { ⌜ length (now m) ≡ 8192 ⌝ }
+    ensures { λ r. ⌜ r ≡ holds (Rules.paged (now (m .entry))) ⌝ }
+{
+    if page_waits(m) {
+        if granted(m) {
+            return mailed(m);
+        }
+        return false;
+    }
+    false
+}
+
+fn waited(m: &[u8]) -> bool
+    requires { ⌜ length (now m) ≡ 8192 ⌝ }
+    ensures { λ r. ⌜ r ≡ holds (Rules.waited (now (m .entry))) ⌝ }
+{
+    if reasons(m) {
+        if message_waits(m) {
+            if semaphores(m) {
+                return paged(m);
+            }
+            return false;
+        }
+        return false;
+    }
+    false
+}
+
+fn named(m: &[u8]) -> bool
+    requires { ⌜ length (now m) ≡ 8192 ⌝ }
+    ensures { λ r. ⌜ r ≡ holds (Rules.named (now (m .entry))) ⌝ }
+{
+    if names(m) {
+        if waiting_bits(m) {
+            return waited(m);
+        }
+        return false;
+    }
+    false
+}
+
+pub fn judged(m: &[u8]) -> bool
+    requires { ⌜ length (now m) ≡ 8192 ⌝ }
+    ensures { λ r. ⌜ r ≡ Model.judged (now (m .entry)) ⌝ }
+{
+    if listed(m) {
+        if used_once(m) {
+            return named(m);
+        }
+        return false;
+    }
+    false
+}

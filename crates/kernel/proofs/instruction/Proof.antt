@@ -1,0 +1,18 @@
+use borrow.Author.Needs.{needs}
+use Rattle.kernel.proofs.Laws.{calls}
+use Rattle.kernel.proofs.instruction.Statement.{statement}
+use Rattle.kernel.proofs.instruction.Tie as tie
+
+pub instruction-spec : {M : Type 1} → statement M
+instruction-spec = tie.close (tie.spec
+    (λ c. search (needs, calls))
+    (λ c κs. search needs)
+    (λ c κs. search needs)
+    (λ c. search needs)
+    (λ c. search (needs, calls))
+    (λ c κs. search needs)
+    (λ c κs. search needs)
+    (λ c. search needs)
+    (λ c. search (needs, calls))
+    (λ c. search needs)
+    (λ c. search (needs, calls)))

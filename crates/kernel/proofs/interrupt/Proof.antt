@@ -1,0 +1,14 @@
+use borrow.Author.Needs.{needs}
+use Rattle.kernel.proofs.Laws.{calls}
+use Rattle.kernel.proofs.interrupt.Statement.{statement}
+use Rattle.kernel.proofs.interrupt.Tie as tie
+
+pub interrupt-spec : {M : Type 1} → statement M
+interrupt-spec = tie.close (tie.spec
+    (λ c. search (needs, calls))
+    (λ c κs. search needs)
+    (λ c κs. search needs)
+    (λ c. search needs)
+    (λ c. search (needs, calls))
+    (λ c. search needs)
+    (λ c. search (needs, calls)))

@@ -1,0 +1,14 @@
+use borrow.Author.Needs.{needs}
+use Rattle.kernel.proofs.Laws.{calls}
+use Rattle.kernel.proofs.set_registers.Statement.{statement}
+use Rattle.kernel.proofs.set_registers.Tie as tie
+
+pub set-registers-spec : {M : Type 1} → statement M
+set-registers-spec = tie.close (tie.spec
+    (λ c. search (needs, calls))
+    (λ c κs. search needs)
+    (λ c κs. search needs)
+    (λ c. search needs)
+    (λ c. search (needs, calls))
+    (λ c. search needs)
+    (λ c. search (needs, calls)))

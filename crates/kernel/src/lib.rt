@@ -1,0 +1,163 @@
+// The public calls. Any memory, of any length, and any numbers get an answer; each contract gives answer and whole memory for every input.
+use execute::fetched;
+use fresh::start;
+use fresh::startable;
+use interrupts::deliver;
+use judge::judged;
+use model::Answer;
+use model::Held;
+use model::Registers;
+use model::Verdict;
+use processors::lr;
+use processors::running;
+use turn::who_runs;
+use words::low;
+ghost use mathlib.Core.Path.{_≡_};
+ghost use Prim.Native.Nat.{_<_, _%_};
+ghost use lib.ListN.{length};
+ghost use Rattle.model.specs.Call as Call;
+ghost use Rattle.model.specs.Answer.Outcome.{gives};
+ghost use Rattle.model.specs.Bytes as Model;
+
+// The fresh start, on any memory of 8,192 words.
+pub fn fresh(m: &mut [u8], line: u16, divider: u16) -> Answer
+    ensures { λ r. ⌜ gives r (now (m .exit)) ≡ Model.fresh (now (m .entry)) line divider ⌝ }
+{
+    if m.len() != 8192 {
+        return Answer::Refused(20);
+    }
+    if startable(line, divider) {
+        start(m, low(line), low(divider));
+        return Answer::Done;
+    }
+    Answer::Refused(26)
+}
+
+// One virtual instruction by the running processor.
+pub fn instruction(m: &mut [u8]) -> Answer
+    ensures { λ r. ⌜ gives r (now (m .exit)) ≡ Model.instruction (now (m .entry)) ⌝ }
+{
+    if m.len() != 8192 {
+        return Answer::Refused(20);
+    }
+    if judged(m) {
+        let p = running(m);
+        if p.0 == 0 {
+            return Answer::Refused(22);
+        }
+        let n = lr(m);
+        return fetched(m, n);
+    }
+    Answer::Refused(21)
+}
+
+// Whether k is an interrupt from outside, and c a class number that it may have.
+fn is_outer(k: u16) -> bool
+    ensures { λ r. ⌜ r ≡ Call.isOuter k ⌝ }
+{
+    if k < 16 {
+        return false;
+    }
+    if 50 < k {
+        return false;
+    }
+    true
+}
+
+fn is_class(k: u16, c: u16) -> bool
+    ensures { λ r. ⌜ r ≡ Call.isClass k c ⌝ }
+{
+    if 31 < c {
+        return false;
+    }
+    if k < 48 {
+        return c == 0;
+    }
+    true
+}
+
+fn interrupt_judged(m: &mut [u8], k: u16, c: u16) -> Answer
+    requires { ⌜ length (now m) ≡ 8192 ⌝ }
+    ensures { λ r. ⌜ gives r (now (m .exit)) ≡ Model.interruptJudged (now (m .entry)) k c ⌝ }
+{
+    if is_outer(k) {
+        if is_class(k, c) {
+            deliver(m, low(k % 55), low(c));
+            who_runs(m);
+            return Answer::Done;
+        }
+        return Answer::Refused(25);
+    }
+    Answer::Refused(24)
+}
+
+// Delivery of interrupt k with class number c.
+pub fn interrupt(m: &mut [u8], k: u16, c: u16) -> Answer
+    ensures { λ r. ⌜ gives r (now (m .exit)) ≡ Model.interrupt (now (m .entry)) k c ⌝ }
+{
+    if m.len() != 8192 {
+        return Answer::Refused(20);
+    }
+    if judged(m) {
+        return interrupt_judged(m, k, c);
+    }
+    Answer::Refused(21)
+}
+
+// The running processor's registers.
+pub fn read_registers(m: &[u8]) -> Held
+    ensures { λ r. ⌜ gives r (now (m .entry)) ≡ Model.readRegisters (now (m .entry)) ⌝ }
+{
+    if m.len() != 8192 {
+        return Held::Refused(20);
+    }
+    if judged(m) {
+        let p = running(m);
+        if p.0 == 0 {
+            return Held::Refused(22);
+        }
+        return Held::Has(Registers::of(m, p));
+    }
+    Held::Refused(21)
+}
+
+fn set_judged(m: &mut [u8], r: Registers) -> Answer
+    requires { ⌜ length (now m) ≡ 8192 ⌝ }
+    ensures { λ o. ⌜ gives o (now (m .exit)) ≡ Model.setJudged (now (m .entry)) r ⌝ }
+{
+    let p = running(m);
+    if p.0 == 0 {
+        return Answer::Refused(22);
+    }
+    if r.in_range() {
+        r.set_on(m, p);
+        return Answer::Done;
+    }
+    Answer::Refused(26)
+}
+
+// The running processor's registers become r.
+pub fn set_registers(m: &mut [u8], r: Registers) -> Answer
+    ensures { λ o. ⌜ gives o (now (m .exit)) ≡ Model.setRegisters (now (m .entry)) r ⌝ }
+{
+    if m.len() != 8192 {
+        return Answer::Refused(20);
+    }
+    if judged(m) {
+        return set_judged(m, r);
+    }
+    Answer::Refused(21)
+}
+
+// The judge of well-formed memory.
+pub fn judge(m: &[u8]) -> Verdict
+    ensures { λ r. ⌜ gives r (now (m .entry)) ≡ Model.judge (now (m .entry)) ⌝ }
+{
+    if m.len() != 8192 {
+        return Verdict::Refused(20);
+    }
+    if judged(m) {
+        return Verdict::WellFormed;
+    }
+    Verdict::Refused(21)
+}
