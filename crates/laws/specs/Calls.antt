@@ -1,0 +1,201 @@
+-- What the kernel covers: each public call, from a well-formed memory of 8,192 words of 8 bits, leaves such a memory; so does the host, which "may change
+-- page 0 and unprotected words, nothing else". Assumes nothing.
+use mathlib.Core.Path.{_≡_, refl}
+use mathlib.Core.Bool.{Bool, true, false}
+use mathlib.Core.List.{List}
+use Prim.Native.Nat.{ℕ, _+_, _-_, _*_, _≤_, _<_}
+use native.Mathlib.Omega.{arith}
+use lib.ListN.{length, getD}
+use lib.Dec.{eqb, ltb}
+use borrow.Author.Tests.{eqb-false, eq-eqb, ltb-false, lt-ltb, le-ltb, le-leb}
+use Rattle.model.specs.declared.Registers.{Registers}
+use Rattle.model.specs.Address as Address
+use Rattle.model.specs.Address.{guarded}
+use Rattle.model.specs.Answer as Answer
+use Rattle.model.specs.Answer.{memoryOf}
+use Rattle.model.specs.Fresh as Fresh
+use Rattle.model.specs.Fresh.{startable}
+use Rattle.model.specs.Call as Call
+use Rattle.model.specs.Call.{isOuter, isClass}
+use Rattle.model.specs.Processor.{inRange}
+use Rattle.model.specs.Bytes.{fresh, instruction, interrupt, readRegisters, setRegisters, judge, judged, lr}
+use Rattle.laws.specs.Judged.{WellFormed}
+use Rattle.laws.specs.Frames.{Kept, kept-keeps}
+use Rattle.laws.specs.Start.{Args, started-well}
+use Rattle.laws.specs.Words.{Small, small-started, small-delivered, small-turn, small-registers}
+use Rattle.laws.specs.Simple.{registers-well}
+use Rattle.laws.specs.Interrupts.{delivered-well}
+use Rattle.laws.specs.Run.{fetched-fine}
+use Rattle.laws.specs.Eight.{fetched-tiny}
+
+-- a well-formed memory: 8,192 words of 8 bits that the judge accepts
+pub record Sound (m : List ℕ) : Type 0 where
+  pub size : length m ≡ 8192
+  pub small : Small m
+  pub accepted : judged m ≡ true
+
+sound : {m : List ℕ} → WellFormed m → Small m → Sound m
+sound w s = record { size = w .size; small = s; accepted = w .accepted }
+
+pub well : {m : List ℕ} → Sound m → WellFormed m
+well h = record { size = h .size; accepted = h .accepted }
+
+-- ---- fresh, on any memory of 8,192 words
+pub args-of : (line d : ℕ) → startable line d ≡ true → Args line d
+unfolding Fresh.startable
+args-of line d h = go (ltb line 16) (ltb 47 line) (eqb d 0) (ltb 255 d) refl refl refl refl
+  where
+    go : (x y z t : Bool) → ltb line 16 ≡ x → ltb 47 line ≡ y → eqb d 0 ≡ z → ltb 255 d ≡ t → Args line d
+    go true y z t e f i j = let c = rw e at h in let k : _≡_ {A = ℕ} 0 1 = cc in absurd (omega arith)
+    go false true z t e f i j = let c = rw (e, f) at h in let k : _≡_ {A = ℕ} 0 1 = cc in absurd (omega arith)
+    go false false true t e f i j = let c = rw (e, f, i) at h in let k : _≡_ {A = ℕ} 0 1 = cc in absurd (omega arith)
+    go false false false true e f i j = let c = rw (e, f, i, j) at h in let k : _≡_ {A = ℕ} 0 1 = cc in absurd (omega arith)
+    go false false false false e f i j =
+        let a = ltb-false line 16 e in
+        let b = ltb-false 47 line f in
+        let c = eqb-false d 0 i in
+        let k = ltb-false 255 d j in
+        (omega arith, omega arith, omega arith, omega arith)
+
+pub fresh-starts : {m : List ℕ} → length m ≡ 8192 → Small m → (line d : ℕ) → startable line d ≡ true → Sound (memoryOf (fresh m line d))
+unfolding Call.fresh Answer.memoryOf
+fresh-starts {m} l s line d h =
+    let a = args-of line d h in
+    rw (eq-eqb (length m) 8192 l, h) (sound (started-well m line d l a) (small-started s line d (omega (arith, a)) (omega (arith, a))))
+
+-- ---- what an interrupt from outside may be
+outer-of : (k : ℕ) → isOuter k ≡ true → (16 ≤ k) × (k ≤ 50)
+unfolding Call.isOuter
+outer-of k h = go (ltb k 16) (ltb 50 k) refl refl
+  where
+    go : (x y : Bool) → ltb k 16 ≡ x → ltb 50 k ≡ y → (16 ≤ k) × (k ≤ 50)
+    go true y e f = let c = rw e at h in let z : _≡_ {A = ℕ} 0 1 = cc in absurd (omega arith)
+    go false true e f = let c = rw (e, f) at h in let z : _≡_ {A = ℕ} 0 1 = cc in absurd (omega arith)
+    go false false e f = let a = ltb-false k 16 e in let b = ltb-false 50 k f in (omega arith, omega arith)
+
+class-of : (k c : ℕ) → isClass k c ≡ true → c ≤ 31
+unfolding Call.isClass
+class-of k c h = go (ltb 31 c) refl
+  where
+    go : (x : Bool) → ltb 31 c ≡ x → c ≤ 31
+    go true e = let d = rw e at h in let z : _≡_ {A = ℕ} 0 1 = cc in absurd (omega arith)
+    go false e = let a = ltb-false 31 c e in omega arith
+
+-- ---- the calls
+module _ {m : List ℕ} (h : Sound m) where
+  size-is : eqb (length m) 8192 ≡ true
+  size-is = eq-eqb (length m) 8192 (h .size)
+
+  pub fresh-sound : (line d : ℕ) → Sound (memoryOf (fresh m line d))
+  unfolding Call.fresh Answer.memoryOf
+  fresh-sound line d = go (startable line d) refl
+    where
+      go : (c : Bool) → startable line d ≡ c → Sound (memoryOf (fresh m line d))
+      go true e = fresh-starts (h .size) (h .small) line d e
+      go false e = rw (size-is, e) h
+
+  pub instruction-sound : Sound (memoryOf (instruction m))
+  unfolding Call.instruction Answer.memoryOf
+  instruction-sound = go (eqb (getD m 248 0) 0) refl
+    where
+      go : (c : Bool) → eqb (getD m 248 0) 0 ≡ c → Sound (memoryOf (instruction m))
+      go true e = rw (size-is, h .accepted, e) h
+      go false e =
+          let n = eqb-false (getD m 248 0) 0 e in
+          rw (size-is, h .accepted, e) (sound (fetched-fine (well h) n (h .small) (lr m)) (fetched-tiny (h .small) (lr m)))
+
+  pub interrupt-sound : (k c : ℕ) → Sound (memoryOf (interrupt m k c))
+  unfolding Call.interrupt Call.interruptJudged Answer.memoryOf
+  interrupt-sound k c = go (isOuter k) (isClass k c) refl refl
+    where
+      go : (x y : Bool) → isOuter k ≡ x → isClass k c ≡ y → Sound (memoryOf (interrupt m k c))
+      go false y e f = rw (size-is, h .accepted, e) h
+      go true false e f = rw (size-is, h .accepted, e, f) h
+      go true true e f =
+          let a = outer-of k e in
+          rw (size-is, h .accepted, e, f)
+          (sound (delivered-well k c (omega (arith, a)) (omega (arith, a)) (well h)) (small-turn (small-delivered (h .small) k c
+          (omega (arith, class-of k c f)))))
+
+  pub set-sound : (r : Registers) → Sound (memoryOf (setRegisters m r))
+  unfolding Call.setRegisters Call.setJudged Answer.memoryOf
+  set-sound r = go (eqb (getD m 248 0) 0) (inRange r) refl refl
+    where
+      go : (x y : Bool) → eqb (getD m 248 0) 0 ≡ x → inRange r ≡ y → Sound (memoryOf (setRegisters m r))
+      go true y e f = rw (size-is, h .accepted, e) h
+      go false false e f = rw (size-is, h .accepted, e, f) h
+      go false true e f =
+          rw (size-is, h .accepted, e, f) (sound (registers-well (well h) (eqb-false (getD m 248 0) 0 e) r) (small-registers (h .small) (getD m 248 0) r))
+
+  pub read-same : memoryOf (readRegisters m) ≡ m
+  unfolding Call.readRegisters Answer.memoryOf
+  read-same = go (eqb (getD m 248 0) 0) refl
+    where
+      go : (c : Bool) → eqb (getD m 248 0) 0 ≡ c → memoryOf (readRegisters m) ≡ m
+      go true e = rw (size-is, h .accepted, e)
+      go false e = rw (size-is, h .accepted, e)
+
+  pub judge-same : memoryOf (judge m) ≡ m
+  unfolding Call.judge Answer.memoryOf
+  judge-same = rw (size-is, h .accepted)
+
+-- ---- the host: page 0, and what is not protected
+pub record Host (m m′ : List ℕ) : Type 0 where
+  pub size : length m′ ≡ length m
+  pub small : Small m′
+  pub same : (a : ℕ) → 32 ≤ a → guarded a ≡ true → getD m′ a 0 ≡ getD m a 0
+
+guarded-low : (a : ℕ) → 128 ≤ a → a < 352 → guarded a ≡ true
+unfolding Address.guarded
+guarded-low a l u = rw (le-ltb a 16 (omega arith), le-ltb a 128 l, lt-ltb a 352 u)
+
+guarded-high : (a : ℕ) → 7552 ≤ a → guarded a ≡ true
+unfolding Address.guarded
+guarded-high a l = rw (le-ltb a 16 (omega arith), le-ltb a 128 (omega arith), le-ltb a 352 (omega arith), le-leb 7552 a l)
+
+host-kept : {m m′ : List ℕ} → Host m m′ → Kept m m′
+host-kept k = record {
+  size = k .size;
+  fixed = λ a l u. k .same a (omega arith) (guarded-low a l u);
+  words = λ p j h l. k .same (p * 32 + j) (omega (arith, h)) (guarded-high (p * 32 + j) (omega (arith, h)));
+  state = λ p h. k .same (p * 32 + 12) (omega (arith, h)) (guarded-high (p * 32 + 12) (omega (arith, h)));
+}
+
+pub host-sound : {m m′ : List ℕ} → Host m m′ → Sound m → Sound m′
+host-sound k h = sound (kept-keeps (host-kept k) (well h)) (k .small)
+
+-- ---- any calls, and changes by the host between them, from a fresh start on
+pub data Act : Type 0 where
+  fresh-start : ℕ → ℕ → Act
+  instruct : Act
+  signal : ℕ → ℕ → Act
+  set : Registers → Act
+  read : Act
+  judge-it : Act
+
+unfoldable pub after : Act → List ℕ → List ℕ
+after (fresh-start line d) m = memoryOf (fresh m line d)
+after instruct m = memoryOf (instruction m)
+after (signal k c) m = memoryOf (interrupt m k c)
+after (set r) m = memoryOf (setRegisters m r)
+after read m = memoryOf (readRegisters m)
+after judge-it m = memoryOf (judge m)
+
+pub data Reached : List ℕ → Type 0 where
+  start : (m : List ℕ) (line d : ℕ) → length m ≡ 8192 → Small m → startable line d ≡ true → Reached (memoryOf (fresh m line d))
+  call : (m : List ℕ) (a : Act) → Reached m → Reached (after a m)
+  host : (m m′ : List ℕ) → Host m m′ → Reached m → Reached m′
+
+after-sound : {m : List ℕ} → Sound m → (a : Act) → Sound (after a m)
+unfolding after
+after-sound h (fresh-start line d) = fresh-sound h line d
+after-sound h instruct = instruction-sound h
+after-sound h (signal k c) = interrupt-sound h k c
+after-sound h (set r) = set-sound h r
+after-sound h read = rw (read-same h) h
+after-sound h judge-it = rw (judge-same h) h
+
+pub reached-sound : (m : List ℕ) → Reached m → Sound m
+reached-sound _ (start m line d l s h) = fresh-starts l s line d h
+reached-sound _ (call m a r) = after-sound (reached-sound m r) a
+reached-sound _ (host m m′ k r) = host-sound k (reached-sound m r)

@@ -1,0 +1,221 @@
+-- What the memory holds after a page joined or left a list with links in word 0, and after a grant; and which words those steps leave. Assumes nothing.
+use mathlib.Core.Path.{_≡_, refl, sym, ap, _∙_}
+use mathlib.Core.Logic.{_≢_, _⊎_, inl, inr}
+use mathlib.Core.List.{List, [], _∷_, _++_}
+use Prim.Native.Nat.{ℕ, _+_, _-_, _*_, _≤_, _<_}
+use native.Mathlib.Omega.{arith}
+use lib.ListN.{length, getD, set, length-set, length-append}
+use lib.Seq.{getD-set-same}
+use Rattle.model.specs.Bytes.{join, leave}
+use Rattle.model.specs.Lists.{count, Lists, some, linkOf, isGrant}
+use Rattle.laws.specs.Count.{hit-self, hit-or, count-append}
+use Rattle.laws.specs.Chain.{Page, Chain, chain-move, last, last-in, join-is, leave-is, off-page}
+use Rattle.laws.specs.Queues.{upd, upd-same, upd-other, link-le, link-procs, link-other, rep-join, rep-leave}
+use Rattle.laws.specs.Heads.{Place, Seat, seat-of}
+use Rattle.laws.specs.Heads.Place.{int, three, grant, slot}
+use Rattle.laws.specs.Heads.Seat.{line, page, own}
+use Rattle.laws.specs.Uses.{Head, head-place, Sep, proc-page, list-short, good, apart, single}
+use Rattle.laws.specs.Places.{grant-is, all-pages}
+use Rattle.laws.specs.Inv.{View, Reads, Mem}
+use Rattle.laws.specs.Frames.{other}
+use Rattle.laws.specs.Stores.{col-off}
+
+-- ---- a cell is no judged word
+pub record Unread (b : ℕ) : Type 0 where
+  pub page : (p j : ℕ) → Page p → 1 ≤ j → j ≤ 3 → p * 32 + j ≢ b
+  pub high : (p j : ℕ) → Page p → 7 ≤ j → j < 32 → p * 32 + j ≢ b
+  pub clock : (a : ℕ) → 239 ≤ a → a ≤ 243 → a ≢ b
+  pub turn : (a : ℕ) → 248 ≤ a → a ≤ 251 → a ≢ b
+  pub asking : 245 ≢ b
+  pub line : (k : ℕ) → k < 54 → 131 + 2 * k ≢ b
+  pub rest : (a : ℕ) → 256 ≤ a → a < 320 → a ≢ b
+
+pub reads-unread : {m : List ℕ} {ps : List ℕ} {L : Lists} {W : View} (b v : ℕ) → Sep ps L → Unread b → Reads m ps W → Reads (set m b v) ps W
+reads-unread {m} {ps} {L} {W} b v s u r = record {
+  words = record {
+    note = λ p h n. other m b v (p * 32 + 1) (u .page p 1 h (omega arith) (omega arith)) ∙ r .words .note p h n;
+    reason = col-off m b v 2 (W .reason) (λ p h. u .page p 2 h (omega arith) (omega arith)) (r .words .reason);
+    label = col-off m b v 7 (W .label) (λ p h. u .high p 7 h (omega arith) (omega arith)) (r .words .label);
+    state = col-off m b v 12 (W .state) (λ p h. u .high p 12 h (omega arith) (omega arith)) (r .words .state);
+  };
+  fixed = record {
+    clock = λ a h i. other m b v a (u .clock a h i) ∙ r .fixed .clock a h i;
+    turn = λ a h i. other m b v a (u .turn a h i) ∙ r .fixed .turn a h i;
+    code = λ k h. other m b v (256 + 2 * k) (u .rest (256 + 2 * k) (omega arith) (omega arith)) ∙ r .fixed .code k h;
+    next = other m b v 288 (u .rest 288 (omega arith) (omega arith)) ∙ r .fixed .next;
+    entry = λ i h. other m b v (289 + i) (u .rest (289 + i) (omega arith) (omega arith)) ∙ r .fixed .entry i h;
+  };
+  sems = λ a h. other m b v a (sem a (seat-of ps a h)) ∙ r .sems a h;
+}
+  where
+    sem : (a : ℕ) → Seat ps a → a ≢ b
+    sem a (line k i e) = rw e (u .line k i)
+    sem a (page e) = rw e (u .asking)
+    sem a (own p i e) = rw e (u .page p 3 (proc-page s p i) (omega arith) (omega arith))
+
+pub unread-link : (x b : ℕ) → Page x → b ≡ x * 32 + 0 → Unread b
+unread-link x b g e = record {
+  page = λ c1 c2 c3 c4 c5. omega arith;
+  high = λ c1 c2 c3 c4 c5. omega arith;
+  clock = λ c1 c2 c3. omega arith;
+  turn = λ c1 c2 c3. omega arith;
+  asking = omega arith;
+  line = λ c1 c2. omega arith;
+  rest = λ c1 c2 c3. omega arith;
+}
+
+pub unread-place : {ps : List ℕ} {L : Lists} → Sep ps L → (b : ℕ) → Place ps b → Unread b
+unread-place s b (int n hn e) = record {
+  page = λ c1 c2 c3 c4 c5. omega arith;
+  high = λ c1 c2 c3 c4 c5. omega arith;
+  clock = λ c1 c2 c3. omega arith;
+  turn = λ c1 c2 c3. omega arith;
+  asking = omega arith;
+  line = λ c1 c2. omega arith;
+  rest = λ c1 c2 c3. omega arith;
+}
+unread-place s b (three x y z) = record {
+  page = λ c1 c2 c3 c4 c5. omega arith;
+  high = λ c1 c2 c3 c4 c5. omega arith;
+  clock = λ c1 c2 c3. omega arith;
+  turn = λ c1 c2 c3. omega arith;
+  asking = omega arith;
+  line = λ c1 c2. omega arith;
+  rest = λ c1 c2 c3. omega arith;
+}
+unread-place s b (grant x y) = record {
+  page = λ c1 c2 c3 c4 c5. omega arith;
+  high = λ c1 c2 c3 c4 c5. omega arith;
+  clock = λ c1 c2 c3. omega arith;
+  turn = λ c1 c2 c3. omega arith;
+  asking = omega arith;
+  line = λ c1 c2. omega arith;
+  rest = λ c1 c2 c3. omega arith;
+}
+unread-place s b (slot t) = let g = proc-page s (t .page) (t .proc) in record {
+  page = λ c1 c2 c3 c4 c5. omega arith;
+  high = λ c1 c2 c3 c4 c5. omega arith;
+  clock = λ c1 c2 c3. omega arith;
+  turn = λ c1 c2 c3. omega arith;
+  asking = omega arith;
+  line = λ c1 c2. omega arith;
+  rest = λ c1 c2 c3. omega arith;
+}
+
+-- ---- a list with links in word 0
+module _ {m : List ℕ} {ps : List ℕ} {L : Lists} {W : View} (s : Sep ps L) (x : Mem m ps L W) (a : ℕ) (ha : Head ps a) (na : a ≢ 247) where
+  l0 : linkOf a ≡ 0
+  l0 = link-other a na
+
+  pub chain0 : Chain m 0 a (L a)
+  chain0 = rw l0 at (x .holds .rep a ha)
+
+  -- the cell that ends the part xs of the list
+  last-unread : (xs : List ℕ) → ((z : ℕ) → 1 ≤ count z xs → 1 ≤ count z (L a)) → Unread (last 0 a xs)
+  last-unread [] f = unread-place s a (head-place ps a (ha .0))
+  last-unread (y ∷ ys) f =
+      let r = last-in 0 a y ys in
+      unread-link (r .0) (last 0 a (y ∷ ys)) (all-pages s a (r .0) (ha .0) (f (r .0) (r .1))) (r .2)
+
+  not-grant : (k : ℕ) → k < 32 → a ≢ 320 + k
+  not-grant k h e = let z : _≡_ {A = ℕ} 0 1 = cc (ha .1, grant-is k h, ap isGrant e) in omega arith
+
+  last-grant : (xs : List ℕ) → ((z : ℕ) → 1 ≤ count z xs → 1 ≤ count z (L a)) → (k : ℕ) → k < 32 → 320 + k ≢ last 0 a xs
+  last-grant [] f k h = λ e. not-grant k h (sym e)
+  last-grant (y ∷ ys) f k h =
+      let r = last-in 0 a y ys in
+      let g = all-pages s a (r .0) (ha .0) (f (r .0) (r .1)) in
+      rw (r .2) (omega arith)
+
+  -- a word that is neither the header nor a link of the list
+  last-far : (xs : List ℕ) → ((z : ℕ) → 1 ≤ count z xs → 1 ≤ count z (L a)) → (b : ℕ) → b ≢ a → ((z : ℕ) → 1 ≤ count z (L a) → b ≢ z * 32 + 0)
+      → b ≢ last 0 a xs
+  last-far [] f b n o = n
+  last-far (y ∷ ys) f b n o = let r = last-in 0 a y ys in rw (r .2) (o (r .0) (f (r .0) (r .1)))
+
+  module _ (p : ℕ) (g : Page p) (new : (b : ℕ) → Head ps b → b ≢ 247 → count p (L b) ≡ 0) where
+    join-eq : join m a 0 p ≡ set (set m (p * 32 + 0) 0) (last 0 a (L a)) p
+    join-eq =
+        join-is m 0 a p (L a) chain0 (list-short s a (ha .0)) (good s a ha .free p 0 (g .0) (omega arith))
+        (off-page p 0 0 (L a) (omega arith) (omega arith) (new a ha na))
+
+    pub join-mem : Mem (join m a 0 p) ps (upd L a (L a ++ p ∷ [])) W
+    join-mem =
+        let m1 = set m (p * 32 + 0) 0 in
+        let c : ℕ = last 0 a (L a) in
+        let np : (b : ℕ) → linkOf b ≡ linkOf a → b ≢ 247 = λ b q f. (let z = link-procs in omega (arith, ap linkOf f, l0)) in
+        rw join-eq (record {
+          size = simp length-set (x .size);
+          holds = record {
+            rep = rw l0 at (rep-join m (Head ps) L (x .size) (good s) (apart s) (single s) (x .holds .rep) a p ha g (λ b hb q. new b hb (np b q)));
+            grant = λ k h.
+                rw (
+                  upd-other L a (320 + k) (L a ++ p ∷ []) (λ f. not-grant k h (sym f)),
+                  other m1 c p (320 + k) (last-grant (L a) (λ z i. i) k h),
+                  other m (p * 32 + 0) 0 (320 + k) (omega arith),
+                ) (x .holds .grant k h);
+          };
+          reads = reads-unread c p s (last-unread (L a) (λ z i. i)) (reads-unread (p * 32 + 0) 0 s (unread-link p (p * 32 + 0) g refl) (x .reads));
+        })
+
+    pub join-frame : (b : ℕ) → b ≢ a → ((z : ℕ) → 1 ≤ count z (L a) → b ≢ z * 32 + 0) → b ≢ p * 32 + 0 → getD (join m a 0 p) b 0 ≡ getD m b 0
+    join-frame b n o d =
+        rw join-eq (other (set m (p * 32 + 0) 0) (last 0 a (L a)) p b (last-far (L a) (λ z i. i) b n o) ∙ other m (p * 32 + 0) 0 b d)
+
+  module _ (p : ℕ) (xs ys : List ℕ) (e : L a ≡ xs ++ p ∷ ys) where
+    part : (z : ℕ) → 1 ≤ count z xs → 1 ≤ count z (L a)
+    part z i = rw e (omega (arith, count-append z xs (p ∷ ys)))
+
+    pub left-in : 1 ≤ count p (L a)
+    left-in = rw e (omega (arith, count-append p xs (p ∷ ys), hit-self p))
+
+    leave-eq : leave m a 0 p ≡ set (set m (last 0 a xs) (getD m (p * 32 + 0) 0)) (p * 32 + 0) 0
+    leave-eq =
+        leave-is m 0 a p xs ys (rw e at chain0) (omega (arith, list-short s a (ha .0), ap length e, length-append xs (p ∷ ys)))
+        (omega (arith, single s a ha p, ap (count p) e, count-append p xs (p ∷ ys), hit-self p))
+
+    pub leave-mem : Mem (leave m a 0 p) ps (upd L a (xs ++ ys)) W
+    leave-mem =
+        let c : ℕ = last 0 a xs in
+        let v = getD m (p * 32 + 0) 0 in
+        let m1 = set m c v in
+        let g = all-pages s a p (ha .0) left-in in
+        rw leave-eq (record {
+          size = simp length-set (x .size);
+          holds = record {
+            rep = rw l0 at (rep-leave m (Head ps) L (x .size) (good s) (apart s) (single s) (x .holds .rep) a p xs ys ha e);
+            grant = λ k h.
+                rw (
+                  upd-other L a (320 + k) (xs ++ ys) (λ f. not-grant k h (sym f)),
+                  other m1 (p * 32 + 0) 0 (320 + k) (omega arith),
+                  other m c v (320 + k) (last-grant xs part k h),
+                ) (x .holds .grant k h);
+          };
+          reads = reads-unread (p * 32 + 0) 0 s (unread-link p (p * 32 + 0) g refl) (reads-unread c v s (last-unread xs part) (x .reads));
+        })
+
+    pub leave-frame : (b : ℕ) → b ≢ a → ((z : ℕ) → 1 ≤ count z (L a) → b ≢ z * 32 + 0) → getD (leave m a 0 p) b 0 ≡ getD m b 0
+    leave-frame b n o =
+        rw leave-eq (other (set m (last 0 a xs) (getD m (p * 32 + 0) 0)) (p * 32 + 0) 0 b (o p left-in)
+        ∙ other m (last 0 a xs) (getD m (p * 32 + 0) 0) b (last-far xs part b n o))
+
+-- ---- a word of page 10
+pub grant-mem : {m : List ℕ} {ps : List ℕ} {L : Lists} {W : View} (k q : ℕ) → k < 32 → Sep ps L → Mem m ps L W
+    → Mem (set m (320 + k) q) ps (upd L (320 + k) (some q)) W
+grant-mem {m} {ps} {L} {W} k q h s x = record {
+  size = simp length-set (x .size);
+  holds = record {
+    rep = λ a ha. let n = far a ha in
+        rw (upd-other L (320 + k) a (some q) n) (chain-move m (set m (320 + k) q) (linkOf a) a a (L a) (other m (320 + k) q a n)
+        (λ z i. let g = all-pages s a z (ha .0) i in other m (320 + k) q (z * 32 + linkOf a) (omega (arith, link-le a))) (x .holds .rep a ha));
+    grant = λ j i. go j i (hit-or j k);
+  };
+  reads = reads-unread (320 + k) q s (unread-place s (320 + k) (grant (omega arith) (omega arith))) (x .reads);
+}
+  where
+    far : (a : ℕ) → Head ps a → a ≢ 320 + k
+    far a ha e = let z : _≡_ {A = ℕ} 0 1 = cc (ha .1, grant-is k h, ap isGrant e) in omega arith
+
+    go : (j : ℕ) → j < 32 → (j ≡ k) ⊎ (j ≢ k) → upd L (320 + k) (some q) (320 + j) ≡ some (getD (set m (320 + k) q) (320 + j) 0)
+    go j i (inl e) = rw (e, upd-same, getD-set-same m (320 + k) q 0 (omega (arith, x .size)))
+    go j i (inr n) = rw (upd-other L (320 + k) (320 + j) (some q) (omega arith), other m (320 + k) q (320 + j) (omega arith)) (x .holds .grant j i)

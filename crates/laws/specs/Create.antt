@@ -1,0 +1,185 @@
+-- Instructions: CRP leaves a well-formed memory. Assumes nothing.
+use mathlib.Core.Path.{_≡_, refl, sym, ap, _∙_}
+use mathlib.Core.Logic.{_≢_}
+use mathlib.Core.Bool.{Bool, true, false}
+use mathlib.Core.List.{List, [], _∷_}
+use Prim.Native.Nat.{ℕ, _+_, _-_, _*_, _/_, _%_, _≤_, _<_}
+use native.Mathlib.Omega.{arith}
+use lib.ListN.{length, getD, set, length-set}
+use lib.Seq.{getD-set-same}
+use lib.Dec.{eqb}
+use borrow.Author.Tests.{eqb-true, eqb-false, ne-eqb}
+use Rattle.model.specs.Processor as Processor
+use Rattle.model.specs.Operate as Operate
+use Rattle.model.specs.Bytes as Model
+use Rattle.model.specs.Bytes.{lists, pageOf, isNamed, zeroed, headed, created}
+use Rattle.model.specs.Lists.{count, Lists, each-of}
+use Rattle.laws.specs.Count.{hit-self, hit-other}
+use Rattle.laws.specs.Chain.{Page}
+use Rattle.laws.specs.Uses.{proc-page}
+use Rattle.laws.specs.Inv.{View, view, bearers, Base}
+use Rattle.laws.specs.Judged.{WellFormed, invariant, each-ext}
+use Rattle.laws.specs.Frames.{other, Only, only-refl, only-set, only-zeroed}
+use Rattle.laws.specs.Views.{put1-same, put1-other, retold}
+use Rattle.laws.specs.Changes.{hand-page, hand-out}
+use Rattle.laws.specs.Hands.{hand-base, in-hand}
+use Rattle.laws.specs.Grants.{Any, any-of, Takes, take-page}
+use Rattle.laws.specs.Grants.Takes.{gets, lacks}
+use Rattle.laws.specs.Grow.{grow-base}
+use Rattle.laws.specs.Start.{zeroed-size, zeroed-in}
+use Rattle.laws.specs.Who.{running-in, listed}
+use Rattle.laws.specs.Ends.{Fine, done-fine}
+use Rattle.laws.specs.Simple.{fails}
+use Rattle.laws.specs.Mails.{first-none, waits-for-page}
+
+-- ---- a name that nobody bears
+each-none : (f : ℕ → ℕ) (n : ℕ) (ps : List ℕ) → ((y : ℕ) → 1 ≤ count y ps → f y ≢ n) → count n (each-of f ps) ≡ 0
+each-none f n [] h = refl
+each-none f n (y ∷ ps) h =
+    omega (arith, hit-other n (f y) (λ e. h y (omega (arith, hit-self y)) (sym e)), each-none f n ps (λ x i. h x (omega arith)))
+
+pub nobody : {m : List ℕ} {ps : List ℕ} {L : Lists} {W : View} {hs : List ℕ} {g : ℕ} → Base m ps L W hs g → (n : ℕ) → pageOf m n ≡ 0
+    → bearers (W .label) ps n ≡ 0
+unfolding Processor.isNamed
+nobody {m} {ps} {W = W} b n e =
+    each-none (λ p. W .label p % 16) n ps (λ y h.
+    let t = proc-page (b .facts .sep) y h in
+    let c = first-none (isNamed m n) ps (λ x i. let u = proc-page (b .facts .sep) x i in omega arith) (rw (listed b) at e) y h in
+    rw (← b .mem .reads .words .label y t) (eqb-false (getD m (y * 32 + 7) 0 % 16) n c))
+
+-- ---- the page as CRP writes it
+module _ {m : List ℕ} {ps : List ℕ} {L : Lists} {W : View} {hs : List ℕ} {g q : ℕ} (b : Base m ps L W (q ∷ hs) g) (n r w a : ℕ) where
+  pg : Page q
+  pg = hand-page b q (in-hand b)
+
+  abbrev z : List ℕ
+  z = zeroed 32 m (q * 32 + 0)
+
+  abbrev z11 : List ℕ
+  z11 = set (set (set (set (set z (q * 32 + 7) (r * 16 + n)) (q * 32 + 8) 0) (q * 32 + 9) 0) (q * 32 + 10) (0 + a / 256 % 32)) (q * 32 + 11) (a % 256)
+
+  abbrev z12 : List ℕ
+  z12 = set z11 (q * 32 + 12) (getD z11 (q * 32 + 12) 0 / 16 * 16 + w % 16)
+
+  abbrev made : List ℕ
+  made = set z12 (q * 32 + 12) (128 + getD z12 (q * 32 + 12) 0 % 128)
+
+  headed-is : headed z q n r w a ≡ made
+  unfolding Operate.headed Processor.handBack Processor.setRegistersOf Processor.setFlagsLr
+  headed-is = refl
+
+  size-z : length z ≡ 8192
+  size-z = zeroed-size 32 m (q * 32 + 0) ∙ b .mem .size
+
+  nought : (j : ℕ) → j < 32 → getD z (q * 32 + j) 0 ≡ 0
+  nought j l = zeroed-in 32 m (q * 32 + 0) (q * 32 + j) (omega (arith, pg)) (omega arith) (omega arith) (omega (arith, pg, b .mem .size))
+
+  -- a word that is not written then
+  below : (j : ℕ) → j < 7 → getD made (q * 32 + j) 0 ≡ 0
+  below j l =
+      other z12 (q * 32 + 12) (128 + getD z12 (q * 32 + 12) 0 % 128) (q * 32 + j) (omega arith)
+      ∙ other z11 (q * 32 + 12) (getD z11 (q * 32 + 12) 0 / 16 * 16 + w % 16) (q * 32 + j) (omega arith) ∙ eleven j (omega arith) (omega arith)
+    where
+      z7 : List ℕ
+      z7 = set z (q * 32 + 7) (r * 16 + n)
+
+      eleven : (j : ℕ) → j < 7 → j < 32 → getD z11 (q * 32 + j) 0 ≡ 0
+      eleven j l u =
+          other (set (set (set z7 (q * 32 + 8) 0) (q * 32 + 9) 0) (q * 32 + 10) (0 + a / 256 % 32)) (q * 32 + 11) (a % 256) (q * 32 + j) (omega arith)
+          ∙ other (set (set z7 (q * 32 + 8) 0) (q * 32 + 9) 0) (q * 32 + 10) (0 + a / 256 % 32) (q * 32 + j) (omega arith)
+          ∙ other (set z7 (q * 32 + 8) 0) (q * 32 + 9) 0 (q * 32 + j) (omega arith) ∙ other z7 (q * 32 + 8) 0 (q * 32 + j) (omega arith)
+          ∙ other z (q * 32 + 7) (r * 16 + n) (q * 32 + j) (omega arith) ∙ nought j u
+
+  -- word 12 before it is written
+  twelve : getD z11 (q * 32 + 12) 0 ≡ 0
+  twelve =
+      let z7 = set z (q * 32 + 7) (r * 16 + n) in
+      other (set (set (set z7 (q * 32 + 8) 0) (q * 32 + 9) 0) (q * 32 + 10) (0 + a / 256 % 32)) (q * 32 + 11) (a % 256) (q * 32 + 12) (omega arith)
+      ∙ other (set (set z7 (q * 32 + 8) 0) (q * 32 + 9) 0) (q * 32 + 10) (0 + a / 256 % 32) (q * 32 + 12) (omega arith)
+      ∙ other (set z7 (q * 32 + 8) 0) (q * 32 + 9) 0 (q * 32 + 12) (omega arith) ∙ other z7 (q * 32 + 8) 0 (q * 32 + 12) (omega arith)
+      ∙ other z (q * 32 + 7) (r * 16 + n) (q * 32 + 12) (omega arith) ∙ nought 12 (omega arith)
+
+  label : getD made (q * 32 + 7) 0 ≡ r * 16 + n
+  label =
+      let z7 = set z (q * 32 + 7) (r * 16 + n) in
+      other z12 (q * 32 + 12) (128 + getD z12 (q * 32 + 12) 0 % 128) (q * 32 + 7) (omega arith)
+      ∙ other z11 (q * 32 + 12) (getD z11 (q * 32 + 12) 0 / 16 * 16 + w % 16) (q * 32 + 7) (omega arith)
+      ∙ other (set (set (set z7 (q * 32 + 8) 0) (q * 32 + 9) 0) (q * 32 + 10) (0 + a / 256 % 32)) (q * 32 + 11) (a % 256) (q * 32 + 7) (omega arith)
+      ∙ other (set (set z7 (q * 32 + 8) 0) (q * 32 + 9) 0) (q * 32 + 10) (0 + a / 256 % 32) (q * 32 + 7) (omega arith)
+      ∙ other (set z7 (q * 32 + 8) 0) (q * 32 + 9) 0 (q * 32 + 7) (omega arith) ∙ other z7 (q * 32 + 8) 0 (q * 32 + 7) (omega arith)
+      ∙ getD-set-same z (q * 32 + 7) (r * 16 + n) 0 (omega (arith, pg, size-z))
+
+  size11 : length z11 ≡ 8192
+  size11 = simp length-set size-z
+
+  size12 : length z12 ≡ 8192
+  size12 = simp length-set size-z
+
+  state : getD made (q * 32 + 12) 0 ≡ 128 + w % 16
+  state =
+      let v = getD z11 (q * 32 + 12) 0 / 16 * 16 + w % 16 in
+      let s12 : getD z12 (q * 32 + 12) 0 ≡ getD z11 (q * 32 + 12) 0 / 16 * 16 + w % 16 =
+      getD-set-same z11 (q * 32 + 12) (getD z11 (q * 32 + 12) 0 / 16 * 16 + w % 16) 0 (omega (arith, pg, size11)) in
+      getD-set-same z12 (q * 32 + 12) (128 + getD z12 (q * 32 + 12) 0 % 128) 0 (omega (arith, pg, size12)) ∙ omega (arith, s12, twelve)
+
+  only : Only q m made
+  only =
+      only-set (q * 32 + 12) (128 + getD z12 (q * 32 + 12) 0 % 128) (omega arith) (omega arith)
+      (only-set (q * 32 + 12) (getD z11 (q * 32 + 12) 0 / 16 * 16 + w % 16) (omega arith) (omega arith)
+      (only-set (q * 32 + 11) (a % 256) (omega arith) (omega arith) (only-set (q * 32 + 10) (0 + a / 256 % 32) (omega arith) (omega arith)
+      (only-set (q * 32 + 9) 0 (omega arith) (omega arith) (only-set (q * 32 + 8) 0 (omega arith) (omega arith)
+      (only-set (q * 32 + 7) (r * 16 + n) (omega arith) (omega arith) (only-zeroed 32 m (omega (arith, pg)) (omega arith) (only-refl q m))))))))
+
+  pub created-base : 1 ≤ n → n ≤ 15 → 1 ≤ r → r ≤ 15 → bearers (W .label) ps n ≡ 0
+      → Any (created m q n r w a) hs g
+  unfolding Operate.created
+  created-base n1 n2 r1 r2 free =
+      let b2 = hand-base q (in-hand b) only b in
+      let X = retold made W q in
+      let lq : X .label q ≡ r * 16 + n = put1-same (W .label) q (getD made (q * 32 + 7) 0) q refl ∙ label in
+      let tq : X .state q ≡ 128 + w % 16 = put1-same (W .state) q (getD made (q * 32 + 12) 0) q refl ∙ state in
+      let off : (p : ℕ) → 1 ≤ count p ps → X .label p % 16 ≡ W .label p % 16 = λ p h.
+      ap (λ (x : ℕ). x % 16) (put1-other (W .label) q (getD made (q * 32 + 7) 0) p (λ e. omega (
+        arith,
+        ap (λ (y : ℕ). count y ps) e,
+        hand-out b q
+            (in-hand b),
+      ))) in
+      let nm : (r * 16 + n) % 16 ≡ n = omega arith in
+      let t = grow-base q b2 (record {
+        empty = λ j l u. below j (omega arith);
+        label = rw lq (record { name = omega arith; low = omega arith; high = omega arith });
+        unnamed = rw (lq, nm) (ap (count n) (each-ext (λ p. X .label p % 16) (λ p. W .label p % 16) ps off) ∙ free);
+        bit = rw tq (omega arith);
+        zeros = rw tq (omega arith);
+        reason = put1-same (W .reason) q (getD made (q * 32 + 2) 0) q refl ∙ below 2 (omega arith);
+      }) in
+      rw headed-is (any-of t)
+
+-- ---- the instruction
+module _ {m : List ℕ} (w : WellFormed m) (d : getD m 248 0 ≢ 0) where
+  b : Base m (lists m 247) (lists m) (view m) [] 32
+  b = invariant w .base
+
+  crp-page : (n r v a len : ℕ) → 1 ≤ n → n ≤ 15 → 1 ≤ r → r ≤ 15 → pageOf m n ≡ 0 → Fine (Model.crpPage m n r v a len)
+  unfolding Operate.crpPage
+  crp-page n r v a len n1 n2 r1 r2 free = go (take-page (getD m 248 0) (running-in b d) b)
+    where
+      go : Takes m (getD m 248 0) (lists m 247) (lists m) (view m) [] 32 → Fine (Model.crpPage m n r v a len)
+      go (gets q m1 e z t k) =
+          let c = created-base (t .base) n r v a n1 n2 r1 r2 (rw k (nobody b n free)) in
+          rw (e, ne-eqb q 0 z) (done-fine (c .base) len)
+      go (lacks e f2 g2) = rw e (waits-for-page w d f2 g2)
+
+  pub crp-fine : (n r v a len : ℕ) → n < 16 → r < 16 → Fine (Model.crp m n r v a len)
+  unfolding Operate.crp
+  crp-fine n r v a len hn hr = go (eqb n 0) (eqb r 0) (eqb (pageOf m n) 0) refl refl refl
+    where
+      go : (x1 x2 x3 : Bool) → eqb n 0 ≡ x1 → eqb r 0 ≡ x2 → eqb (pageOf m n) 0 ≡ x3 → Fine (Model.crp m n r v a len)
+      go true x2 x3 e1 e2 e3 = rw e1 (fails w d 12 (omega arith) (omega arith))
+      go false true x3 e1 e2 e3 = rw (e1, e2) (fails w d 12 (omega arith) (omega arith))
+      go false false false e1 e2 e3 = rw (e1, e2, e3) (fails w d 9 (omega arith) (omega arith))
+      go false false true e1 e2 e3 =
+          let n1 = eqb-false n 0 e1 in
+          let r1 = eqb-false r 0 e2 in
+          rw (e1, e2, e3) (crp-page n r v a len (omega arith) (omega arith) (omega arith) (omega arith) (eqb-true (pageOf m n) 0 e3))

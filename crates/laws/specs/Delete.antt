@@ -1,0 +1,322 @@
+-- Deleting: "Q2 then Q1 from the front: a message whose sender's name exists becomes a notice from NI to it with its flag, all others and all notices are
+-- given back; then the grant; then its own page". DEP leaves a well-formed memory; with it ST1 and STP, which share its faults. Assumes nothing.
+use mathlib.Core.Path.{_≡_, refl, sym, ap, _∙_}
+use mathlib.Core.Logic.{_≢_}
+use mathlib.Core.Bool.{Bool, true, false}
+use mathlib.Core.List.{List, [], _∷_, _++_, append-assoc}
+use Prim.Native.Nat.{ℕ, zero, suc, _+_, _-_, _*_, _/_, _%_, _≤_, _<_}
+use native.Mathlib.Omega.{arith}
+use lib.ListN.{length, getD, set}
+use lib.Dec.{eqb, leb}
+use borrow.Author.Tests.{eqb-true, eqb-false, eq-eqb, ne-eqb, leb-true}
+use Rattle.model.specs.Delete as Delete
+use Rattle.model.specs.Mail as Mail
+use Rattle.model.specs.Operate as Operate
+use Rattle.model.specs.Bytes as Model
+use Rattle.model.specs.Bytes.{lists, leave, giveBack, deliver, makeNotice, pageOf, returned, emptied, mailReturned, grantReturned, delete}
+use Rattle.model.specs.Lists.{count, Lists, some}
+use Rattle.laws.specs.Count.{hit-self, count-append}
+use Rattle.laws.specs.Chain.{Page, Chain, NoDup, chain-move, chain-leave, leave-is}
+use Rattle.laws.specs.Queues.{upd-same}
+use Rattle.laws.specs.Heads.{one-le, short}
+use Rattle.laws.specs.Uses.{proc-page}
+use Rattle.laws.specs.Inv.{View, view, Message, Facts, Base, Inv}
+use Rattle.laws.specs.Judged.{WellFormed, invariant}
+use Rattle.laws.specs.Frames.{other, only-refl, only-set}
+use Rattle.laws.specs.Views.{put1-same, retold}
+use Rattle.laws.specs.Changes.{hand-page}
+use Rattle.laws.specs.Hands.{hand-base, in-hand, take-grant}
+use Rattle.laws.specs.Grants.{Any, any-of, give-back, some-is}
+use Rattle.laws.specs.Post.{notice-base, two, word1, word2}
+use Rattle.laws.specs.Still.{give-still, deliver-still}
+use Rattle.laws.specs.Leave.{Letters, Bag, unlisted-bag}
+use Rattle.laws.specs.Ends.{Fine, done-fine}
+use Rattle.laws.specs.Simple.{named-in, fails, st1-fine, stp-fine}
+
+-- ---- one message returned: the words of the pages that stay in hand stay
+pub record Returned (m m1 : List ℕ) (ps : List ℕ) (hs : List ℕ) (g : ℕ) : Type 0 where
+  pub lists : Lists
+  pub view : View
+  pub base : Base m1 ps lists view hs g
+  pub still : (y j : ℕ) → 1 ≤ count y hs → j < 32 → getD m1 (y * 32 + j) 0 ≡ getD m (y * 32 + j) 0
+
+module _ {m : List ℕ} {ps : List ℕ} {L : Lists} {W : View} {hs : List ℕ} {g q : ℕ} (b : Base m ps L W (q ∷ hs) g) where
+  given : Returned m (giveBack m q) ps hs g
+  given = let t = give-back b in record { lists = t .lists; view = t .view; base = t .base; still = λ y j h l. give-still b y j h l }
+
+  not-q : (y : ℕ) → 1 ≤ count y hs → y ≢ q
+  not-q y h e = omega (arith, b .all q, one-le q, hit-self q, ap (λ (z : ℕ). count z hs) e)
+
+  abbrev note2 : ℕ → ℕ → List ℕ
+  note2 n f = set (set m (q * 32 + 1) (n * 16 + f)) (q * 32 + 2) 128
+
+  pub letter : (n f : ℕ) → 1 ≤ n → n ≤ 15 → 1 ≤ f → f ≤ 7 → Message (retold (note2 n f) W q .note q) (retold (note2 n f) W q .reason q)
+  letter n f i j k l =
+      rw (
+        put1-same (W .note) q (getD (note2 n f) (q * 32 + 1) 0) q refl,
+        put1-same (W .reason) q (getD (note2 n f) (q * 32 + 2) 0) q refl,
+        word1 b (n * 16 + f) 128,
+        word2 b (n * 16 + f) 128,
+      )
+      (record { sender = omega arith; known = omega arith; flag = omega arith; small = omega arith; long = λ z. absurd (z refl) })
+
+  notice-still : (n f p y j : ℕ) → 1 ≤ n → n ≤ 15 → 1 ≤ f → f ≤ 7 → 1 ≤ count p ps → 1 ≤ count y hs → j < 32
+      → getD (deliver (makeNotice m q n f) p q) (y * 32 + j) 0 ≡ getD m (y * 32 + j) 0
+  unfolding Mail.makeNotice
+  notice-still n f p y j n1 n2 f1 f2 hp h l =
+      let d = not-q y h in
+      let b2 = hand-base q (in-hand b) (two b (n * 16 + f) 128) b in
+      deliver-still b2 y j h l p hp (letter n f n1 n2 f1 f2)
+      ∙ other (set m (q * 32 + 1) (n * 16 + f)) (q * 32 + 2) 128 (y * 32 + j) (omega arith) ∙ other m (q * 32 + 1) (n * 16 + f) (y * 32 + j) (omega arith)
+
+  pub returned-base : (n : ℕ) → 1 ≤ n → n ≤ 15 → Message (getD m (q * 32 + 1) 0) (getD m (q * 32 + 2) 0) → Returned m (returned m n q) ps hs g
+  unfolding Delete.returned Delete.noticed
+  returned-base n n1 n2 t = go (eqb (getD m (q * 32 + 2) 0) 128) (eqb (pageOf m (getD m (q * 32 + 1) 0 / 16)) 0) refl refl
+    where
+      go : (x y : Bool) → eqb (getD m (q * 32 + 2) 0) 128 ≡ x → eqb (pageOf m (getD m (q * 32 + 1) 0 / 16)) 0 ≡ y → Returned m (returned m n q) ps hs g
+      go true y e f = rw e given
+      go false true e f = rw (e, f) given
+      go false false e f =
+          let p = pageOf m (getD m (q * 32 + 1) 0 / 16) in
+          let fl = getD m (q * 32 + 1) 0 % 16 in
+          let hp = named-in b (getD m (q * 32 + 1) 0 / 16) (eqb-false p 0 f) in
+          let r = notice-base b n fl p n1 n2 (t .flag) (t .small) hp in
+          rw (e, f) (record { lists = r .lists; view = r .view; base = r .base; still = λ y j h l. notice-still n fl p y j n1 n2 (t .flag) (t .small) hp h l })
+
+-- ---- one queue emptied
+emptied-end : (i : ℕ) (m : List ℕ) (n h : ℕ) → getD m h 0 ≡ 0 → emptied i m n h ≡ m
+unfolding Delete.emptied
+emptied-end zero m n h e = refl
+emptied-end (suc i) m n h e = rw (eq-eqb (getD m h 0) 0 e, Delete.emptied)
+
+emptied-step : (i : ℕ) (m : List ℕ) (n h : ℕ) → getD m h 0 ≢ 0 → emptied (suc i) m n h ≡ emptied i (returned (leave m h 0 (getD m h 0)) n (getD m h 0)) n h
+unfolding Delete.emptied
+emptied-step i m n h d = rw (ne-eqb (getD m h 0) 0 d, Delete.emptied)
+
+emptied-next : (i : ℕ) (m : List ℕ) (n h x : ℕ) → getD m h 0 ≡ x → x ≢ 0 → emptied (suc i) m n h ≡ emptied i (returned (leave m h 0 x) n x) n h
+emptied-next i m n h x e d = emptied-step i m n h (λ z. d (sym e ∙ z)) ∙ ap (λ (y : ℕ). emptied i (returned (leave m h 0 y) n y) n h) e
+
+-- from m on, the words of the pages rest stay, but for the header h
+record Drained (m m1 : List ℕ) (ps : List ℕ) (rest : List ℕ) (g h : ℕ) : Type 0 where
+  lists : Lists
+  view : View
+  base : Base m1 ps lists view rest g
+  still : (y j : ℕ) → 1 ≤ count y rest → j < 32 → y * 32 + j ≢ h → getD m1 (y * 32 + j) 0 ≡ getD m (y * 32 + j) 0
+
+-- word w of page p heads the queue xs; p and xs are in hand
+record Queue (m : List ℕ) (ps : List ℕ) (p w : ℕ) (xs rest : List ℕ) (g : ℕ) : Type 0 where
+  lists : Lists
+  view : View
+  base : Base m ps lists view (xs ++ rest) g
+  chain : Chain m 0 (p * 32 + w) xs
+  letters : Letters m xs
+
+module _ (p w n : ℕ) (u : 5 ≤ w) (v : w ≤ 6) (n1 : 1 ≤ n) (n2 : n ≤ 15) (ps rest : List ℕ) (g : ℕ) (hp : 1 ≤ count p rest) where
+  abbrev h : ℕ
+  h = p * 32 + w
+
+  -- the first message leaves its queue
+  module _ {m : List ℕ} {x : ℕ} {xs : List ℕ} (q : Queue m ps p w (x ∷ xs) rest g) where
+    in-p : 1 ≤ count p (x ∷ xs ++ rest)
+    in-p = omega (arith, count-append p xs rest)
+
+    pg : Page p
+    pg = hand-page (q .base) p in-p
+
+    px : Page x
+    px = hand-page (q .base) x (omega (arith, hit-self x))
+
+    once : NoDup (x ∷ xs)
+    once z = omega (arith, q .base .all z, one-le z, count-append z xs rest)
+
+    apart : (y : ℕ) → 1 ≤ count y rest → y ≢ x
+    apart y i e = omega (arith, q .base .all x, one-le x, hit-self x, count-append x xs rest, ap (λ (z : ℕ). count z rest) e)
+
+    abbrev m1 : List ℕ
+    m1 = set (set m h (getD m (x * 32 + 0) 0)) (x * 32 + 0) 0
+
+    left : leave m h 0 x ≡ m1
+    left = leave-is m 0 h x [] xs (q .chain) (omega arith) refl
+
+    chain1 : Chain m1 0 h xs
+    chain1 = chain-leave m 0 h x [] xs (q .base .mem .size) (omega (arith, pg)) (omega arith) (λ z i. omega arith) once (q .chain)
+
+    base1 : Base m1 ps (q .lists) (retold m1 (retold (set m h (getD m (x * 32 + 0) 0)) (q .view) p) x) (x ∷ xs ++ rest) g
+    base1 =
+        hand-base x (omega (arith, hit-self x)) (only-set (x * 32 + 0) 0 (omega arith) (omega arith) (only-refl x (set m h (getD m (x * 32 + 0) 0))))
+        (hand-base p in-p (only-set h (getD m (x * 32 + 0) 0) (omega arith) (omega arith) (only-refl p m)) (q .base))
+
+    letter1 : (y : ℕ) → 1 ≤ count y (x ∷ xs) → Message (getD m1 (y * 32 + 1) 0) (getD m1 (y * 32 + 2) 0)
+    letter1 y i =
+        let s = set m h (getD m (x * 32 + 0) 0) in
+        rw (
+          other s (x * 32 + 0) 0 (y * 32 + 1) (omega arith),
+          other s (x * 32 + 0) 0 (y * 32 + 2) (omega arith),
+          other m h (getD m (x * 32 + 0) 0) (y * 32 + 1) (omega arith),
+          other m h (getD m (x * 32 + 0) 0) (y * 32 + 2) (omega arith),
+        ) (q .letters .at y i)
+
+    -- and is returned
+    abbrev m2 : List ℕ
+    m2 = returned m1 n x
+
+    back : Returned m1 m2 ps (xs ++ rest) g
+    back = returned-base base1 n n1 n2 (letter1 x (omega (arith, hit-self x)))
+
+    rest-in : (y : ℕ) → 1 ≤ count y rest → 1 ≤ count y (xs ++ rest)
+    rest-in y i = omega (arith, count-append y xs rest)
+
+    next : Queue m2 ps p w xs rest g
+    next = record {
+      lists = back .lists;
+      view = back .view;
+      base = back .base;
+      chain = chain-move m1 m2 0 h h xs (back .still p w (rest-in p hp) (omega arith)) (λ y i. back .still y 0 (omega (arith, count-append y xs rest))
+          (omega arith)) chain1;
+      letters = record {
+        at = λ y i.
+            let j : 1 ≤ count y (xs ++ rest) = omega (arith, count-append y xs rest) in
+            rw (back .still y 1 j (omega arith), back .still y 2 j (omega arith)) (letter1 y (omega arith));
+      };
+    }
+
+    first : getD m h 0 ≡ x
+    first = q .chain .0
+
+    nonzero : x ≢ 0
+    nonzero = omega (arith, px)
+
+    stays : (y j : ℕ) → 1 ≤ count y rest → j < 32 → y * 32 + j ≢ h → getD m2 (y * 32 + j) 0 ≡ getD m (y * 32 + j) 0
+    stays y j i l d =
+        let e = apart y i in
+        back .still y j (rest-in y i) l ∙ other (set m h (getD m (x * 32 + 0) 0)) (x * 32 + 0) 0 (y * 32 + j) (omega arith)
+        ∙ other m h (getD m (x * 32 + 0) 0) (y * 32 + j) d
+
+  on : {m : List ℕ} {x : ℕ} {xs : List ℕ} (i : ℕ) (q : Queue m ps p w (x ∷ xs) rest g) → Drained (m2 q) (emptied i (m2 q) n h) ps rest g h
+      → Drained m (emptied (suc i) m n h) ps rest g h
+  on {m} {x} i q t =
+      rw (emptied-next i m n h x (first q) (nonzero q), left q)
+      (record { lists = t .lists; view = t .view; base = t .base; still = λ y j k l d. t .still y j k l d ∙ stays q y j k l d })
+
+  ends : {m : List ℕ} (i : ℕ) → Queue m ps p w [] rest g → Drained m (emptied i m n h) ps rest g h
+  ends {m} i q = rw (emptied-end i m n h (q .chain)) (record { lists = q .lists; view = q .view; base = q .base; still = λ y j k l d. refl })
+
+  drain : (xs : List ℕ) (i : ℕ) → length xs ≤ i → {m : List ℕ} → Queue m ps p w xs rest g → Drained m (emptied i m n h) ps rest g h
+  drain [] i l q = ends i q
+  drain (x ∷ xs) zero l q = absurd (omega arith)
+  drain (x ∷ xs) (suc i) l q = on i q (drain xs i (omega arith) (next q))
+
+-- ---- both queues
+tot-short : {m : List ℕ} {ps : List ℕ} {L : Lists} {W : View} {hs : List ℕ} {g : ℕ} → Base m ps L W hs g → (xs : List ℕ)
+    → ((z : ℕ) → count z xs ≤ count z hs) → length xs ≤ 20
+tot-short b xs f = short xs (λ z. omega (arith, f z, b .all z))
+
+mail-back : {m : List ℕ} (p n g : ℕ) → 1 ≤ n → n ≤ 15 → Bag m p g → Any (mailReturned m n p) (p ∷ []) g
+unfolding Delete.mailReturned
+mail-back {m} p n g n1 n2 t =
+    let r1 = t .q1 ++ p ∷ [] in
+    let a2 : Queue m (t .procs) p 6 (t .q2) (t .q1 ++ p ∷ []) g = record {
+      lists = t .lists;
+      view = t .view;
+      base = rw (append-assoc (t .q2) (t .q1) (p ∷ [])) at (t .base);
+      chain = t .chain2;
+      letters = t .letters2;
+    } in
+    let d2 = drain p 6 n (omega arith) (omega arith) n1 n2 (t .procs) (t .q1 ++ p ∷ []) g (omega (arith, count-append p (t .q1) (p ∷ []), hit-self p))
+    (t .q2) 20
+    (tot-short (a2 .base) (t .q2) (λ z. omega (arith, count-append z (t .q2) (t .q1 ++ p ∷ [])))) a2 in
+    second d2
+  where
+    second : Drained m (emptied 20 m n (p * 32 + 6)) (t .procs) (t .q1 ++ p ∷ []) g (p * 32 + 6)
+        → Any (emptied 20 (emptied 20 m n (p * 32 + 6)) n (p * 32 + 5)) (p ∷ []) g
+    second d =
+        let m1 = emptied 20 m n (p * 32 + 6) in
+        let in1 : (y : ℕ) → 1 ≤ count y (t .q1) → 1 ≤ count y (t .q1 ++ p ∷ []) = λ y i. omega (arith, count-append y (t .q1) (p ∷ [])) in
+        let inp : 1 ≤ count p (t .q1 ++ p ∷ []) = omega (arith, count-append p (t .q1) (p ∷ []), hit-self p) in
+        let a1 : Queue m1 (t .procs) p 5 (t .q1) (p ∷ []) g = record {
+          lists = d .lists;
+          view = d .view;
+          base = d .base;
+          chain = chain-move m m1 0 (p * 32 + 5) (p * 32 + 5) (t .q1) (d .still p 5 inp (omega arith) (omega arith)) (λ y i. d .still y 0 (in1 y i)
+              (omega arith) (omega arith)) (t .chain1);
+          letters = record {
+            at = λ y i. rw (d .still y 1 (in1 y i) (omega arith) (omega arith), d .still y 2 (in1 y i) (omega arith) (omega arith)) (t .letters1 .at y i);
+          };
+        } in
+        any-of (drain p 5 n (omega arith) (omega arith) n1 n2 (t .procs) (p ∷ []) g (omega (arith, hit-self p)) (t .q1) 20
+        (tot-short (d .base) (t .q1) (λ z. omega (arith, count-append z (t .q1) (p ∷ [])))) a1 .base)
+
+-- ---- the grant of the name that is deleted
+facts-whole : {ps : List ℕ} {L : Lists} {W : View} {n : ℕ} → length (L (320 + n)) ≡ 0 → Facts ps L W n → Facts ps L W 32
+facts-whole {ps} {L} {W} {n} e f = record {
+  sep = f .sep;
+  names = f .names;
+  seats = f .seats;
+  own = f .own;
+  sems = f .sems;
+  granted = record { bare = f .granted .bare; known = λ k h d c. f .granted .known k h (λ q. c (ap (λ (y : ℕ). length (L (320 + y))) q ∙ e)) c };
+  mail = f .mail;
+  runs = f .runs;
+  codes = f .codes;
+  clock = f .clock;
+  faults = f .faults;
+}
+
+grant-back : {m : List ℕ} {hs : List ℕ} (n : ℕ) → n < 32 → Any m hs n → Any (grantReturned m n) hs 32
+unfolding Delete.grantReturned
+grant-back {m} {hs} n l t = go (eqb (getD m (320 + n) 0) 0) refl
+  where
+    b : Base m (t .procs) (t .lists) (t .view) hs n
+    b = t .base
+
+    go : (c : Bool) → eqb (getD m (320 + n) 0) 0 ≡ c → Any (grantReturned m n) hs 32
+    go true e =
+        let z = eqb-true (getD m (320 + n) 0) 0 e in
+        let k = ap length (b .mem .holds .grant n l) ∙ ap (λ (x : ℕ). length (some x)) z in
+        rw e (any-of (record { mem = b .mem; facts = facts-whole k (b .facts); all = b .all }))
+    go false e =
+        let x = getD m (320 + n) 0 in
+        let z = eqb-false (getD m (320 + n) 0) 0 e in
+        let b1 = take-grant b n x l (b .mem .holds .grant n l ∙ some-is x z) in
+        rw e (any-of (give-back (record {
+          mem = b1 .mem;
+          facts = facts-whole (ap length (upd-same (t .lists) (320 + n) [])) (b1 .facts);
+          all = b1 .all;
+        }) .base))
+
+-- ---- "In order: ..; then its own page."
+pub delete-base : {m : List ℕ} {ps : List ℕ} {L : Lists} {W : View} (p : ℕ) → 1 ≤ count p ps → W .low 248 ≢ p → Base m ps L W [] 32 → Any (delete m p) [] 32
+unfolding Delete.delete
+delete-base {m} {W = W} p hp d b =
+    let n = W .label p % 16 in
+    let r = b .facts .names .range p hp in
+    let t1 = mail-back p n n (r .name) (omega arith) (unlisted-bag p hp d b) in
+    let t2 = grant-back n (omega arith) t1 in
+    rw (b .mem .reads .words .label p (proc-page (b .facts .sep) p hp)) (any-of (give-back (t2 .base) .base))
+
+-- ---- the instructions
+module _ {m : List ℕ} (w : WellFormed m) (d : getD m 248 0 ≢ 0) where
+  i : Inv m (lists m 247) (lists m) (view m)
+  i = invariant w
+
+  dep-fine : (p len : ℕ) → 1 ≤ count p (lists m 247) → Fine (Model.dep m p len)
+  unfolding Operate.dep
+  dep-fine p len h = go (leb 128 (getD m (p * 32 + 12) 0)) refl
+    where
+      go : (x : Bool) → leb 128 (getD m (p * 32 + 12) 0) ≡ x → Fine (Model.dep m p len)
+      go false e = rw e (fails w d 10 (omega arith) (omega arith))
+      go true e =
+          let l = leb-true 128 (getD m (p * 32 + 12) 0) e in
+          let n : getD m 248 0 ≢ p = λ q. (let c = ap (λ (y : ℕ). getD m (y * 32 + 12) 0) q in omega (arith, i .best .ready d)) in
+          rw e (done-fine (delete-base p h n (i .base) .base) len)
+
+  pub named-fine : (c n len : ℕ) → Fine (Model.named m c n len)
+  unfolding Operate.named Operate.onPage
+  named-fine c n len = go (eqb n 0) (eqb (pageOf m n) 0) (eqb c 8) (eqb c 9) refl refl refl refl
+    where
+      go : (x y z t : Bool) → eqb n 0 ≡ x → eqb (pageOf m n) 0 ≡ y → eqb c 8 ≡ z → eqb c 9 ≡ t → Fine (Model.named m c n len)
+      go true y z t e f j k = rw e (fails w d 12 (omega arith) (omega arith))
+      go false true z t e f j k = rw (e, f) (fails w d 7 (omega arith) (omega arith))
+      go false false true t e f j k = rw (e, f, j) (st1-fine w d (pageOf m n) len (named-in (i .base) n (eqb-false (pageOf m n) 0 f)))
+      go false false false true e f j k = rw (e, f, j, k) (stp-fine w d (pageOf m n) len (named-in (i .base) n (eqb-false (pageOf m n) 0 f)))
+      go false false false false e f j k = rw (e, f, j, k) (dep-fine (pageOf m n) len (named-in (i .base) n (eqb-false (pageOf m n) 0 f)))

@@ -1,0 +1,148 @@
+-- Refusals and faults: how a call ends. "A fault sets the stopped bit, enters page 9, leaves LR; then who runs"; done, a jump, put to wait: each ends in a
+-- well-formed memory. Assumes nothing.
+use mathlib.Core.Path.{_≡_, refl}
+use mathlib.Core.Logic.{_≢_, _⊎_, inl, inr}
+use mathlib.Core.Bool.{Bool, true, false}
+use mathlib.Core.List.{List, []}
+use Prim.Native.Nat.{ℕ, _+_, _-_, _*_, _/_, _%_, _≤_, _<_}
+use native.Mathlib.Omega.{arith}
+use lib.ListN.{getD, set}
+use lib.Dec.{ltb}
+use borrow.Author.Tests.{ltb-true}
+use Rattle.model.specs.Fault as Fault
+use Rattle.model.specs.Answer as Answer
+use Rattle.model.specs.Answer.{memoryOf}
+use Rattle.model.specs.Processor as Processor
+use Rattle.model.specs.Bytes.{Step, entered, fault, done, jumps, waits, stop, start, setLr, advance, lr}
+use Rattle.model.specs.Lists.{count, Lists, queues}
+use Rattle.laws.specs.Count.{hit-or}
+use Rattle.laws.specs.Chain.{Page}
+use Rattle.laws.specs.Uses.{proc-page}
+use Rattle.laws.specs.Inv.{View, Label, Entry, Faults, Base}
+use Rattle.laws.specs.Judged.{WellFormed, well-formed}
+use Rattle.laws.specs.Frames.{Kept, kept-refl, kept-set, Quiet, quiet-low, quiet-word, base-kept}
+use Rattle.laws.specs.Views.{put1, put1-same, put1-other, withState, withEntry}
+use Rattle.laws.specs.Stores.{state-mem, entry-mem}
+use Rattle.laws.specs.Changes.{facts-state, facts-entry}
+use Rattle.laws.specs.Waits.{Fit, wait-base}
+use Rattle.laws.specs.Who.{who-inv, running-at, running-in, state-at, label-at}
+
+-- ---- the outcome of an instruction leaves a well-formed memory
+abbrev pub Fine : Step → Type 0
+Fine o = WellFormed (memoryOf o)
+
+-- ---- word 12
+pub stop-bits : (w : ℕ) → w % 64 / 16 ≡ 0 → ((w % 128 + 128) % 128 / 64 ≡ w % 128 / 64) × ((w % 128 + 128) % 64 / 16 ≡ 0)
+stop-bits w h =
+    let a : (w % 128 + 128) % 128 ≡ w % 128 = omega arith in
+    let b : (w % 128 + 128) % 64 ≡ w % 64 = omega arith in
+    (rw a, rw b h)
+
+pub start-bits : (w : ℕ) → w % 64 / 16 ≡ 0 → (w % 128 % 128 / 64 ≡ w % 128 / 64) × (w % 128 % 64 / 16 ≡ 0)
+start-bits w h =
+    let a : w % 128 % 128 ≡ w % 128 = omega arith in
+    let b : w % 128 % 64 ≡ w % 64 = omega arith in
+    (rw a, rw b h)
+
+pub state-base : {m : List ℕ} {ps : List ℕ} {L : Lists} {W : View} {hs : List ℕ} {g : ℕ} (q v : ℕ) → 1 ≤ count q ps
+    → (v % 128 / 64 ≡ W .state q % 128 / 64) × (v % 64 / 16 ≡ 0) → Base m ps L W hs g
+    → Base (set m (q * 32 + 12) v) ps L (withState W (put1 (W .state) q v)) hs g
+state-base {ps = ps} {W = W} q v i c b = record {
+  mem = state-mem (b .facts .sep) (b .mem) q v (proc-page (b .facts .sep) q i);
+  facts = facts-state (put1 (W .state) q v) (λ x h. go x h (hit-or x q)) (b .facts);
+  all = b .all;
+}
+  where
+    go : (x : ℕ) → 1 ≤ count x ps → (x ≡ q) ⊎ (x ≢ q) → (put1 (W .state) q v x % 128 / 64 ≡ W .state x % 128 / 64) × (put1 (W .state) q v x % 64 / 16 ≡ 0)
+    go x h (inl e) = rw (put1-same (W .state) q v x e, e) c
+    go x h (inr n) = rw (put1-other (W .state) q v x n) (refl, b .facts .seats .zeros x h)
+
+module _ {m : List ℕ} {ps : List ℕ} {L : Lists} {W : View} {hs : List ℕ} {g : ℕ} (b : Base m ps L W hs g) (p : ℕ) (h : 1 ≤ count p ps) where
+  pub stop-base : Base (stop m p) ps L (withState W (put1 (W .state) p (W .state p % 128 + 128))) hs g
+  unfolding Processor.stop
+  stop-base = rw (state-at b p h) (state-base p (W .state p % 128 + 128) h (stop-bits (W .state p) (b .facts .seats .zeros p h)) b)
+
+  pub start-base : Base (start m p) ps L (withState W (put1 (W .state) p (W .state p % 128))) hs g
+  unfolding Processor.start
+  start-base = rw (state-at b p h) (state-base p (W .state p % 128) h (start-bits (W .state p) (b .facts .seats .zeros p h)) b)
+
+-- ---- page 9
+pub faults-more : (n e : ℕ) (g : ℕ → ℕ) → n < 32 → Entry e → Faults n g → Faults (n + 1) (put1 g (n - 1) e)
+faults-more n e g l t f = record {
+  range = (omega arith, omega arith);
+  used = λ i h u. go i h u (hit-or i (n - 1));
+  unused = λ i h u. rw (put1-other g (n - 1) e i (let r = f .range in omega arith)) (f .unused i h (omega arith));
+}
+  where
+    go : (i : ℕ) → i < 31 → i + 2 ≤ n + 1 → (i ≡ n - 1) ⊎ (i ≢ n - 1) → Entry (put1 g (n - 1) e i)
+    go i h u (inl q) = rw (put1-same g (n - 1) e i q) t
+    go i h u (inr q) = rw (put1-other g (n - 1) e i q) (f .used i h (omega arith))
+
+pub entered-base : {m : List ℕ} {ps : List ℕ} {L : Lists} {W : View} {hs : List ℕ} {g : ℕ} (e : ℕ) → Entry e → Base m ps L W hs g
+    → (X : View) × Base (entered m e) ps L X hs g
+unfolding Fault.entered
+entered-base {m} {ps} {L} {W} {hs} {g} e t b = go (ltb (W .next) 32) refl
+  where
+    go : (c : Bool) → ltb (W .next) 32 ≡ c → (X : View) × Base (entered m e) ps L X hs g
+    go true h =
+        let r = b .facts .faults .range in
+        let l = ltb-true (W .next) 32 h in (
+          withEntry W (W .next + 1) (put1 (W .entry) (W .next - 1) e),
+          rw (b .mem .reads .fixed .next, h) (record {
+            mem = entry-mem (b .facts .sep) (b .mem) e (r .0) l;
+            facts = facts-entry (W .next + 1) (put1 (W .entry) (W .next - 1) e) (faults-more (W .next) e (W .entry) l t (b .facts .faults)) (b .facts);
+            all = b .all;
+          }),
+        )
+    go false h = (W, rw (b .mem .reads .fixed .next, h) b)
+
+name-entry : (w f : ℕ) → Label w → 1 ≤ f → f ≤ 12 → Entry (w % 16 * 16 + f)
+name-entry w f l i j = record { name = (omega arith, omega arith); fault = (omega arith, omega arith) }
+
+-- ---- LR; page 0 has no LR, and where nobody runs nothing that is judged changes
+pub quiet-run : (r w : ℕ) → (r ≢ 0 → Page r) → 8 ≤ w → w < 32 → w ≢ 12 → Quiet (r * 32 + w)
+quiet-run r w g l u n = go (hit-or r 0)
+  where
+    go : (r ≡ 0) ⊎ (r ≢ 0) → Quiet (r * 32 + w)
+    go (inl e) = quiet-low (r * 32 + w) (omega arith)
+    go (inr d) = quiet-word r w (r * 32 + w) (g d) l u n refl
+
+pub lr-kept : (m : List ℕ) (p v : ℕ) → (p ≢ 0 → Page p) → Kept m (setLr m p v)
+unfolding Processor.setLr
+lr-kept m p v g =
+    kept-set (p * 32 + 11) (v % 256) (quiet-run p 11 g (omega arith) (omega arith) (omega arith))
+    (kept-set (p * 32 + 10) (getD m (p * 32 + 10) 0 / 32 * 32 + v / 256 % 32) (quiet-run p 10 g (omega arith) (omega arith) (omega arith)) (kept-refl m))
+
+module _ {m : List ℕ} {ps : List ℕ} {L : Lists} {W : View} {hs : List ℕ} {g : ℕ} (b : Base m ps L W hs g) where
+  pub run-page : getD m 248 0 ≢ 0 → Page (getD m 248 0)
+  run-page n = rw (running-at b) (proc-page (b .facts .sep) (W .low 248) (running-in b (rw (running-at b) at n)))
+
+  pub lr-base : (v : ℕ) → Base (setLr m (getD m 248 0) v) ps L W hs g
+  lr-base v = base-kept (lr-kept m (getD m 248 0) v run-page) b
+
+  pub advance-base : (n : ℕ) → Base (advance m n) ps L W hs g
+  unfolding Processor.advance
+  advance-base n = lr-base ((lr m + n) % 8192)
+
+-- ---- the ends
+module _ {m : List ℕ} {ps : List ℕ} {L : Lists} {W : View} (b : Base m ps L W [] 32) where
+  pub done-fine : (n : ℕ) → Fine (done m n)
+  unfolding Answer.done Answer.memoryOf
+  done-fine n = well-formed (who-inv (advance-base b n) .1)
+
+  pub jumps-fine : (a : ℕ) → Fine (jumps m a)
+  unfolding Answer.jumps Answer.memoryOf
+  jumps-fine a = well-formed (who-inv (lr-base b a) .1)
+
+  pub fault-fine : (f : ℕ) → W .low 248 ≢ 0 → 1 ≤ f → f ≤ 12 → Fine (fault m f)
+  unfolding Fault.fault Answer.memoryOf
+  fault-fine f n i j =
+      let r = W .low 248 in
+      let h = running-in b n in
+      let t = entered-base (W .label r % 16 * 16 + f) (name-entry (W .label r) f (b .facts .names .range r h) i j) (stop-base b r h) in
+      rw (running-at b, label-at b r h) (well-formed (who-inv (t .1) .1))
+
+  pub waits-fine : (a w : ℕ) → W .low 248 ≢ 0 → 1 ≤ count (a + 1) (queues ps) → W .state (W .low 248) % 128 / 64 ≡ 0 → Fit ps L W a (W .low 248) w
+      → Fine (waits m a w)
+  unfolding Answer.waits Answer.memoryOf
+  waits-fine a w n h idle fit = rw (running-at b) (well-formed (who-inv (wait-base a (W .low 248) w b h (running-in b n) idle fit) .1))

@@ -1,0 +1,90 @@
+-- Well-formed: "every control page is used once": as a processor, as a free page, as a message in one queue, or as a grant. Said by counting in the lists
+-- of each use. Assumes nothing.
+use mathlib.Core.Path.{_≡_, refl, ap, _∙_}
+use mathlib.Core.List.{List, [], _∷_, _++_}
+use Prim.Native.Nat.{ℕ, zero, suc, _+_, _-_, _*_, _≤_}
+use native.Mathlib.Omega.{arith}
+use lib.ListN.{getD}
+use Rattle.model.specs.Map.{place, q1, q2, freeList, grants, pageSize}
+use Rattle.model.specs.Lists as Model
+use Rattle.model.specs.Lists.{count, Lists, sum, range, some, mails}
+use Rattle.model.specs.Bytes.{processors, queue}
+use Rattle.laws.specs.Count.{hit-self, count-append}
+use Rattle.laws.specs.Chain.{walk-chain}
+use Rattle.laws.specs.Heads.{one, page-one, sum-append}
+use Rattle.laws.specs.Uses.{list-short}
+use Rattle.laws.specs.Places.{in-free, grant-low}
+use Rattle.laws.specs.Inv.{View, Base}
+use Rattle.laws.specs.Judged.{invariant}
+use Rattle.laws.specs.Cells.{chain0}
+use Rattle.laws.specs.Who.{listed}
+use Rattle.laws.specs.Mails.{mail-queue}
+use Rattle.laws.specs.Calls.{Sound, well}
+
+-- the messages of the processors ps, in Q1 and Q2
+abbrev pub mailOf : List ℕ → List ℕ → List ℕ
+mailOf m [] = []
+mailOf m (p ∷ ps) = queue m (place p q1) ++ (queue m (place p q2) ++ mailOf m ps)
+
+-- the pages in n words from a on
+abbrev pub pagesIn : ℕ → List ℕ → ℕ → List ℕ
+pagesIn zero m a = []
+pagesIn (suc n) m a = some (getD m a 0) ++ pagesIn n m (a + 1)
+
+-- ---- the four uses
+abbrev pub asProcessor : List ℕ → ℕ → ℕ
+asProcessor m z = count z (processors m)
+
+abbrev pub asFree : List ℕ → ℕ → ℕ
+asFree m z = count z (queue m freeList)
+
+abbrev pub asMessage : List ℕ → ℕ → ℕ
+asMessage m z = count z (mailOf m (processors m))
+
+abbrev pub asGrant : List ℕ → ℕ → ℕ
+asGrant m z = count z (pagesIn pageSize m grants)
+
+module _ {m : List ℕ} {ps : List ℕ} {L : Lists} {W : View} {g : ℕ} (b : Base m ps L W [] g) where
+  in-mail : (z : ℕ) (qs : List ℕ) → ((p : ℕ) → 1 ≤ count p qs → 1 ≤ count p ps) → count z (mailOf m qs) ≡ sum z L (mails qs)
+  in-mail z [] f = refl
+  in-mail z (p ∷ qs) f =
+      let h = f p (omega (arith, hit-self p)) in
+      omega (
+        arith,
+        count-append z (queue m (p * 32 + 5)) (queue m (p * 32 + 6) ++ mailOf m qs),
+        count-append z (queue m (p * 32 + 6)) (mailOf m qs),
+        in-mail z qs (λ y i. f y (omega arith)),
+        ap (count z) (mail-queue b p 5 h (omega arith) (omega arith)),
+        ap (count z) (mail-queue b p 6 h (omega arith) (omega arith)),
+      )
+
+  granted : (z n a : ℕ) → 320 ≤ a → a + n ≤ 352 → count z (pagesIn n m a) ≡ sum z L (range n 1 a)
+  unfolding Model.range
+  granted z zero a l u = refl
+  granted z (suc n) a l u =
+      let e : 320 + (a - 320) ≡ a = omega arith in
+      let c = rw e at (b .mem .holds .grant (a - 320) (omega arith)) in
+      omega (arith, count-append z (some (getD m a 0)) (pagesIn n m (a + 1)), granted z n (a + 1) (omega arith) (omega arith), ap (count z) c)
+
+  free : queue m 244 ≡ L 244
+  free =
+      let s = b .facts .sep in
+      walk-chain 20 m 0 244 (L 244) (chain0 s (b .mem) 244 (in-free ps, grant-low 244 (omega arith)) (omega arith)) (list-short s 244 (in-free ps))
+
+  pub four : (z : ℕ) → asProcessor m z + asFree m z + asMessage m z + asGrant m z ≡ one z
+  four z =
+      omega (
+        arith,
+        b .all z,
+        ap (count z) (listed b),
+        ap (count z) (b .facts .sep .procs),
+        ap (count z) free,
+        ap (λ (qs : List ℕ). count z (mailOf m qs)) (listed b),
+        in-mail z ps (λ p i. i),
+        granted z 32 320 (omega arith) (omega arith),
+        sum-append z L (mails ps) (range 32 1 320),
+      )
+
+-- each control page has exactly one of the four uses
+pub used-once : {m : List ℕ} → Sound m → (z : ℕ) → 236 ≤ z → z ≤ 255 → asProcessor m z + asFree m z + asMessage m z + asGrant m z ≡ 1
+used-once h z l u = four (invariant (well h) .base) z ∙ page-one z (l, omega arith)

@@ -1,0 +1,142 @@
+-- Refusals and faults: "A fault sets the stopped bit, enters page 9, leaves LR; then who runs." Which words a fault may change, and what they hold then; on
+-- any memory of 8,192 words. Assumes nothing.
+use mathlib.Core.Path.{_≡_, refl, ap, _∙_}
+use mathlib.Core.Logic.{_≢_}
+use mathlib.Core.List.{List}
+use Prim.Native.Nat.{ℕ, zero, suc, _+_, _-_, _*_, _%_, _≤_, _<_}
+use native.Mathlib.Omega.{arith}
+use lib.ListN.{length, getD, set, length-set}
+use lib.Seq.{getD-set-same}
+use lib.Dec.{eqb, ltb}
+use borrow.Author.Tests.{lt-ltb, le-ltb}
+use Rattle.model.specs.Map.{zeroPlace, stopSet}
+use Rattle.model.specs.declared.Answer.the-variants.{Fault}
+use Rattle.model.specs.Processor as Processor
+use Rattle.model.specs.Turn as Turn
+use Rattle.model.specs.Fault as Faults
+use Rattle.model.specs.Answer as Answer
+use Rattle.model.specs.Answer.{answerOf, memoryOf}
+use Rattle.model.specs.Bytes as Model
+use Rattle.model.specs.Bytes.{fault, whoRuns, name, running}
+use Rattle.laws.specs.Frames.{other}
+use Rattle.laws.specs.Words.{either}
+use Rattle.laws.specs.Who.{zero-low}
+
+-- ---- what a change of who runs moves: words 24 and 25 of page 7, the nineteen words of page 0, and those of page r, which ran
+pub record Unmoved (r a : ℕ) : Type 0 where
+  pub page : a ≢ 248
+  pub label : a ≢ 249
+  pub zero : (i : ℕ) → i < 19 → a ≢ zeroPlace i
+  pub kept : (i : ℕ) → i < 19 → a ≢ r * 32 + (13 + i)
+
+kept-frame : (n : ℕ) (m : List ℕ) (p : ℕ) (w : List ℕ) (a : ℕ) → n ≤ 19 → ((i : ℕ) → i < 19 → a ≢ p * 32 + (13 + i))
+    → getD (Model.kept n m p w) a 0 ≡ getD m a 0
+unfolding Turn.kept
+kept-frame zero m p w a l f = refl
+kept-frame (suc n) m p w a l f =
+    kept-frame n (set m (p * 32 + (13 + n)) (getD w n 0)) p w a (omega arith) f ∙ other m (p * 32 + (13 + n)) (getD w n 0) a (f n (omega arith))
+
+restored-frame : (n : ℕ) (m : List ℕ) (w : List ℕ) (a : ℕ) → n ≤ 19 → ((i : ℕ) → i < 19 → a ≢ zeroPlace i) → getD (Model.restored n m w) a 0 ≡ getD m a 0
+unfolding Turn.restored
+restored-frame zero m w a l f = refl
+restored-frame (suc n) m w a l f =
+    restored-frame n (set m (zeroPlace n) (getD w n 0)) w a (omega arith) f ∙ other m (zeroPlace n) (getD w n 0) a (f n (omega arith))
+
+pub turn-frame : (m : List ℕ) (a : ℕ) → Unmoved (getD m 248 0) a → getD (whoRuns m) a 0 ≡ getD m a 0
+unfolding Turn.whoRuns Turn.switch Turn.runs Turn.save Turn.load
+turn-frame m a u =
+    let r = getD m 248 0 in
+    let t = Model.chosen m in
+    let m1 = Model.save m r in
+    let m2 = Model.load m1 t in
+    let s : getD (Model.save m r) a 0 ≡ getD m a 0 = either (λ (x : List ℕ). getD x a 0 ≡ getD m a 0) (eqb r 0) refl
+    (kept-frame 19 m r (Model.onPage0 m) a (omega arith) (u .kept)) in
+    let l : getD (Model.load (Model.save m r) t) a 0 ≡ getD m a 0 = either (λ (x : List ℕ). getD x a 0 ≡ getD m a 0) (eqb t 0) s
+    (restored-frame 19 m1 (Model.keptOn m1 t) a (omega arith) (u .zero) ∙ s) in
+    either (λ (x : List ℕ). getD x a 0 ≡ getD m a 0) (eqb r t) refl
+    (other (set m2 248 t) 249 _ a (u .label) ∙ other m2 248 t a (u .page) ∙ l)
+
+-- ---- the fault
+module _ (m : List ℕ) (f : ℕ) where
+  abbrev r : ℕ
+  r = getD m 248 0
+
+  abbrev e : ℕ
+  e = getD m (r * 32 + 7) 0 % 16 * 16 + f
+
+  abbrev m1 : List ℕ
+  m1 = set m (r * 32 + 12) (getD m (r * 32 + 12) 0 % 128 + 128)
+
+  pub fault-answer : answerOf (fault m f) ≡ Fault f (name m (running m))
+  unfolding Faults.fault Answer.answerOf
+  fault-answer = refl
+
+  abbrev m2 : List ℕ
+  m2 = Model.entered m1 e
+
+  fault-is : memoryOf (fault m f) ≡ whoRuns m2
+  unfolding Faults.fault Processor.stop Answer.memoryOf
+  fault-is = refl
+
+  -- page 9 keeps its words elsewhere, and all of them when its word 0 is 32
+  entered-frame : (x : List ℕ) (v a : ℕ) → a ≢ 288 → a ≢ 288 + getD x 288 0 → getD (Model.entered x v) a 0 ≡ getD x a 0
+  unfolding Faults.entered
+  entered-frame x v a d1 d2 =
+      either (λ (y : List ℕ). getD y a 0 ≡ getD x a 0) (ltb (getD x 288 0) 32)
+      (other (set x (288 + getD x 288 0) v) 288 (getD x 288 0 + 1) a d1 ∙ other x (288 + getD x 288 0) v a d2) refl
+
+  entered-full : (x : List ℕ) (v : ℕ) → 32 ≤ getD x 288 0 → Model.entered x v ≡ x
+  unfolding Faults.entered
+  entered-full x v h = rw (le-ltb (getD x 288 0) 32 h)
+
+  entered-new : (x : List ℕ) (v : ℕ) → getD x 288 0 < 32 → Model.entered x v ≡ set (set x (288 + getD x 288 0) v) 288 (getD x 288 0 + 1)
+  unfolding Faults.entered
+  entered-new x v h = rw (lt-ltb (getD x 288 0) 32 h)
+
+  module _ (size : length m ≡ 8192) (page : 236 ≤ r) (high : r ≤ 255) where
+    next-same : getD m1 288 0 ≡ getD m 288 0
+    next-same = other m (r * 32 + 12) (getD m (r * 32 + 12) 0 % 128 + 128) 288 (omega arith)
+
+    run-same : getD m2 248 0 ≡ getD m 248 0
+    run-same = entered-frame m1 e 248 (omega arith) (omega arith) ∙ other m (r * 32 + 12) (getD m (r * 32 + 12) 0 % 128 + 128) 248 (omega arith)
+
+    moved : (a : ℕ) → Unmoved r a → getD (memoryOf (fault m f)) a 0 ≡ getD m2 a 0
+    moved a u = rw fault-is (turn-frame m2 a (rw run-same u))
+
+    -- every other word is as it was
+    pub fault-frame : (a : ℕ) → Unmoved r a → a ≢ r * 32 + 12 → a ≢ 288 → a ≢ 288 + getD m 288 0 → getD (memoryOf (fault m f)) a 0 ≡ getD m a 0
+    fault-frame a u d12 d0 dn =
+        moved a u ∙ entered-frame m1 e a d0 (rw next-same dn) ∙ other m (r * 32 + 12) (getD m (r * 32 + 12) 0 % 128 + 128) a d12
+
+    -- page 9 too, when it is full
+    pub fault-full : 32 ≤ getD m 288 0 → (a : ℕ) → Unmoved r a → a ≢ r * 32 + 12 → getD (memoryOf (fault m f)) a 0 ≡ getD m a 0
+    fault-full h a u d12 =
+        moved a u ∙ ap (λ (x : List ℕ). getD x a 0) (entered-full m1 e (rw next-same h)) ∙ other m (r * 32 + 12) (getD m (r * 32 + 12) 0 % 128 + 128) a d12
+
+    size1 : length m1 ≡ 8192
+    size1 = simp length-set size
+
+    -- a word that is none of those that a change of who runs moves
+    far : (a : ℕ) → 32 ≤ a → a ≢ 248 → a ≢ 249 → ((i : ℕ) → i < 19 → a ≢ r * 32 + (13 + i)) → Unmoved r a
+    far a l d8 d9 k = record { page = d8; label = d9; zero = λ i h. (let z = zero-low i h in omega arith); kept = k }
+
+    -- the stopped bit is set, the rest of word 12 stays
+    pub fault-stops : getD m 288 0 ≤ 32 → getD (memoryOf (fault m f)) (r * 32 + 12) 0 ≡ stopSet (getD m (r * 32 + 12) 0)
+    fault-stops h =
+        moved (r * 32 + 12) (far (r * 32 + 12) (omega arith) (omega arith) (omega arith) (λ i k. omega arith))
+        ∙ entered-frame m1 e (r * 32 + 12) (omega arith) (omega (arith, next-same))
+        ∙ getD-set-same m (r * 32 + 12) (getD m (r * 32 + 12) 0 % 128 + 128) 0 (omega (arith, size))
+
+    -- "each entry is name*16 + fault"; word 0 of page 9 goes on
+    pub fault-enters : 1 ≤ getD m 288 0 → getD m 288 0 < 32
+        → (getD (memoryOf (fault m f)) (288 + getD m 288 0) 0 ≡ name m (running m) * 16 + f) × (getD (memoryOf (fault m f)) 288 0 ≡ getD m 288 0 + 1)
+    fault-enters l h =
+        let n = getD m 288 0 in
+        let q = entered-new m1 e (rw next-same h) in
+        let x = set m1 (288 + getD m1 288 0) e in (
+          moved (288 + n) (far (288 + n) (omega arith) (omega arith) (omega arith) (λ i k. omega arith)) ∙ ap (λ (y : List ℕ). getD y (288 + n) 0) q
+              ∙ other x 288 (getD m1 288 0 + 1) (288 + n) (omega arith)
+              ∙ ap (λ (z : ℕ). getD (set m1 (288 + z) e) (288 + n) 0) next-same ∙ getD-set-same m1 (288 + n) e 0 (omega (arith, size1)),
+          moved 288 (far 288 (omega arith) (omega arith) (omega arith) (λ i k. omega arith)) ∙ ap (λ (y : List ℕ). getD y 288 0) q
+              ∙ getD-set-same x 288 (getD m1 288 0 + 1) 0 (simp length-set (omega (arith, size1))) ∙ ap (λ (z : ℕ). z + 1) next-same,
+        )

@@ -1,0 +1,158 @@
+-- What stays when words change that the judge does not look at: page 0 and unprotected words, registers and kept words of a processor; and when only
+-- one control page, which is in hand, changes. Assumes nothing.
+use mathlib.Core.Path.{_≡_, refl, _∙_}
+use mathlib.Core.Logic.{_≢_, _⊎_, inl, inr}
+use mathlib.Core.List.{List}
+use Prim.Native.Nat.{ℕ, zero, suc, _+_, _-_, _*_, _%_, _≤_, _<_}
+use native.Mathlib.Omega.{arith}
+use lib.ListN.{length, getD, set, length-set}
+use lib.Seq.{getD-set-other}
+use Rattle.model.specs.Address as Address
+use Rattle.model.specs.Bytes.{copy, zeroed}
+use Rattle.model.specs.Lists.{count, Lists, linkOf, queues}
+use Rattle.laws.specs.Count.{hit-or}
+use Rattle.laws.specs.Chain.{Page, chain-move}
+use Rattle.laws.specs.Queues.{link-procs, link-other}
+use Rattle.laws.specs.Heads.{Place, Seat, seat-of}
+use Rattle.laws.specs.Heads.Place.{int, three, grant, slot}
+use Rattle.laws.specs.Heads.Seat.{line, page, own}
+use Rattle.laws.specs.Uses.{Among, Head, head-place, Sep, proc-page}
+use Rattle.laws.specs.Places.{in-grant, all-pages}
+use Rattle.laws.specs.Inv.{View, Holds, Mem, Base, Inv}
+use Rattle.laws.specs.Judged.{WellFormed, well-formed, invariant}
+
+-- a store elsewhere
+pub other : (m : List ℕ) (b v a : ℕ) → a ≢ b → getD (set m b v) a 0 ≡ getD m a 0
+other m b v a n = getD-set-other m b a v 0 (omega arith)
+
+-- ---- heads, links and grants
+pub holds-kept : (m m′ : List ℕ) (ps : List ℕ) (L : Lists) → Sep ps L → ((a : ℕ) → Among ps a → getD m′ a 0 ≡ getD m a 0)
+    → ((a x : ℕ) → Among ps a → a ≢ 247 → 1 ≤ count x (L a) → getD m′ (x * 32 + 0) 0 ≡ getD m (x * 32 + 0) 0)
+    → ((x : ℕ) → 1 ≤ count x ps → getD m′ (x * 32 + 1) 0 ≡ getD m (x * 32 + 1) 0) → Holds m ps L → Holds m′ ps L
+holds-kept m m′ ps L s heads zeros ones h = record {
+  rep = λ a i. chain-move m m′ (linkOf a) a a (L a) (heads a (i .0)) (λ x c. go a i x c (hit-or a 247)) (h .rep a i);
+  grant = λ k i. rw (heads (320 + k) (in-grant ps k i)) (h .grant k i);
+}
+  where
+    go : (a : ℕ) → Head ps a → (x : ℕ) → 1 ≤ count x (L a) → (a ≡ 247) ⊎ (a ≢ 247) → getD m′ (x * 32 + linkOf a) 0 ≡ getD m (x * 32 + linkOf a) 0
+    go a i x c (inl e) = rw (e, link-procs) (ones x (rw (e, s .procs) at c))
+    go a i x c (inr n) = rw (link-other a n) (zeros a x (i .0) n c)
+
+-- ---- the judged words stay
+pub record Kept (m m′ : List ℕ) : Type 0 where
+  pub size : length m′ ≡ length m
+  pub fixed : (a : ℕ) → 128 ≤ a → a < 352 → getD m′ a 0 ≡ getD m a 0
+  pub words : (p j : ℕ) → Page p → j ≤ 7 → getD m′ (p * 32 + j) 0 ≡ getD m (p * 32 + j) 0
+  pub state : (p : ℕ) → Page p → getD m′ (p * 32 + 12) 0 ≡ getD m (p * 32 + 12) 0
+
+module _ {m m′ : List ℕ} (k : Kept m m′) where
+  kept-heads : {ps : List ℕ} {L : Lists} → Sep ps L → (a : ℕ) → Among ps a → getD m′ a 0 ≡ getD m a 0
+  kept-heads {ps} {L} s a h = go (head-place ps a h)
+    where
+      go : Place ps a → getD m′ a 0 ≡ getD m a 0
+      go (int n u v) = k .fixed a (omega arith) (omega arith)
+      go (three u v w) = k .fixed a (omega arith) (omega arith)
+      go (grant u v) = k .fixed a (omega arith) (omega arith)
+      go (slot t) = rw (t .is) (k .words (t .page) (t .word) (proc-page s (t .page) (t .proc)) (omega arith))
+
+  kept-sems : {ps : List ℕ} {L : Lists} → Sep ps L → (a : ℕ) → 1 ≤ count (a + 1) (queues ps) → getD m′ a 0 ≡ getD m a 0
+  kept-sems {ps} s a h = go (seat-of ps a h)
+    where
+      go : Seat ps a → getD m′ a 0 ≡ getD m a 0
+      go (line n u e) = k .fixed a (omega arith) (omega arith)
+      go (page e) = k .fixed a (omega arith) (omega arith)
+      go (own p u e) = rw e (k .words p 3 (proc-page s p u) (omega arith))
+
+  pub mem-kept : {ps : List ℕ} {L : Lists} {W : View} → Sep ps L → Mem m ps L W → Mem m′ ps L W
+  mem-kept {ps} {L} {W} s x =
+      let p = x .reads .words in
+      let f = x .reads .fixed in
+      record {
+        size = k .size ∙ x .size;
+        holds = holds-kept m m′ ps L s (kept-heads s) (λ a y h n c. k .words y 0 (all-pages s a y h c) (omega arith))
+            (λ y h. k .words y 1 (proc-page s y h) (omega arith)) (x .holds);
+        reads = record {
+          words = record {
+            note = λ y h n. k .words y 1 h (omega arith) ∙ p .note y h n;
+            reason = λ y h. k .words y 2 h (omega arith) ∙ p .reason y h;
+            label = λ y h. k .words y 7 h (omega arith) ∙ p .label y h;
+            state = λ y h. k .state y h ∙ p .state y h;
+          };
+          fixed = record {
+            clock = λ a h i. k .fixed a (omega arith) (omega arith) ∙ f .clock a h i;
+            turn = λ a h i. k .fixed a (omega arith) (omega arith) ∙ f .turn a h i;
+            code = λ i h. k .fixed (256 + 2 * i) (omega arith) (omega arith) ∙ f .code i h;
+            next = k .fixed 288 (omega arith) (omega arith) ∙ f .next;
+            entry = λ i h. k .fixed (289 + i) (omega arith) (omega arith) ∙ f .entry i h;
+          };
+          sems = λ a h. kept-sems s a h ∙ x .reads .sems a h;
+        };
+      }
+
+  pub base-kept : {ps : List ℕ} {L : Lists} {W : View} {hs : List ℕ} {g : ℕ} → Base m ps L W hs g → Base m′ ps L W hs g
+  base-kept b = record { mem = mem-kept (b .facts .sep) (b .mem); facts = b .facts; all = b .all }
+
+  pub inv-kept : {ps : List ℕ} {L : Lists} {W : View} → Inv m ps L W → Inv m′ ps L W
+  inv-kept i = record { base = base-kept (i .base); best = i .best }
+
+  pub kept-keeps : WellFormed m → WellFormed m′
+  kept-keeps w = well-formed (inv-kept (invariant w))
+
+pub kept-refl : (m : List ℕ) → Kept m m
+kept-refl m = record { size = refl; fixed = λ a i j. refl; words = λ p j h i. refl; state = λ p h. refl }
+
+-- ---- a store to a word that is not judged
+pub record Quiet (b : ℕ) : Type 0 where
+  pub fixed : (a : ℕ) → 128 ≤ a → a < 352 → a ≢ b
+  pub words : (p j : ℕ) → Page p → j ≤ 7 → p * 32 + j ≢ b
+  pub state : (p : ℕ) → Page p → p * 32 + 12 ≢ b
+
+pub kept-set : {m m′ : List ℕ} (b v : ℕ) → Quiet b → Kept m m′ → Kept m (set m′ b v)
+kept-set {m} {m′} b v q k = record {
+  size = simp length-set (k .size);
+  fixed = λ a i j. other m′ b v a (q .fixed a i j) ∙ k .fixed a i j;
+  words = λ p j h i. other m′ b v (p * 32 + j) (q .words p j h i) ∙ k .words p j h i;
+  state = λ p h. other m′ b v (p * 32 + 12) (q .state p h) ∙ k .state p h;
+}
+
+pub quiet-low : (b : ℕ) → b < 128 → Quiet b
+quiet-low b u = record { fixed = λ a i j. omega arith; words = λ p j h i. omega arith; state = λ p h. omega arith }
+
+pub quiet-mid : (b : ℕ) → 352 ≤ b → b < 7552 → Quiet b
+quiet-mid b u v = record { fixed = λ a i j. omega arith; words = λ p j h i. omega arith; state = λ p h. omega arith }
+
+pub quiet-word : (q w b : ℕ) → Page q → 8 ≤ w → w < 32 → w ≢ 12 → b ≡ q * 32 + w → Quiet b
+quiet-word q w b g l u n e = record { fixed = λ a i j. omega arith; words = λ p j h i. omega arith; state = λ p h. omega arith }
+
+-- ---- only words of page q change
+pub record Only (q : ℕ) (m m′ : List ℕ) : Type 0 where
+  pub size : length m′ ≡ length m
+  pub below : (a : ℕ) → a < q * 32 → getD m′ a 0 ≡ getD m a 0
+  pub above : (a : ℕ) → q * 32 + 32 ≤ a → getD m′ a 0 ≡ getD m a 0
+
+pub only-refl : (q : ℕ) (m : List ℕ) → Only q m m
+only-refl q m = record { size = refl; below = λ a h. refl; above = λ a h. refl }
+
+pub only-set : {q : ℕ} {m m′ : List ℕ} (b v : ℕ) → q * 32 ≤ b → b < q * 32 + 32 → Only q m m′ → Only q m (set m′ b v)
+only-set {q} {m} {m′} b v l u o = record {
+  size = simp length-set (o .size);
+  below = λ a h. other m′ b v a (omega arith) ∙ o .below a h;
+  above = λ a h. other m′ b v a (omega arith) ∙ o .above a h;
+}
+
+-- n words copied to words of page q
+pub only-copy : {q : ℕ} {m : List ℕ} (n : ℕ) (m′ : List ℕ) (a b : ℕ) → q < 256 → q * 32 ≤ b → b + n ≤ q * 32 + 32 → Only q m m′ → Only q m (copy n m′ a b)
+unfolding Address.copy
+only-copy zero m′ a b i l u o = o
+only-copy (suc zero) m′ a b i l u o = only-set b (getD m′ a 0) l (omega arith) o
+only-copy (suc (suc n)) m′ a b i l u o =
+    let w : (b + 1) % 8192 ≡ b + 1 = omega arith in
+    rw w (only-copy (suc n) (set m′ b (getD m′ a 0)) ((a + 1) % 8192) (b + 1) i (omega arith) (omega arith) (only-set b (getD m′ a 0) l (omega arith) o))
+
+-- the first words of page q cleared
+pub only-zeroed : {q : ℕ} {m : List ℕ} (n : ℕ) (m′ : List ℕ) → q < 256 → n ≤ 32 → Only q m m′ → Only q m (zeroed n m′ (q * 32 + 0))
+unfolding Address.zeroed
+only-zeroed zero m′ i u o = o
+only-zeroed {q} (suc n) m′ i u o =
+    let w : (q * 32 + 0 + n) % 8192 ≡ q * 32 + n = omega arith in
+    rw w (only-zeroed n (set m′ (q * 32 + n) 0) i (omega arith) (only-set (q * 32 + n) 0 (omega arith) (omega arith) o))

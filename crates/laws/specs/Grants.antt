@@ -1,0 +1,222 @@
+-- Pages: "A page given back goes to the first waiter as its grant and wakes it; with no waiter, to the end of the free list"; "SME and CRP use the page
+-- granted to them, else the first free one". The model's steps. Assumes nothing.
+use mathlib.Core.Path.{_≡_, refl, sym, ap, _∙_}
+use mathlib.Core.Logic.{_≢_, _⊎_, inl, inr}
+use mathlib.Core.List.{List, [], _∷_, _++_}
+use Prim.Native.Nat.{ℕ, zero, suc, _+_, _-_, _*_, _%_, _≤_, _<_}
+use native.Mathlib.Omega.{arith}
+use lib.ListN.{length, getD, set}
+use lib.Dec.{eqb}
+use borrow.Author.Tests.{ne-eqb}
+use Rattle.model.specs.Page as Page
+use Rattle.model.specs.Page.Taken.{took}
+use Rattle.model.specs.Bytes.{takeFree, takePage, grantPage, giveBack}
+use Rattle.model.specs.Lists.{hit, count, Lists, sum, each-of, some, uses, queues}
+use Rattle.laws.specs.Count.{hit-self, hit-other, hit-or, one-hit}
+use Rattle.laws.specs.Chain.{Page, Chain}
+use Rattle.laws.specs.Queues.{upd, upd-same, upd-other, upd-swap}
+use Rattle.laws.specs.Heads.{sum-one, sum-skip}
+use Rattle.laws.specs.Uses.{Sep, proc-page, proc-once}
+use Rattle.laws.specs.Places.{in-free, in-asking, asking-once, grant-once, grant-low, wait-page}
+use Rattle.laws.specs.Inv.{View, Facts, Base}
+use Rattle.laws.specs.Views.{put1, withSem}
+use Rattle.laws.specs.Cells.{chain0, grant-mem}
+use Rattle.laws.specs.Changes.{uses-upd, queue-same, uses-sep, facts-uses, facts-same, stock-same, hand-page, page-sem}
+use Rattle.laws.specs.Wake.{woken, woken-proc, facts-wake, wake-mem}
+use Rattle.laws.specs.Hands.{take-free, give-free, take-grant}
+
+-- two of one name
+each-one : (f : ℕ → ℕ) (x : ℕ) (ps : List ℕ) → 1 ≤ count x ps → 1 ≤ count (f x) (each-of f ps)
+each-one f x [] h = absurd (omega arith)
+each-one f x (y ∷ ps) h = go (hit-or x y) (each-one f x ps)
+  where
+    go : (x ≡ y) ⊎ (x ≢ y) → (1 ≤ count x ps → 1 ≤ count (f x) (each-of f ps)) → 1 ≤ count (f x) (each-of f (y ∷ ps))
+    go (inl e) ih = omega (arith, one-hit (f x) (f y) (ap f e))
+    go (inr n) ih = omega (arith, ih (omega (arith, hit-other x y n)))
+
+pub each-two : (f : ℕ → ℕ) (x p : ℕ) (ps : List ℕ) → x ≢ p → f x ≡ f p → 1 ≤ count x ps → 1 ≤ count p ps → 2 ≤ count (f p) (each-of f ps)
+each-two f x p [] n e h i = absurd (omega arith)
+each-two f x p (y ∷ ps) n e h i = go (hit-or x y) (hit-or p y) (each-two f x p ps n e)
+  where
+    go : (x ≡ y) ⊎ (x ≢ y) → (p ≡ y) ⊎ (p ≢ y) → (1 ≤ count x ps → 1 ≤ count p ps → 2 ≤ count (f p) (each-of f ps))
+        → 2 ≤ count (f p) (each-of f (y ∷ ps))
+    go (inl a) (inl b) ih = absurd (n (a ∙ sym b))
+    go (inl a) (inr b) ih = omega (arith, one-hit (f p) (f y) (sym e ∙ ap f a), each-one f p ps (omega (arith, hit-other p y b)))
+    go (inr a) (inl b) ih = let c = each-one f x ps (omega (arith, hit-other x y a)) in omega (arith, one-hit (f p) (f y) (ap f b), rw e at c)
+    go (inr a) (inr b) ih = omega (arith, ih (omega (arith, hit-other x y a)) (omega (arith, hit-other p y b)))
+
+pub some-is : (q : ℕ) → q ≢ 0 → some q ≡ q ∷ []
+some-is zero n = absurd (n refl)
+some-is (suc q) n = refl
+
+nil-count : (xs : List ℕ) → length xs ≡ 0 → (z : ℕ) → count z xs ≡ 0
+nil-count [] h z = refl
+nil-count (x ∷ xs) h z = absurd (omega arith)
+
+-- ---- "to the first waiter as its grant and wakes it"
+module _ {m : List ℕ} {ps : List ℕ} {L : Lists} {W : View} {hs : List ℕ} {g q : ℕ} (b : Base m ps L W (q ∷ hs) g) (p : ℕ) (ws : List ℕ)
+    (e : L 246 ≡ p ∷ ws) where
+  s : Sep ps L
+  s = b .facts .sep
+
+  abbrev n : ℕ
+  n = W .label p % 16
+
+  abbrev A : Lists
+  A = upd L 246 ws
+
+  abbrev K : Lists
+  K = upd A (320 + n) (some q)
+
+  pub waiter-proc : 1 ≤ count p ps
+  waiter-proc = woken-proc 245 p [] ws (b .facts) (page-sem ps) e
+
+  fw : Facts ps A (woken W 245 p) g
+  fw = facts-wake 245 p [] ws (b .facts) (page-sem ps) e
+
+  hand-is : some q ≡ q ∷ []
+  hand-is = some-is q (λ z. let t = hand-page b q (omega (arith, hit-self q)) in omega arith)
+
+  bare-p : length (L (320 + n)) ≡ 0
+  bare-p = b .facts .granted .bare p (rw e (omega (arith, hit-self p))) .1
+
+  more : (z : ℕ) → sum z K (uses ps) ≡ sum z L (uses ps) + hit (eqb z q)
+  more z =
+      omega (
+        arith,
+        uses-upd (fw .sep) (320 + n) (grant-once s n (omega arith)) (omega arith) (some q) z,
+        ap (count z) hand-is,
+        sum-skip z L 246 ws (uses ps) (asking-once s .away),
+        nil-count (L (320 + n)) bare-p z,
+        ap (count z) (upd-other L 246 (320 + n) ws (omega arith)),
+      )
+
+  -- another that waits has another name
+  twins : (x : ℕ) → 1 ≤ count x (A 246) → W .label x % 16 ≡ n → ⊥
+  twins x h d =
+      let i : 1 ≤ count x ws = rw (upd-same L 246 ws) at h in
+      let hx : 1 ≤ count x (L 246) = rw e (omega arith) in
+      let no : x ≢ p = λ z.
+      omega (arith, ap (λ (y : ℕ). count y ws) z, ap (count p) e, hit-self p, sum-one p L 246 (queues ps) (omega arith), s .waits p, proc-once s p) in
+      omega (arith, each-two (λ y. W .label y % 16) x p ps no d (wait-page s 246 x (omega arith) hx) waiter-proc, b .facts .names .differ p waiter-proc)
+
+  facts-grant : Facts ps K (woken W 245 p) g
+  facts-grant =
+      let i = grant-once s n (omega arith) in
+      let o : (c : ℕ) → c ≢ 320 + n → K c ≡ A c = λ c d. upd-other A (320 + n) c (some q) d in
+      facts-same (facts-uses K (woken W 245 p .sem) (record {
+        sep = uses-sep (fw .sep) (320 + n) i (omega arith) (some q) (λ z. omega (arith, more z, b .all z));
+        same = queue-same (fw .sep) (320 + n) i (omega arith) (some q);
+        sems = λ a h. rw (stock-same A K (o 244 (omega arith)) a) (fw .sems a h);
+        bare = λ x h. rw (o 244 (omega arith), o (320 + W .label x % 16) (λ d. twins x h (omega arith))) (fw .granted .bare x h);
+        known = λ k h d c. known k h d c (hit-or k n);
+        mail = λ y w h u v. rw (o (y * 32 + w) (let t = proc-page s y h in omega arith)) (fw .mail y w h u v);
+        none = λ y x h j. rw (o (y * 32 + 5) (let t = proc-page s y h in omega arith)) (fw .own y h x j .none);
+      }) fw)
+    where
+      known : (k : ℕ) → k < 32 → k ≢ g → length (K (320 + k)) ≢ 0 → (k ≡ n) ⊎ (k ≢ n) → count k (each-of (λ y. W .label y % 16) ps) ≡ 1
+      known k h d c (inl t) = rw t (b .facts .names .differ p waiter-proc)
+      known k h d c (inr t) = fw .granted .known k h d (rw (upd-other A (320 + n) (320 + k) (some q) (omega arith)) at c)
+
+  swap : upd (upd L (320 + n) (some q)) 246 ws ≡ K
+  swap = upd-swap L (320 + n) 246 (some q) ws (omega arith)
+
+  pub sep-G : Sep ps (upd L (320 + n) (some q))
+  sep-G = uses-sep s (320 + n) (grant-once s n (omega arith)) (omega arith) (some q) (λ z.
+      omega (
+        arith,
+        uses-upd s (320 + n) (grant-once s n (omega arith)) (omega arith) (some q) z,
+        ap (count z) hand-is,
+        nil-count (L (320 + n)) bare-p z,
+        b .all z,
+      ))
+
+  pub give-grant : Base (grantPage m p q) ps K (woken W 245 p) hs g
+  unfolding Page.grantPage
+  give-grant =
+      let pg = proc-page s p waiter-proc in
+      let x1 = grant-mem n q (omega arith) s (b .mem) in
+      let e2 = upd-other L (320 + n) 246 (some q) (omega arith) ∙ e in
+      rw (b .mem .reads .words .label p pg) (record {
+        mem = rw swap at (wake-mem 245 p [] ws sep-G (rw swap (facts-grant .sep)) x1 (page-sem ps) pg e2);
+        facts = facts-grant;
+        all = λ z. omega (arith, more z, b .all z);
+      })
+
+-- ---- give back
+-- what is left after a step: some lists and some words, but the same running one
+pub record Gave (m : List ℕ) (ps : List ℕ) (hs : List ℕ) (g : ℕ) (W : View) : Type 0 where
+  pub lists : Lists
+  pub view : View
+  pub base : Base m ps lists view hs g
+  pub low : view .low ≡ W .low
+
+-- some invariant holds
+pub record Any (m : List ℕ) (hs : List ℕ) (g : ℕ) : Type 0 where
+  pub procs : List ℕ
+  pub lists : Lists
+  pub view : View
+  pub base : Base m procs lists view hs g
+
+pub any-of : {m : List ℕ} {ps : List ℕ} {L : Lists} {W : View} {hs : List ℕ} {g : ℕ} → Base m ps L W hs g → Any m hs g
+any-of {ps = ps} {L = L} {W = W} b = record { procs = ps; lists = L; view = W; base = b }
+
+pub give-back : {m : List ℕ} {ps : List ℕ} {L : Lists} {W : View} {hs : List ℕ} {g q : ℕ} → Base m ps L W (q ∷ hs) g → Gave (giveBack m q) ps hs g W
+unfolding Page.giveBack
+give-back {m} {ps} {L} {W} {hs} {g} {q} b = go (L 246) refl (chain0 (b .facts .sep) (b .mem) 246 (in-asking ps, grant-low 246 (omega arith)) (omega arith))
+  where
+    go : (xs : List ℕ) → L 246 ≡ xs → Chain m 0 246 (L 246) → Gave (giveBack m q) ps hs g W
+    go [] e c = let z : getD m 246 0 ≡ 0 = rw e at c in rw z (record {
+      lists = upd L 244 (L 244 ++ q ∷ []);
+      view = withSem W (put1 (W .sem) 245 ((W .sem 245 + 1) % 256));
+      base = give-free b e;
+      low = refl;
+    })
+    go (p ∷ ws) e c =
+        let t = rw e at c in
+        let pg = proc-page (b .facts .sep) p (waiter-proc b p ws e) in
+        rw (t .0, ne-eqb p 0 (omega arith)) (record {
+          lists = upd (upd L 246 ws) (320 + W .label p % 16) (some q);
+          view = woken W 245 p;
+          base = give-grant b p ws e;
+          low = refl;
+        })
+
+-- ---- take a page
+pub data Takes (m : List ℕ) (p : ℕ) (ps : List ℕ) (L : Lists) (W : View) (hs : List ℕ) (g : ℕ) : Type 0 where
+  gets : (q : ℕ) (m1 : List ℕ) → takePage m p ≡ took q m1 → q ≢ 0 → (t : Gave m1 ps (q ∷ hs) g W) → t .view .label ≡ W .label → Takes m p ps L W hs g
+  lacks : takePage m p ≡ took 0 m → L 244 ≡ [] → length (L (320 + W .label p % 16)) ≡ 0 → Takes m p ps L W hs g
+
+pub take-page : {m : List ℕ} {ps : List ℕ} {L : Lists} {W : View} {hs : List ℕ} {g : ℕ} (p : ℕ) → 1 ≤ count p ps → Base m ps L W hs g
+    → Takes m p ps L W hs g
+unfolding Page.takePage Page.firstFree
+take-page {m} {ps} {L} {W} {hs} {g} p h b = go (getD m (320 + n) 0) refl (L 244) refl
+  where
+    n : ℕ
+    n = W .label p % 16
+
+    at-label : getD m (p * 32 + 7) 0 ≡ W .label p
+    at-label = b .mem .reads .words .label p (proc-page (b .facts .sep) p h)
+
+    free : Chain m 0 244 (L 244)
+    free = chain0 (b .facts .sep) (b .mem) 244 (in-free ps, grant-low 244 (omega arith)) (omega arith)
+
+    go : (x : ℕ) → getD m (320 + W .label p % 16) 0 ≡ x → (xs : List ℕ) → L 244 ≡ xs → Takes m p ps L W hs g
+    go zero e [] f =
+        let c : getD m 244 0 ≡ 0 = rw f at free in
+        lacks (rw (at-label, e, c)) f (ap length (b .mem .holds .grant (W .label p % 16) (omega arith)) ∙ ap (λ (x : ℕ). length (some x)) e)
+    go zero e (q ∷ fs) f =
+        let c = rw f at free in
+        gets q (takeFree m q) (rw (at-label, e, c .0, ne-eqb q 0 (omega arith))) (omega arith) (record {
+          lists = upd L 244 fs;
+          view = withSem W (put1 (W .sem) 245 ((W .sem 245 + 255) % 256));
+          base = take-free q fs b f;
+          low = refl;
+        }) refl
+    go (suc x) e xs f =
+        gets (suc x) (set m (320 + W .label p % 16) 0) (rw (at-label, e, ne-eqb (suc x) 0 (omega arith))) (omega arith) (record {
+          lists = upd L (320 + W .label p % 16) [];
+          view = W;
+          base = take-grant b (W .label p % 16) (suc x) (omega arith) (b .mem .holds .grant (W .label p % 16) (omega arith) ∙ ap some e);
+          low = refl;
+        }) refl

@@ -1,0 +1,377 @@
+-- Instructions: CRP, "created stopped, all else zero". A page in hand becomes a processor: the heads of lists grow by three, all empty. Assumes nothing.
+use mathlib.Core.Path.{_≡_, refl, sym, ap, _∙_}
+use mathlib.Core.Logic.{_≢_, _⊎_, inl, inr}
+use mathlib.Core.List.{List, [], _∷_, _++_}
+use Prim.Native.Nat.{ℕ, _+_, _-_, _*_, _/_, _%_, _≤_, _<_}
+use native.Mathlib.Omega.{arith}
+use lib.ListN.{length, getD, set, length-set}
+use lib.Dec.{eqb}
+use Rattle.model.specs.Map.{less}
+use Rattle.model.specs.Bytes.{join}
+use Rattle.model.specs.Lists.{hit, count, Lists, sum, linkOf, uses, queues}
+use Rattle.laws.specs.Count.{hit-self, hit-other, hit-or, one-hit, count-append}
+use Rattle.laws.specs.Chain.{Page, Chain, last, last-in, join-is, off-page}
+use Rattle.laws.specs.Queues.{upd, upd-same, upd-other, link-procs, rep-join}
+use Rattle.laws.specs.Heads.{sum-upd, sum-ext, sum-skip, sum-pos, Seat, seat-of}
+use Rattle.laws.specs.Heads.Seat.{line, page, own}
+use Rattle.laws.specs.Uses.{Among, Head, Sep, proc-page, list-short, good, apart, single}
+use Rattle.laws.specs.Places.{in-uses, in-queues, in-procs, in-free, in-asking, in-own, in-q, in-grant, int-queue, grant-low}
+use Rattle.laws.specs.Inv.{View, bearers, Label, Message, Waits, stock, stock-else, Facts, Mem, Base}
+use Rattle.laws.specs.Frames.{other}
+use Rattle.laws.specs.Views.{put1, put1-same, put1-other, withSem}
+use Rattle.laws.specs.Changes.{stock-same, hand-page, hand-out, hand-free}
+use Rattle.laws.specs.Hands.{in-hand}
+use Rattle.laws.specs.Members.{names-more, uses-more, queues-more, uses-sum, queues-sum, head-off, procs-once}
+
+append-nil : (xs : List ℕ) → xs ++ [] ≡ xs
+append-nil [] = refl
+append-nil (x ∷ xs) = ap {B = List ℕ} (λ l. x ∷ l) (append-nil xs)
+
+-- ---- the new page q: its words, and that nobody bears its name
+pub record New (m : List ℕ) (ps : List ℕ) (W : View) (q : ℕ) : Type 0 where
+  pub empty : (w : ℕ) → 3 ≤ w → w ≤ 6 → getD m (q * 32 + w) 0 ≡ 0
+  pub label : Label (W .label q)
+  pub unnamed : bearers (W .label) ps (W .label q % 16) ≡ 0
+  pub bit : W .state q % 128 / 64 ≡ 0
+  pub zeros : W .state q % 64 / 16 ≡ 0
+  pub reason : W .reason q ≡ 0
+
+module _ {m : List ℕ} {ps : List ℕ} {L : Lists} {W : View} {hs : List ℕ} {g : ℕ} (q : ℕ) (b : Base m ps L W (q ∷ hs) g) (n : New m ps W q) where
+  s : Sep ps L
+  s = b .facts .sep
+
+  pg : Page q
+  pg = hand-page b q (in-hand b)
+
+  out : count q ps ≡ 0
+  out = hand-out b q (in-hand b)
+
+  free : (a : ℕ) → Among ps a → count q (L a) ≡ 0
+  free = hand-free b q (in-hand b)
+
+  abbrev P : List ℕ
+  P = ps ++ q ∷ []
+
+  abbrev A : Lists
+  A = upd L 247 P
+
+  -- the lists then
+  pub grown : Lists
+  grown = upd (upd (upd A (q * 32 + 4) []) (q * 32 + 5) []) (q * 32 + 6) []
+
+  new-list : (w : ℕ) → 4 ≤ w → w ≤ 6 → grown (q * 32 + w) ≡ []
+  unfolding grown
+  new-list w l u = go (hit-or w 6) (hit-or w 5)
+    where
+      go : (w ≡ 6) ⊎ (w ≢ 6) → (w ≡ 5) ⊎ (w ≢ 5) → grown (q * 32 + w) ≡ []
+      go (inl e) f = rw (e, upd-same)
+      go (inr e) (inl f) = rw (f, upd-other (upd (upd A (q * 32 + 4) []) (q * 32 + 5) []) (q * 32 + 6) (q * 32 + 5) [] (omega arith), upd-same)
+      go (inr e) (inr f) =
+          let d : w ≡ 4 = omega arith in
+          rw (
+            d,
+            upd-other (upd (upd A (q * 32 + 4) []) (q * 32 + 5) []) (q * 32 + 6) (q * 32 + 4) [] (omega arith),
+            upd-other (upd A (q * 32 + 4) []) (q * 32 + 5) (q * 32 + 4) [] (omega arith),
+            upd-same,
+          )
+
+  old-list : (a : ℕ) → a ≢ q * 32 + 4 → a ≢ q * 32 + 5 → a ≢ q * 32 + 6 → grown a ≡ A a
+  unfolding grown
+  old-list a n4 n5 n6 =
+      rw (
+        upd-other (upd (upd A (q * 32 + 4) []) (q * 32 + 5) []) (q * 32 + 6) a [] n6,
+        upd-other (upd A (q * 32 + 4) []) (q * 32 + 5) a [] n5,
+        upd-other A (q * 32 + 4) a [] n4,
+      )
+
+  -- at a head of before
+  at-old : (a : ℕ) → Among ps a → grown a ≡ A a
+  at-old a h =
+      old-list a (head-off s q 4 a pg (omega arith) out h) (head-off s q 5 a pg (omega arith) out h) (head-off s q 6 a pg (omega arith) out h)
+
+  at-same : (a : ℕ) → Among ps a → a ≢ 247 → grown a ≡ L a
+  at-same a h d = at-old a h ∙ upd-other L 247 a P d
+
+  -- a head is one of before, or one of the three new ones
+  data Which (a : ℕ) : Type 0 where
+    old : Among ps a → Which a
+    fresh : (w : ℕ) → 4 ≤ w → w ≤ 6 → a ≡ q * 32 + w → Which a
+
+  pn : ps ++ [] ≡ ps
+  pn = append-nil ps
+
+  more-uses : (a : ℕ) → count a (uses P) ≡ count a (uses ps) + (hit (eqb a (q * 32 + 5)) + hit (eqb a (q * 32 + 6)))
+  more-uses a = rw pn at (uses-more ps q [] a)
+
+  more-queues : (a : ℕ) → count a (queues P) ≡ count a (queues ps) + hit (eqb a (q * 32 + 4))
+  more-queues a = rw pn at (queues-more ps q [] a)
+
+  which : (a : ℕ) → Among P a → Which a
+  which a h = go (hit-or a (q * 32 + 4)) (hit-or a (q * 32 + 5)) (hit-or a (q * 32 + 6))
+    where
+      go : (a ≡ q * 32 + 4) ⊎ (a ≢ q * 32 + 4) → (a ≡ q * 32 + 5) ⊎ (a ≢ q * 32 + 5) → (a ≡ q * 32 + 6) ⊎ (a ≢ q * 32 + 6) → Which a
+      go (inl e) f i = fresh 4 (omega arith) (omega arith) e
+      go (inr d) (inl e) i = fresh 5 (omega arith) (omega arith) e
+      go (inr d) (inr e) (inl f) = fresh 6 (omega arith) (omega arith) f
+      go (inr d) (inr e) (inr f) =
+          old (omega (
+            arith,
+            h,
+            count-append a (uses P) (queues P),
+            count-append a (uses ps) (queues ps),
+            more-uses a,
+            more-queues a,
+            hit-other a (q * 32 + 4) d,
+            hit-other a (q * 32 + 5) e,
+            hit-other a (q * 32 + 6) f,
+          ))
+
+  -- a wait queue
+  which-queue : (a : ℕ) → 1 ≤ count a (queues P) → (1 ≤ count a (queues ps)) ⊎ (a ≡ q * 32 + 4)
+  which-queue a h = go (hit-or a (q * 32 + 4))
+    where
+      go : (a ≡ q * 32 + 4) ⊎ (a ≢ q * 32 + 4) → (1 ≤ count a (queues ps)) ⊎ (a ≡ q * 32 + 4)
+      go (inl e) = inr e
+      go (inr d) = inl (omega (arith, more-queues a, hit-other a (q * 32 + 4) d))
+
+  which-proc : (y : ℕ) → 1 ≤ count y P → (1 ≤ count y ps) ⊎ (y ≡ q)
+  which-proc y h = go (hit-or y q)
+    where
+      go : (y ≡ q) ⊎ (y ≢ q) → (1 ≤ count y ps) ⊎ (y ≡ q)
+      go (inl e) = inr e
+      go (inr d) = inl (omega (arith, count-append y ps (q ∷ []), hit-other y q d))
+
+  not-q : (y : ℕ) → 1 ≤ count y ps → y ≢ q
+  not-q y h e = omega (arith, ap (λ (z : ℕ). count z ps) e, out)
+
+  -- ---- sums
+  count-P : (z : ℕ) → count z P ≡ count z ps + hit (eqb z q)
+  count-P z = omega (arith, count-append z ps (q ∷ []))
+
+  sum-uses : (z : ℕ) → sum z grown (uses P) ≡ sum z L (uses ps) + hit (eqb z q)
+  sum-uses z =
+      omega (
+        arith,
+        rw pn at (uses-sum ps q [] z grown),
+        ap (count z) (new-list 5 (omega arith) (omega arith)),
+        ap (count z) (new-list 6 (omega arith) (omega arith)),
+        sum-ext z grown A (uses ps) (λ a h. at-old a (in-uses ps a h)),
+        sum-upd z L 247 P (uses ps) (procs-once s .here),
+        count-P z,
+        ap (count z) (s .procs),
+      )
+
+  sum-queues : (z : ℕ) → sum z grown (queues P) ≡ sum z L (queues ps)
+  sum-queues z =
+      omega (
+        arith,
+        rw pn at (queues-sum ps q [] z grown),
+        ap (count z) (new-list 4 (omega arith) (omega arith)),
+        sum-ext z grown A (queues ps) (λ a h. at-old a (in-queues ps a h)),
+        sum-skip z L 247 P (queues ps) (procs-once s .away),
+      )
+
+  idle-q : sum q L (queues ps) ≡ 0
+  idle-q = sum-pos q L (queues ps) (λ a h. free a (in-queues ps a h))
+
+  pub grow-sep : Sep P grown
+  grow-sep = record {
+    procs = at-old 247 (in-procs ps) ∙ upd-same L 247 P;
+    most = λ z. omega (arith, sum-uses z, b .all z);
+    waits = λ z. omega (arith, sum-queues z, s .waits z, count-P z);
+  }
+
+  -- ---- the sentences
+  named : (k : ℕ) → bearers (W .label) P k ≡ bearers (W .label) ps k + hit (eqb k (W .label q % 16))
+  named k = rw pn at (names-more ps q [] (λ p. W .label p % 16) k)
+
+  other-name : (k : ℕ) → 1 ≤ bearers (W .label) ps k → hit (eqb k (W .label q % 16)) ≡ 0
+  other-name k h = hit-other k (W .label q % 16) (λ e. omega (arith, ap (bearers (W .label) ps) e, n .unnamed))
+
+  abbrev X : View
+  X = withSem W (put1 (W .sem) (q * 32 + 3) 0)
+
+  pub grow-facts : Facts P grown X g
+  grow-facts =
+      let f = b .facts in
+      let wk : (k : ℕ) → k < 54 → grown (132 + 2 * k) ≡ L (132 + 2 * k) = λ k h. at-same (132 + 2 * k) (in-queues ps (132 + 2 * k) (int-queue ps k h))
+      (omega arith) in
+      let wa = at-same 246 (in-asking ps) (omega arith) in
+      record {
+        sep = grow-sep;
+        names = record { differ = λ y h. differ y (which-proc y h); range = λ y h. range y (which-proc y h) };
+        seats = record {
+          bit = λ y h. bit y (which-proc y h);
+          zeros = λ y h. zeros y (which-proc y h);
+          served = λ k h y c. f .seats .served k h y (rw (wk k h) at c);
+          asking = λ y c. f .seats .asking y (rw wa at c);
+          quiet = λ y h z. quiet y z (which-proc y h);
+        };
+        own = λ y h x c. own y x c (which-proc y h);
+        sems = λ a h. sems a (which-queue (a + 1) h);
+        granted = record {
+          bare = λ y c.
+              rw (at-same 244 (in-free ps) (omega arith), at-same (320 + W .label y % 16) (in-grant ps (W .label y % 16) (omega arith)) (omega arith))
+              (f .granted .bare y (rw wa at c));
+          known = λ k h d c.
+              let t = f .granted .known k h d (rw (at-same (320 + k) (in-grant ps k h) (omega arith)) at c) in
+              omega (arith, named k, other-name k (omega arith));
+        };
+        mail = λ y w h u v x c. mail y w u v x c (which-proc y h);
+        runs = record {
+          idle = f .runs .idle;
+          listed = λ d. let t = f .runs .listed d in omega (arith, count-P (W .low 248), hit-other (W .low 248) q (not-q (W .low 248) (omega arith)));
+          tag = f .runs .tag;
+        };
+        codes = f .codes;
+        clock = f .clock;
+        faults = f .faults;
+      }
+    where
+      differ : (y : ℕ) → (1 ≤ count y ps) ⊎ (y ≡ q) → bearers (W .label) P (W .label y % 16) ≡ 1
+      differ y (inl h) = let t = b .facts .names .differ y h in omega (arith, named (W .label y % 16), other-name (W .label y % 16) (omega arith))
+      differ y (inr e) = rw e (omega (arith, named (W .label q % 16), n .unnamed, hit-self (W .label q % 16)))
+
+      range : (y : ℕ) → (1 ≤ count y ps) ⊎ (y ≡ q) → Label (W .label y)
+      range y (inl h) = b .facts .names .range y h
+      range y (inr e) = rw e (n .label)
+
+      bit : (y : ℕ) → (1 ≤ count y ps) ⊎ (y ≡ q) → sum y grown (queues P) ≡ W .state y % 128 / 64
+      bit y (inl h) = sum-queues y ∙ b .facts .seats .bit y h
+      bit y (inr e) = rw e (sum-queues q ∙ idle-q ∙ sym (n .bit))
+
+      zeros : (y : ℕ) → (1 ≤ count y ps) ⊎ (y ≡ q) → W .state y % 64 / 16 ≡ 0
+      zeros y (inl h) = b .facts .seats .zeros y h
+      zeros y (inr e) = rw e (n .zeros)
+
+      quiet : (y : ℕ) → W .state y % 128 / 64 ≡ 0 → (1 ≤ count y ps) ⊎ (y ≡ q) → W .reason y ≡ 0
+      quiet y z (inl h) = b .facts .seats .quiet y h z
+      quiet y z (inr e) = rw e (n .reason)
+
+      own : (y x : ℕ) → 1 ≤ count x (grown (y * 32 + 4)) → (1 ≤ count y ps) ⊎ (y ≡ q) → Waits (W .reason y) (W .note) (grown (y * 32 + 5)) y x
+      own y x c (inl h) =
+          let t = proc-page s y h in
+          rw (at-same (y * 32 + 5) (in-q ps y 5 (omega arith) (omega arith) h) (omega arith))
+          (b .facts .own y h x (rw (at-same (y * 32 + 4) (in-own ps y h) (omega arith)) at c))
+      own y x c (inr e) = let z = rw (e, new-list 4 (omega arith) (omega arith)) at c in absurd (omega arith)
+
+      sems : (a : ℕ) → (1 ≤ count (a + 1) (queues ps)) ⊎ (a + 1 ≡ q * 32 + 4) → put1 (W .sem) (q * 32 + 3) 0 a ≡ less (stock grown a) (length (grown (a + 1)))
+      sems a (inl h) =
+          let d : a ≢ q * 32 + 3 = λ e. head-off s q 4 (a + 1) pg (omega arith) out (in-queues ps (a + 1) h) (omega arith) in
+          let d7 : a + 1 ≢ 247 = λ e. omega (arith, ap (λ (y : ℕ). count y (queues ps)) e, procs-once s .away) in
+          rw (
+            put1-other (W .sem) (q * 32 + 3) 0 a d,
+            at-same (a + 1) (in-queues ps (a + 1) h) d7,
+            stock-same L grown (at-same 244 (in-free ps)
+                (omega arith)) a,
+          )
+          (b .facts .sems a h)
+      sems a (inr e) =
+          let d : a ≡ q * 32 + 3 = omega arith in
+          rw (put1-same (W .sem) (q * 32 + 3) 0 a d, e, new-list 4 (omega arith) (omega arith), stock-else grown a (omega arith))
+
+      mail : (y w : ℕ) → 5 ≤ w → w ≤ 6 → (x : ℕ) → 1 ≤ count x (grown (y * 32 + w)) → (1 ≤ count y ps) ⊎ (y ≡ q) → Message (W .note x) (W .reason x)
+      mail y w u v x c (inl h) =
+          let t = proc-page s y h in
+          b .facts .mail y w h u v x (rw (at-same (y * 32 + w) (in-q ps y w u v h) (omega arith)) at c)
+      mail y w u v x c (inr e) = let z = rw (e, new-list w (omega arith) v) at c in absurd (omega arith)
+
+  -- ---- the memory
+  -- the cell that ends the processor list
+  data Cell (c : ℕ) : Type 0 where
+    head : c ≡ 247 → Cell c
+    link : (z : ℕ) → 1 ≤ count z ps → c ≡ z * 32 + 1 → Cell c
+
+  end-cell : (xs : List ℕ) → ((z : ℕ) → 1 ≤ count z xs → 1 ≤ count z ps) → Cell (last 1 247 xs)
+  end-cell [] f = head refl
+  end-cell (x ∷ xs) f = let r = last-in 1 247 x xs in link (r .0) (f (r .0) (r .1)) (r .2)
+
+  abbrev c : ℕ
+  c = last 1 247 ps
+
+  abbrev m1 : List ℕ
+  m1 = set m (q * 32 + 1) 0
+
+  abbrev m2 : List ℕ
+  m2 = set m1 c q
+
+  joined : join m 247 1 q ≡ m2
+  joined =
+      let h : Head ps 247 = (in-procs ps, grant-low 247 (omega arith)) in
+      let ch = rw (link-procs, s .procs) at (b .mem .holds .rep 247 h) in
+      join-is m 1 247 q ps ch (omega (arith, ap length (s .procs), list-short s 247 (in-procs ps))) (omega (arith, pg)) (off-page q 1 1 ps (omega arith)
+      (omega arith) out)
+
+  -- a word that is neither q's word 1, nor word 1 of a processor, nor 247
+  same : (a : ℕ) → a ≢ q * 32 + 1 → a ≢ 247 → ((z : ℕ) → 1 ≤ count z ps → a ≢ z * 32 + 1) → getD m2 a 0 ≡ getD m a 0
+  same a n1 n7 nz = other m1 c q a (go (end-cell ps (λ z i. i))) ∙ other m (q * 32 + 1) 0 a n1
+    where
+      go : Cell c → a ≢ c
+      go (head e) = rw e n7
+      go (link z h e) = rw e (nz z h)
+
+  -- word j of a page, but 1
+  same-word : (y j : ℕ) → Page y → j < 32 → j ≢ 1 → getD m2 (y * 32 + j) 0 ≡ getD m (y * 32 + j) 0
+  same-word y j h l d = same (y * 32 + j) (omega arith) (omega (arith, h)) (λ z i. omega arith)
+
+  same-low : (a : ℕ) → a < 7552 → a ≢ 247 → getD m2 a 0 ≡ getD m a 0
+  same-low a l d = same a (omega (arith, pg)) d (λ z i. let t = proc-page s z i in omega arith)
+
+  pub grow-mem : Mem (join m 247 1 q) P grown X
+  grow-mem = rw joined (record {
+    size = simp length-set (b .mem .size);
+    holds = record {
+      rep = λ a h. rep a h (which a (h .0));
+      grant = λ k h.
+          rw (at-same (320 + k) (in-grant ps k h) (omega arith), same-low (320 + k) (omega arith) (omega arith)) (b .mem .holds .grant k h);
+    };
+    reads = record {
+      words = record {
+        note = λ y h i.
+            let d = hit-or y q in
+            same (y * 32 + 1) (note y i) (omega (arith, h)) (λ z j e. omega (arith, ap (λ (x : ℕ). count x ps) (row y z e), count-P y))
+            ∙ b .mem .reads .words .note y h (omega (arith, count-P y));
+        reason = λ y h. same-word y 2 h (omega arith) (omega arith) ∙ b .mem .reads .words .reason y h;
+        label = λ y h. same-word y 7 h (omega arith) (omega arith) ∙ b .mem .reads .words .label y h;
+        state = λ y h. same-word y 12 h (omega arith) (omega arith) ∙ b .mem .reads .words .state y h;
+      };
+      fixed = let f = b .mem .reads .fixed in record {
+        clock = λ a h i. same-low a (omega arith) (omega arith) ∙ f .clock a h i;
+        turn = λ a h i. same-low a (omega arith) (omega arith) ∙ f .turn a h i;
+        code = λ k h. same-low (256 + 2 * k) (omega arith) (omega arith) ∙ f .code k h;
+        next = same-low 288 (omega arith) (omega arith) ∙ f .next;
+        entry = λ i h. same-low (289 + i) (omega arith) (omega arith) ∙ f .entry i h;
+      };
+      sems = λ a h. sem a (which-queue (a + 1) h);
+    };
+  })
+    where
+      row : (y z : ℕ) → y * 32 + 1 ≡ z * 32 + 1 → y ≡ z
+      row y z e = omega arith
+
+      note : (y : ℕ) → count y P ≡ 0 → y * 32 + 1 ≢ q * 32 + 1
+      note y i e = omega (arith, count-P y, one-hit y q (row y q e))
+
+      rep : (a : ℕ) → Head P a → Which a → Chain m2 (linkOf a) a (grown a)
+      rep a h (old i) =
+          let j = rep-join m (Head ps) L (b .mem .size) (good s) (apart s) (single s) (b .mem .holds .rep) 247 q (in-procs ps, grant-low 247 (omega arith)) pg
+          (λ d hd e. free d (hd .0)) a (i, h .1) in
+          rw (at-old a i) (rw (link-procs, s .procs) at j)
+      rep a h (fresh w l u e) =
+          rw (e, new-list w l u) (same-word q w pg (omega arith) (omega arith) ∙ n .empty w (omega arith) u)
+
+      sem : (a : ℕ) → (1 ≤ count (a + 1) (queues ps)) ⊎ (a + 1 ≡ q * 32 + 4) → getD m2 a 0 ≡ put1 (W .sem) (q * 32 + 3) 0 a
+      sem a (inl h) =
+          let d : a ≢ q * 32 + 3 = λ e. head-off s q 4 (a + 1) pg (omega arith) out (in-queues ps (a + 1) h) (omega arith) in
+          rw (put1-other (W .sem) (q * 32 + 3) 0 a d) (old-sem a (seat-of ps a h) ∙ b .mem .reads .sems a h)
+        where
+          old-sem : (a : ℕ) → Seat ps a → getD m2 a 0 ≡ getD m a 0
+          old-sem a (line k u e) = same-low a (omega arith) (omega arith)
+          old-sem a (page e) = same-low a (omega arith) (omega arith)
+          old-sem a (own y u e) = rw e (same-word y 3 (proc-page s y u) (omega arith) (omega arith))
+      sem a (inr e) =
+          let d : a ≡ q * 32 + 3 = omega arith in
+          rw (put1-same (W .sem) (q * 32 + 3) 0 a d, d) (same-word q 3 pg (omega arith) (omega arith) ∙ n .empty 3 (omega arith) (omega arith))
+
+  pub grow-base : Base (join m 247 1 q) P grown X hs g
+  grow-base = record { mem = grow-mem; facts = grow-facts; all = λ z. omega (arith, sum-uses z, b .all z) }

@@ -1,0 +1,256 @@
+-- Pages: "SME and CRP use the page granted to them, else the first free one"; "A page given back goes to the first waiter as its grant and wakes it; with
+-- no waiter, to the end of the free list." A page in hand is taken from a list or a grant and given to one; while it is in hand its words are free to
+-- change. Assumes nothing.
+use mathlib.Core.Path.{_≡_, refl, ap, _∙_}
+use mathlib.Core.Logic.{_≢_, _⊎_, inl, inr}
+use mathlib.Core.Bool.{false}
+use mathlib.Core.List.{List, [], _∷_, _++_}
+use Prim.Native.Nat.{ℕ, _+_, _-_, _*_, _/_, _%_, _≤_, _<_}
+use native.Mathlib.Omega.{arith}
+use lib.ListN.{length, getD, set, length-append}
+use lib.Dec.{eqb}
+use Rattle.model.specs.Mail.{fits}
+use Rattle.model.specs.Page as Page
+use Rattle.model.specs.Map.{less}
+use Rattle.model.specs.Bytes.{join, leave, takeFree, freePage}
+use Rattle.model.specs.Lists.{hit, count, Lists, sum, uses, queues}
+use Rattle.laws.specs.Count.{hit-self, hit-other, hit-or, count-append}
+use Rattle.laws.specs.Chain.{Page}
+use Rattle.laws.specs.Queues.{upd, upd-same, upd-other}
+use Rattle.laws.specs.Heads.{one}
+use Rattle.laws.specs.Uses.{Head, Sep, proc-page, list-short}
+use Rattle.laws.specs.Places.{in-uses, in-free, in-q, free-once, grant-once, q-once, grant-low, grant-high}
+use Rattle.laws.specs.Inv.{View, Message, stock, stock-page, stock-else, Facts, Mem, Base}
+use Rattle.laws.specs.Frames.{Only}
+use Rattle.laws.specs.Views.{put1, put1-same, put1-other, withSem, retold}
+use Rattle.laws.specs.Stores.{sem-mem, hand-mem}
+use Rattle.laws.specs.Cells.{join-mem, leave-mem, grant-mem}
+use Rattle.laws.specs.Changes.{uses-upd, queue-same, uses-sep, facts-uses, facts-same, facts-less, stock-same, hand-page, hand-out}
+use Rattle.laws.specs.Changes.{hand-free, facts-off}
+use Rattle.laws.specs.Changes.{page-sem}
+
+-- ---- words of a page in hand
+pub hand-base : {m m′ : List ℕ} {ps : List ℕ} {L : Lists} {W : View} {hs : List ℕ} {g : ℕ} (q : ℕ) → 1 ≤ count q hs → Only q m m′ → Base m ps L W hs g
+    → Base m′ ps L (retold m′ W q) hs g
+hand-base {m} {m′} {ps} {L} {W} q h o b = record {
+  mem = hand-mem o (hand-page b q h) (b .facts .sep) (hand-out b q h) (hand-free b q h) (b .mem);
+  facts = facts-off q (hand-out b q h) (λ a i n. hand-free b q h a (in-uses ps a i)) (record {
+    note = λ z n. put1-other (W .note) q (getD m′ (q * 32 + 1) 0) z n;
+    reason = λ z n. put1-other (W .reason) q (getD m′ (q * 32 + 2) 0) z n;
+    label = λ z n. put1-other (W .label) q (getD m′ (q * 32 + 7) 0) z n;
+    state = λ z n. put1-other (W .state) q (getD m′ (q * 32 + 12) 0) z n;
+    sem = refl;
+    low = refl;
+    code = refl;
+    next = refl;
+    entry = refl;
+  }) (b .facts);
+  all = b .all;
+}
+
+-- ---- the free list
+module _ {m : List ℕ} {ps : List ℕ} {L : Lists} {W : View} {hs : List ℕ} {g : ℕ} (q : ℕ) (fs : List ℕ) (b : Base m ps L W hs g) (e : L 244 ≡ q ∷ fs) where
+  s : Sep ps L
+  s = b .facts .sep
+
+  f : Facts ps L W g
+  f = b .facts
+
+  less-one : (z : ℕ) → sum z (upd L 244 fs) (uses ps) + hit (eqb z q) ≡ sum z L (uses ps)
+  less-one z = omega (arith, uses-upd s 244 (free-once s) (omega arith) fs z, ap (count z) e)
+
+  nobody : (p : ℕ) → 1 ≤ count p (L 246) → ⊥
+  nobody p h = let t = f .granted .bare p h in omega (arith, ap length e)
+
+  empty : (xs : List ℕ) → ((p : ℕ) → 1 ≤ count p xs → ⊥) → length xs ≡ 0
+  empty [] h = refl
+  empty (x ∷ xs) h = absurd (h x (omega (arith, hit-self x)))
+
+  pub take-free : Base (takeFree m q) ps (upd L 244 fs) (withSem W (put1 (W .sem) 245 ((W .sem 245 + 255) % 256))) (q ∷ hs) g
+  unfolding Page.takeFree
+  take-free =
+      let v = (W .sem 245 + 255) % 256 in
+      let o : (c : ℕ) → c ≢ 244 → upd L 244 fs c ≡ L c = λ c n. upd-other L 244 c fs n in
+      let x = leave-mem s (sem-mem s (b .mem) 245 v (page-sem ps)) 244 (in-free ps, grant-low 244 (omega arith)) (omega arith) q [] fs e in
+      rw (b .mem .reads .sems 245 (page-sem ps)) (record {
+        mem = x;
+        facts = facts-uses (upd L 244 fs) (put1 (W .sem) 245 v) (record {
+          sep = uses-sep s 244 (free-once s) (omega arith) fs (λ z. omega (arith, less-one z, s .most z));
+          same = queue-same s 244 (free-once s) (omega arith) fs;
+          sems = λ a h. sems a h (hit-or a 245);
+          bare = λ p h. absurd (nobody p h);
+          known = λ k h. rw (o (320 + k) (omega arith)) (f .granted .known k h);
+          mail = λ p w h u v. rw (o (p * 32 + w) (let t = proc-page s p h in omega arith)) (f .mail p w h u v);
+          none = λ p y h i. rw (o (p * 32 + 5) (let t = proc-page s p h in omega arith)) (f .own p h y i .none);
+        }) f;
+        all = λ z. omega (arith, less-one z, b .all z);
+      })
+    where
+      sems : (a : ℕ) → 1 ≤ count (a + 1) (queues ps) → (a ≡ 245) ⊎ (a ≢ 245)
+          → put1 (W .sem) 245 ((W .sem 245 + 255) % 256) a ≡ less (stock (upd L 244 fs) a) (length (L (a + 1)))
+      sems a h (inl d) =
+          rw (put1-same (W .sem) 245 ((W .sem 245 + 255) % 256) a d, d, stock-page (upd L 244 fs), upd-same, f .sems 245 (page-sem ps), stock-page L)
+          (omega (arith, ap length e, empty (L 246) nobody, list-short s 244 (in-free ps)))
+      sems a h (inr n) =
+          rw (put1-other (W .sem) 245 ((W .sem 245 + 255) % 256) a n, stock-else (upd L 244 fs) a n) (f .sems a h
+          ∙ ap (λ (x : ℕ). less x (length (L (a + 1)))) (stock-else L a n))
+
+module _ {m : List ℕ} {ps : List ℕ} {L : Lists} {W : View} {hs : List ℕ} {g q : ℕ} (b : Base m ps L W (q ∷ hs) g) where
+  pub in-hand : 1 ≤ count q (q ∷ hs)
+  in-hand = omega (arith, hit-self q)
+
+  pub hand-new : (c : ℕ) → Head ps c → c ≢ 247 → count q (L c) ≡ 0
+  hand-new c h n = hand-free b q in-hand c (h .0)
+
+  pub give-free : L 246 ≡ [] → Base (freePage m q) ps (upd L 244 (L 244 ++ q ∷ [])) (withSem W (put1 (W .sem) 245 ((W .sem 245 + 1) % 256))) hs g
+  unfolding Page.freePage
+  give-free none =
+      let sp = b .facts .sep in
+      let fc = b .facts in
+      let v = (W .sem 245 + 1) % 256 in
+      let K = L 244 ++ q ∷ [] in
+      let o : (c : ℕ) → c ≢ 244 → upd L 244 (L 244 ++ q ∷ []) c ≡ L c = λ c n. upd-other L 244 c (L 244 ++ q ∷ []) n in
+      let more : (z : ℕ) → sum z (upd L 244 (L 244 ++ q ∷ [])) (uses ps) ≡ sum z L (uses ps) + hit (eqb z q) = λ z.
+      omega (arith, uses-upd sp 244 (free-once sp) (omega arith) (L 244 ++ q ∷ []) z, count-append z (L 244) (q ∷ [])) in
+      let x = join-mem sp (sem-mem sp (b .mem) 245 v (page-sem ps)) 244 (in-free ps, grant-low 244 (omega arith)) (omega arith) q (hand-page b q in-hand)
+      hand-new in
+      rw (b .mem .reads .sems 245 (page-sem ps)) (record {
+        mem = x;
+        facts = facts-uses (upd L 244 K) (put1 (W .sem) 245 v) (record {
+          sep = uses-sep sp 244 (free-once sp) (omega arith) K (λ z. omega (arith, more z, b .all z));
+          same = queue-same sp 244 (free-once sp) (omega arith) K;
+          sems = λ a h. sems a h (hit-or a 245);
+          bare = λ p h. absurd (omega (arith, ap (count p) none));
+          known = λ k h. rw (o (320 + k) (omega arith)) (fc .granted .known k h);
+          mail = λ p w h u v. rw (o (p * 32 + w) (let t = proc-page sp p h in omega arith)) (fc .mail p w h u v);
+          none = λ p y h i. rw (o (p * 32 + 5) (let t = proc-page sp p h in omega arith)) (fc .own p h y i .none);
+        }) fc;
+        all = λ z. omega (arith, more z, b .all z);
+      })
+    where
+      sems : (a : ℕ) → 1 ≤ count (a + 1) (queues ps) → (a ≡ 245) ⊎ (a ≢ 245)
+          → put1 (W .sem) 245 ((W .sem 245 + 1) % 256) a ≡ less (stock (upd L 244 (L 244 ++ q ∷ [])) a) (length (L (a + 1)))
+      sems a h (inl d) =
+          rw (
+            put1-same (W .sem) 245 ((W .sem 245 + 1) % 256) a d,
+            d,
+            stock-page (upd L 244 (L 244 ++ q ∷ [])),
+            upd-same,
+            b .facts .sems 245 (page-sem ps),
+            stock-page L,
+          )
+          (omega (arith, ap length none, length-append (L 244) (q ∷ []), list-short (b .facts .sep) 244 (in-free ps)))
+      sems a h (inr n) =
+          rw (put1-other (W .sem) 245 ((W .sem 245 + 1) % 256) a n, stock-else (upd L 244 (L 244 ++ q ∷ [])) a n)
+          (b .facts .sems a h ∙ ap (λ (x : ℕ). less x (length (L (a + 1)))) (stock-else L a n))
+
+-- ---- to the end of Q1 or Q2: the sentences, and the model's step
+module _ {ps : List ℕ} {L : Lists} {W : View} {g : ℕ} (q : ℕ) (fc : Facts ps L W g) (room : (z : ℕ) → sum z L (uses ps) + hit (eqb z q) ≤ one z)
+    (p w : ℕ) (h : 1 ≤ count p ps) (u : 5 ≤ w) (v : w ≤ 6) (letter : Message (W .note q) (W .reason q))
+    (none : (x : ℕ) → 1 ≤ count x (L (p * 32 + 4)) → w ≡ 5 → fits (W .reason p / 16) (W .reason p % 16) (W .note q) ≡ false) where
+  sp : Sep ps L
+  sp = fc .sep
+
+  abbrev a : ℕ
+  a = p * 32 + w
+
+  abbrev K : List ℕ
+  K = L a ++ q ∷ []
+
+  low : 352 ≤ a
+  low = let t = proc-page sp p h in omega arith
+
+  pub more-mail : (z : ℕ) → sum z (upd L a K) (uses ps) ≡ sum z L (uses ps) + hit (eqb z q)
+  more-mail z = omega (arith, uses-upd sp a (q-once sp p w u v h) (omega (arith, low)) K z, count-append z (L a) (q ∷ []))
+
+  mails : (y n : ℕ) → 1 ≤ count y ps → 5 ≤ n → n ≤ 6 → (x : ℕ) → 1 ≤ count x (upd L a K (y * 32 + n))
+      → (y * 32 + n ≡ a) ⊎ (y * 32 + n ≢ a) → (x ≡ q) ⊎ (x ≢ q) → Message (W .note x) (W .reason x)
+  mails y n j l r x c d (inl e) = rw e letter
+  mails y n j l r x c (inl d) (inr e) =
+      let k = rw (d, upd-same) at c in
+      fc .mail p w h u v x (omega (arith, count-append x (L a) (q ∷ []), hit-other x q e))
+  mails y n j l r x c (inr d) (inr e) = fc .mail y n j l r x (rw (upd-other L a (y * 32 + n) K d) at c)
+
+  nones : (y x : ℕ) → 1 ≤ count y ps → 1 ≤ count x (L (y * 32 + 4)) → (z : ℕ) → 1 ≤ count z (upd L a K (y * 32 + 5))
+      → (y * 32 + 5 ≡ a) ⊎ (y * 32 + 5 ≢ a) → (z ≡ q) ⊎ (z ≢ q) → fits (W .reason y / 16) (W .reason y % 16) (W .note z) ≡ false
+  nones y x j k z c (inl d) (inl e) =
+      let t : y ≡ p = omega arith in
+      rw (e, t) (none x (rw t at k) (omega arith))
+  nones y x j k z c (inl d) (inr e) =
+      let l = rw (d, upd-same) at c in
+      fc .own y j x k .none z (rw d (omega (arith, count-append z (L a) (q ∷ []), hit-other z q e)))
+  nones y x j k z c (inr d) e = fc .own y j x k .none z (rw (upd-other L a (y * 32 + 5) K d) at c)
+
+  pub facts-mail : Facts ps (upd L a K) W g
+  facts-mail =
+      let i = q-once sp p w u v h in
+      let o : (c : ℕ) → c ≢ a → upd L a K c ≡ L c = λ c n. upd-other L a c K n in
+      facts-same (facts-uses (upd L a K) (W .sem) (record {
+        sep = uses-sep sp a i (omega (arith, low)) K (λ z. omega (arith, more-mail z, room z));
+        same = queue-same sp a i (omega (arith, low)) K;
+        sems = λ c j. rw (stock-same L (upd L a K) (o 244 (omega (arith, low))) c) (fc .sems c j);
+        bare = λ y j. rw (o 244 (omega (arith, low)), o (320 + W .label y % 16) (omega (arith, low))) (fc .granted .bare y j);
+        known = λ k j. rw (o (320 + k) (omega (arith, low))) (fc .granted .known k j);
+        mail = λ y n j l r x c. mails y n j l r x c (hit-or (y * 32 + n) a) (hit-or x q);
+        none = λ y x j k z c. nones y x j k z c (hit-or (y * 32 + 5) a) (hit-or z q);
+      }) fc)
+
+module _ {m : List ℕ} {ps : List ℕ} {L : Lists} {W : View} {hs : List ℕ} {g q : ℕ} (b : Base m ps L W (q ∷ hs) g) where
+  pub room : (z : ℕ) → sum z L (uses ps) + hit (eqb z q) ≤ one z
+  room z = omega (arith, b .all z)
+
+  pub mail-sep : (p w : ℕ) → 1 ≤ count p ps → 5 ≤ w → w ≤ 6 → Sep ps (upd L (p * 32 + w) (L (p * 32 + w) ++ q ∷ []))
+  mail-sep p w h u v =
+      let sp = b .facts .sep in
+      let t = proc-page sp p h in
+      let i = q-once sp p w u v h in
+      uses-sep sp (p * 32 + w) i (omega arith) (L (p * 32 + w) ++ q ∷ []) (λ z.
+      omega (arith, uses-upd sp (p * 32 + w) i (omega arith) (L (p * 32 + w) ++ q ∷ []) z, count-append z (L (p * 32 + w)) (q ∷ []), room z))
+
+  -- the memory with page q at the end of word w of page p
+  pub mail-mem : (p w : ℕ) → 1 ≤ count p ps → 5 ≤ w → w ≤ 6 → Mem (join m (p * 32 + w) 0 q) ps (upd L (p * 32 + w) (L (p * 32 + w) ++ q ∷ [])) W
+  mail-mem p w h u v =
+      let sp = b .facts .sep in
+      let t = proc-page sp p h in
+      join-mem sp (b .mem) (p * 32 + w) (in-q ps p w u v h, grant-high (p * 32 + w) (omega arith)) (omega arith) q (hand-page b q (in-hand b)) (hand-new b)
+
+  pub give-mail : (p w : ℕ) → 1 ≤ count p ps → 5 ≤ w → w ≤ 6 → Message (W .note q) (W .reason q)
+      → ((x : ℕ) → 1 ≤ count x (L (p * 32 + 4)) → w ≡ 5 → fits (W .reason p / 16) (W .reason p % 16) (W .note q) ≡ false)
+      → Base (join m (p * 32 + w) 0 q) ps (upd L (p * 32 + w) (L (p * 32 + w) ++ q ∷ [])) W hs g
+  give-mail p w h u v letter none = record {
+    mem = mail-mem p w h u v;
+    facts = facts-mail q (b .facts) room p w h u v letter none;
+    all = λ z. omega (arith, more-mail q (b .facts) room p w h u v letter none z, b .all z);
+  }
+
+-- ---- messages and grants taken
+module _ {m : List ℕ} {ps : List ℕ} {L : Lists} {W : View} {hs : List ℕ} {g : ℕ} (b : Base m ps L W hs g) where
+  sb : Sep ps L
+  sb = b .facts .sep
+
+  pub take-mail : (p w q : ℕ) (xs ys : List ℕ) → 1 ≤ count p ps → 5 ≤ w → w ≤ 6 → L (p * 32 + w) ≡ xs ++ q ∷ ys
+      → Base (leave m (p * 32 + w) 0 q) ps (upd L (p * 32 + w) (xs ++ ys)) W (q ∷ hs) g
+  take-mail p w q xs ys h u v e =
+      let t = proc-page sb p h in
+      let a = p * 32 + w in
+      let i = q-once sb p w u v h in
+      record {
+        mem = leave-mem sb (b .mem) a (in-q ps p w u v h, grant-high a (omega arith)) (omega arith) q xs ys e;
+        facts = facts-less a (xs ++ ys) i (omega arith) (omega arith) (λ z. rw e (omega (arith, count-append z xs ys, count-append z xs (q ∷ ys))))
+            (rw e (omega (arith, length-append xs ys, length-append xs (q ∷ ys)))) (b .facts);
+        all = λ z. omega (
+          arith,
+          uses-upd sb (p * 32 + w) i (omega arith) (xs ++ ys) z,
+          ap (count z) e,
+          count-append z xs ys,
+          count-append z xs (q ∷ ys),
+          b .all z,
+        );
+      }
+
+  pub take-grant : (k q : ℕ) → k < 32 → L (320 + k) ≡ q ∷ [] → Base (set m (320 + k) 0) ps (upd L (320 + k) []) W (q ∷ hs) g
+  take-grant k q h e = record {
+    mem = grant-mem k 0 h sb (b .mem);
+    facts = facts-less (320 + k) [] (grant-once sb k h) (omega arith) (omega arith) (λ z. omega arith) (omega arith) (b .facts);
+    all = λ z. omega (arith, uses-upd sb (320 + k) (grant-once sb k h) (omega arith) [] z, ap (count z) e, b .all z);
+  }

@@ -1,0 +1,379 @@
+-- Interrupts: "Each waiter front to back: reason 1 wakes and leaves, else reason falls by one"; the clock chain; GIN and WIN. Each leaves a well-formed
+-- memory. Assumes nothing.
+use mathlib.Core.Path.{_≡_, refl, sym, ap, _∙_}
+use mathlib.Core.Logic.{_≢_, _⊎_, inl, inr}
+use mathlib.Core.Bool.{Bool, true, false, cond}
+use mathlib.Core.List.{List, [], _∷_, _++_, append-assoc}
+use Prim.Native.Nat.{ℕ, zero, suc, _+_, _-_, _*_, _/_, _%_, _≤_, _<_}
+use native.Mathlib.Omega.{arith}
+use lib.ListN.{length, getD, set}
+use lib.Dec.{eqb, ltb}
+use borrow.Author.Tests.{eqb-false, ne-eqb, ltb-false}
+use Rattle.model.specs.Interrupt as Interrupt
+use Rattle.model.specs.Operate as Operate
+use Rattle.model.specs.Bytes as Model
+use Rattle.model.specs.Bytes.{lists, ends, struck, classed, servedFrom, serve, counts, turns, delivered, whoRuns}
+use Rattle.model.specs.Lists.{count, Lists, queues}
+use Rattle.laws.specs.Count.{hit-self, hit-or, count-append}
+use Rattle.laws.specs.Chain.{Page, Chain}
+use Rattle.laws.specs.Queues.{upd, upd-same}
+use Rattle.laws.specs.Heads.{sum-one, sum-two}
+use Rattle.laws.specs.Uses.{Sep, proc-page, proc-once, list-short}
+use Rattle.laws.specs.Places.{in-queues, int-queue, own-once, q-free, wait-page}
+use Rattle.laws.specs.Inv.{View, view, Clock, Facts, Base, Inv}
+use Rattle.laws.specs.Judged.{WellFormed, well-formed, invariant}
+use Rattle.laws.specs.Frames.{Kept, kept-refl, kept-set, quiet-word, base-kept}
+use Rattle.laws.specs.Views.{put1, put1-same, put1-other, withReason, withLow}
+use Rattle.laws.specs.Stores.{reason-mem, clock-mem}
+use Rattle.laws.specs.Cells.{chain0}
+use Rattle.laws.specs.Changes.{int-sem, facts-low}
+use Rattle.laws.specs.Wake.{wake-base, woken, woken-proc, seat-head, not-procs}
+use Rattle.laws.specs.Grants.{Gave}
+use Rattle.laws.specs.Who.{who-inv, running-in}
+use Rattle.laws.specs.Ends.{Fine, done-fine, waits-fine, advance-base}
+use Rattle.laws.specs.Simple.{fails}
+
+-- ---- a link along a chain
+abbrev head : List ℕ → ℕ
+head [] = 0
+head (x ∷ xs) = x
+
+chain-head : (m : List ℕ) (a : ℕ) (xs : List ℕ) → Chain m 0 a xs → getD m a 0 ≡ head xs
+chain-head m a [] c = c
+chain-head m a (x ∷ xs) c = c .0
+
+chain-next : (m : List ℕ) (a p : ℕ) (xs ys : List ℕ) → Chain m 0 a (xs ++ p ∷ ys) → getD m (p * 32 + 0) 0 ≡ head ys
+chain-next m a p [] ys c = chain-head m (p * 32 + 0) ys (c .2)
+chain-next m a p (x ∷ xs) ys c = chain-next m (x * 32 + 0) p xs ys (c .2)
+
+-- ---- a reason in an interrupt queue falls by one
+facts-reason : {ps : List ℕ} {L : Lists} {W : View} {g : ℕ} (k p v : ℕ) → k < 54 → 1 ≤ count p (L (132 + 2 * k)) → 1 ≤ v → v ≤ 255 → Facts ps L W g
+    → Facts ps L (withReason W (put1 (W .reason) p v)) g
+facts-reason {ps} {L} {W} k p v hk i u1 u2 f = record {
+  sep = f .sep;
+  names = f .names;
+  seats = record {
+    bit = f .seats .bit;
+    zeros = f .seats .zeros;
+    served = λ j h x c. served j h x c (hit-or x p);
+    asking = λ x c. rw (kept x (other 246 x (omega arith) (omega arith) c)) (f .seats .asking x c);
+    quiet = λ x h z. quiet x h z (hit-or x p);
+  };
+  own = λ y h x c.
+      let t = f .own y h x c in
+      let pg = proc-page s y h in
+      let d = other (y * 32 + 4) x (omega (arith, own-once s y h .here)) (omega arith) c in
+      rw (kept y (λ e. d (t .owner ∙ e))) t;
+  sems = f .sems;
+  granted = f .granted;
+  mail = λ y w h l r q c. let n = q-free s y w q l r h c in rw (kept q (λ e. omega (arith, ap (λ (z : ℕ). count z ps) e, n .1, hp))) (f .mail y w h l r q c);
+  runs = f .runs;
+  codes = f .codes;
+  clock = f .clock;
+  faults = f .faults;
+}
+  where
+    s : Sep ps L
+    s = f .sep
+
+    hp : 1 ≤ count p ps
+    hp = wait-page s (132 + 2 * k) p (int-queue ps k hk) i
+
+    kept : (x : ℕ) → x ≢ p → put1 (W .reason) p v x ≡ W .reason x
+    kept x n = put1-other (W .reason) p v x n
+
+    -- p is in no other wait queue
+    other : (b x : ℕ) → 1 ≤ count b (queues ps) → b ≢ 132 + 2 * k → 1 ≤ count x (L b) → x ≢ p
+    other b x h n c e =
+        let d : count p (L b) ≡ count x (L b) = ap (λ (y : ℕ). count y (L b)) (sym e) in
+        omega (arith, sum-two p L (132 + 2 * k) b (queues ps) (λ y. n (sym y)) (int-queue ps k hk) h, s .waits p, proc-once s p)
+
+    served : (j : ℕ) → j < 54 → (x : ℕ) → 1 ≤ count x (L (132 + 2 * j)) → (x ≡ p) ⊎ (x ≢ p) → (1 ≤ put1 (W .reason) p v x) × (put1 (W .reason) p v x ≤ 255)
+    served j h x c (inl e) = rw (put1-same (W .reason) p v x e) (u1, u2)
+    served j h x c (inr n) = rw (kept x n) (f .seats .served j h x c)
+
+    quiet : (x : ℕ) → 1 ≤ count x ps → W .state x % 128 / 64 ≡ 0 → (x ≡ p) ⊎ (x ≢ p) → put1 (W .reason) p v x ≡ 0
+    quiet x h z (inl e) =
+        let c = f .seats .bit x h in
+        let d : count p (L (132 + 2 * k)) ≡ count x (L (132 + 2 * k)) = ap (λ (y : ℕ). count y (L (132 + 2 * k))) (sym e) in
+        absurd (omega (arith, sum-one x L (132 + 2 * k) (queues ps) (int-queue ps k hk)))
+    quiet x h z (inr n) = rw (kept x n) (f .seats .quiet x h z)
+
+-- ---- one waiter
+-- "For 48-50 those removed get the class number 0-31 in A."
+classed-kept : (m : List ℕ) (k c p : ℕ) → Page p → Kept m (classed m k c p)
+unfolding Interrupt.classed
+classed-kept m k c p g = go (ltb k 48) (ltb 50 k) refl refl
+  where
+    go : (x y : Bool) → ltb k 48 ≡ x → ltb 50 k ≡ y → Kept m (classed m k c p)
+    go true y e f = rw e (kept-refl m)
+    go false true e f = rw (e, f) (kept-refl m)
+    go false false e f = rw (e, f) (kept-set (p * 32 + 8) c (quiet-word p 8 (p * 32 + 8) g (omega arith) (omega arith) (omega arith) refl) (kept-refl m))
+
+gave-on : {m : List ℕ} {ps : List ℕ} {hs : List ℕ} {g : ℕ} {W X : View} → X .low ≡ W .low → Gave m ps hs g X → Gave m ps hs g W
+gave-on e r = record { lists = r .lists; view = r .view; base = r .base; low = r .low ∙ e }
+
+-- after the waiter p between xs and ys
+record Struck (m : List ℕ) (ps : List ℕ) (a : ℕ) (ys : List ℕ) (hs : List ℕ) (g : ℕ) (W : View) : Type 0 where
+  gave : Gave m ps hs g W
+  before : List ℕ
+  now : gave .lists (a + 1) ≡ before ++ ys
+
+module _ (k c : ℕ) (k1 : 1 ≤ k) (k2 : k ≤ 54) where
+  abbrev a : ℕ
+  a = 129 + 2 * k
+
+  at-head : 132 + 2 * (k - 1) ≡ a + 1
+  at-head = omega arith
+
+  seat : (ps : List ℕ) → 1 ≤ count (a + 1) (queues ps)
+  seat ps = rw (← at-head) (int-queue ps (k - 1) (omega arith))
+
+  struck-base : {m : List ℕ} {ps : List ℕ} {L : Lists} {W : View} {hs : List ℕ} {g : ℕ} (p : ℕ) (xs ys : List ℕ) → Base m ps L W hs g → L (a + 1) ≡ xs ++ p ∷ ys
+      → Struck (struck m k c p) ps a ys hs g W
+  unfolding Interrupt.struck
+  struck-base {m} {ps} {L} {W} {hs} {g} p xs ys b e = go (eqb (W .reason p) 1) refl
+    where
+      s : Sep ps L
+      s = b .facts .sep
+
+      inside : 1 ≤ count p (L (a + 1))
+      inside = rw e (omega (arith, count-append p xs (p ∷ ys), hit-self p))
+
+      pg : Page p
+      pg = proc-page s p (wait-page s (a + 1) p (seat ps) inside)
+
+      reason : getD m (p * 32 + 2) 0 ≡ W .reason p
+      reason = b .mem .reads .words .reason p pg
+
+      range : (1 ≤ W .reason p) × (W .reason p ≤ 255)
+      range = b .facts .seats .served (k - 1) (omega arith) p (rw at-head inside)
+
+      go : (x : Bool) → eqb (W .reason p) 1 ≡ x → Struck (struck m k c p) ps a ys hs g W
+      go true f = rw (reason, f) (record {
+        gave = record {
+          lists = upd L (a + 1) (xs ++ ys);
+          view = woken W a p;
+          base = base-kept (classed-kept (Model.wake m a p) k c p pg) (wake-base a p xs ys b (seat ps) e);
+          low = refl;
+        };
+        before = xs;
+        now = upd-same L (a + 1) (xs ++ ys);
+      })
+      go false f =
+          let n = eqb-false (W .reason p) 1 f in
+          let v = (W .reason p + 255) % 256 in
+          rw (reason, f) (record {
+            gave = record {
+              lists = L;
+              view = withReason W (put1 (W .reason) p v);
+              base = record {
+                mem = reason-mem s (b .mem) p v pg;
+                facts = facts-reason (k - 1) p v (omega arith) (rw at-head inside) (omega (arith, range)) (omega (arith, range)) (b .facts);
+                all = b .all;
+              };
+              low = refl;
+            };
+            before = xs ++ p ∷ [];
+            now = e ∙ sym (append-assoc xs (p ∷ []) ys);
+          })
+
+  -- ---- all of them, front to back
+  from-end : (n : ℕ) (m : List ℕ) → servedFrom n m k c 0 ≡ m
+  unfolding Interrupt.servedFrom
+  from-end zero m = refl
+  from-end (suc n) m = refl
+
+  from-next : (n : ℕ) (m : List ℕ) (p : ℕ) → p ≢ 0 → servedFrom (suc n) m k c p ≡ servedFrom n (struck m k c p) k c (getD m (p * 32 + 0) 0)
+  unfolding Interrupt.servedFrom
+  from-next n m p h = rw (ne-eqb p 0 h, Interrupt.servedFrom)
+
+  next : {ps : List ℕ} {hs : List ℕ} {g : ℕ} (n : ℕ) (L : Lists) (W : View) (m : List ℕ) (xs : List ℕ) (p : ℕ) (ys : List ℕ) → Base m ps L W hs g
+      → L (a + 1) ≡ xs ++ p ∷ ys → servedFrom (suc n) m k c p ≡ servedFrom n (struck m k c p) k c (head ys)
+  next {ps} n L W m xs p ys b e =
+      let s = b .facts .sep in
+      let ch = rw e at (chain0 s (b .mem) (a + 1) (seat-head s a (seat ps)) (λ d. not-procs s a (seat ps) (sym d))) in
+      let pg = proc-page s p (woken-proc a p xs ys (b .facts) (seat ps) e) in
+      from-next n m p (omega (arith, pg)) ∙ ap (λ (x : ℕ). servedFrom n (struck m k c p) k c x) (chain-next m (a + 1) p xs ys ch)
+
+  -- one waiter, then the others
+  on : {m m2 : List ℕ} {ps : List ℕ} {ys : List ℕ} {hs : List ℕ} {g : ℕ} {W : View} → Struck m ps a ys hs g W
+      → ((K : Lists) (X : View) (zs : List ℕ) → Base m ps K X hs g → K (a + 1) ≡ zs ++ ys → Gave m2 ps hs g X) → Gave m2 ps hs g W
+  on t f = gave-on (t .gave .low) (f (t .gave .lists) (t .gave .view) (t .before) (t .gave .base) (t .now))
+
+  step : {ps : List ℕ} {hs : List ℕ} {g : ℕ} (n : ℕ) (L : Lists) (W : View) (m : List ℕ) (xs : List ℕ) (p : ℕ) (ys : List ℕ) → Base m ps L W hs g
+      → L (a + 1) ≡ xs ++ p ∷ ys
+      → ((K : Lists) (X : View) (zs : List ℕ) → Base (struck m k c p) ps K X hs g → K (a + 1) ≡ zs ++ ys
+      → Gave (servedFrom n (struck m k c p) k c (head ys)) ps hs g X)
+      → Gave (servedFrom (suc n) m k c p) ps hs g W
+  step n L W m xs p ys b e f = rw (next n L W m xs p ys b e) (on (struck-base p xs ys b e) f)
+
+  last : {ps : List ℕ} {hs : List ℕ} {g : ℕ} (n : ℕ) (L : Lists) (W : View) (m : List ℕ) → Base m ps L W hs g → Gave (servedFrom n m k c 0) ps hs g W
+  last n L W m b = rw (from-end n m) (record { lists = L; view = W; base = b; low = refl })
+
+  abbrev Goal : List ℕ → ℕ → List ℕ → List ℕ → ℕ → Type 0
+  Goal ys n ps hs g = (L : Lists) (W : View) (m : List ℕ) (xs : List ℕ) → Base m ps L W hs g → L (a + 1) ≡ xs ++ ys
+      → Gave (servedFrom n m k c (head ys)) ps hs g W
+
+  from-base : (ys : List ℕ) (n : ℕ) (ps : List ℕ) (hs : List ℕ) (g : ℕ) → length ys ≤ n → Goal ys n ps hs g
+  from-base [] n ps hs g l L W m xs b e = last n L W m b
+  from-base (p ∷ ys) zero ps hs g l L W m xs b e = absurd (omega arith)
+  from-base (p ∷ ys) (suc n) ps hs g l L W m xs b e =
+      step n L W m xs p ys b e (λ K X zs b2 e2. from-base ys n ps hs g (omega arith) K X (struck m k c p) zs b2 e2)
+
+  pub serve-base : {m : List ℕ} {ps : List ℕ} {L : Lists} {W : View} {hs : List ℕ} {g : ℕ} → Base m ps L W hs g → Gave (serve m k c) ps hs g W
+  unfolding Interrupt.serve
+  serve-base {m} {ps} {L} {W} {hs} {g} b =
+      let s = b .facts .sep in
+      let ch = chain0 s (b .mem) (a + 1) (seat-head s a (seat ps)) (λ d. not-procs s a (seat ps) (sym d)) in
+      let at1 : 129 + 2 * k + 1 ≡ 130 + 2 * k = omega arith in
+      rw (← at1, chain-head m (a + 1) (L (a + 1)) ch) (from-base (L (a + 1)) 20 ps hs g (list-short s (a + 1) (in-queues ps (a + 1) (seat ps))) L W m [] b refl)
+
+-- ---- the clock
+clock0 : (l : ℕ → ℕ) (v : ℕ) → suc v ≤ l 251 → Clock l → Clock (put1 l 240 v)
+unfolding put1
+clock0 l v h c = record { c0 = h; c1 = c .c1; c2 = c .c2; c3 = c .c3; divider = c .divider; line = c .line; nought = c .nought }
+
+clock1 : (l : ℕ → ℕ) (v : ℕ) → suc v ≤ 10 → Clock l → Clock (put1 l 241 v)
+unfolding put1
+clock1 l v h c = record { c0 = c .c0; c1 = h; c2 = c .c2; c3 = c .c3; divider = c .divider; line = c .line; nought = c .nought }
+
+clock2 : (l : ℕ → ℕ) (v : ℕ) → suc v ≤ 60 → Clock l → Clock (put1 l 242 v)
+unfolding put1
+clock2 l v h c = record { c0 = c .c0; c1 = c .c1; c2 = h; c3 = c .c3; divider = c .divider; line = c .line; nought = c .nought }
+
+clock3 : (l : ℕ → ℕ) (v : ℕ) → suc v ≤ 60 → Clock l → Clock (put1 l 243 v)
+unfolding put1
+clock3 l v h c = record { c0 = c .c0; c1 = c .c1; c2 = c .c2; c3 = h; divider = c .divider; line = c .line; nought = c .nought }
+
+-- some invariant holds
+pub record Some (m : List ℕ) (ps : List ℕ) (hs : List ℕ) (g : ℕ) : Type 0 where
+  pub lists : Lists
+  pub view : View
+  pub base : Base m ps lists view hs g
+
+some-of : {m : List ℕ} {ps : List ℕ} {hs : List ℕ} {g : ℕ} {W : View} → Gave m ps hs g W → Some m ps hs g
+some-of t = record { lists = t .lists; view = t .view; base = t .base }
+
+module _ {m : List ℕ} {ps : List ℕ} {L : Lists} {W : View} {hs : List ℕ} {g : ℕ} (b : Base m ps L W hs g) where
+  pub counter-at : (c : ℕ) → 239 ≤ c → c ≤ 243 → getD m c 0 ≡ W .low c
+  counter-at c l u = b .mem .reads .fixed .clock c l u
+
+  counter-base : (c v : ℕ) → 240 ≤ c → c ≤ 243 → Clock (put1 (W .low) c v) → Base (set m c v) ps L (withLow W (put1 (W .low) c v)) hs g
+  counter-base c v l u k =
+      let e8 = put1-other (W .low) c v 248 (omega arith) in
+      let e9 = put1-other (W .low) c v 249 (omega arith) in
+      record {
+        mem = clock-mem (b .facts .sep) (b .mem) c v (omega arith) u;
+        facts = facts-low (put1 (W .low) c v)
+            (record { idle = rw (e8, e9) (b .facts .runs .idle); listed = rw e8 (b .facts .runs .listed); tag = rw (e8, e9) (b .facts .runs .tag) }) k
+            (b .facts);
+        all = b .all;
+      }
+
+  -- the counter c comes to its end e, and interrupt k is served, or it counts on
+  turns-base : (c k : ℕ) → 240 ≤ c → c ≤ 243 → 1 ≤ k → k ≤ 54 → Clock (put1 (W .low) c 0) → Some (turns m c k) ps hs g
+  unfolding Interrupt.turns
+  turns-base c k l u i j h = some-of (serve-base k 0 i j (counter-base c 0 l u h))
+
+  counts-base : (c : ℕ) → 240 ≤ c → c ≤ 243 → Clock (put1 (W .low) c ((W .low c + 1) % 256)) → Some (counts m c) ps hs g
+  unfolding Interrupt.counts
+  counts-base c l u h = rw (counter-at c (omega arith) u) (record {
+    lists = L;
+    view = withLow W (put1 (W .low) c ((W .low c + 1) % 256));
+    base = counter-base c ((W .low c + 1) % 256) l u h;
+  })
+
+-- a counter c with end e: at its end interrupt k is served and what is behind it goes on, else it counts
+turned : {m : List ℕ} {ps : List ℕ} {hs : List ℕ} {g : ℕ} (t : Some m ps hs g) (c k e : ℕ) (m2 : List ℕ) → 240 ≤ c → c ≤ 243 → 1 ≤ k → k ≤ 54
+    → Clock (put1 (t .view .low) c 0) → ((t .view .low c + 1) % 256 ≢ e → Clock (put1 (t .view .low) c ((t .view .low c + 1) % 256)))
+    → (Some (turns m c k) ps hs g → Some m2 ps hs g) → Some (cond (ends m c e) m2 (counts m c)) ps hs g
+unfolding Interrupt.ends
+turned {m} {ps} {hs} {g} t c k e m2 l u i j z0 more onward = go (eqb ((t .view .low c + 1) % 256) e) refl
+  where
+    at : getD m c 0 ≡ t .view .low c
+    at = counter-at (t .base) c (omega arith) u
+
+    go : (x : Bool) → eqb ((t .view .low c + 1) % 256) e ≡ x → Some (cond (ends m c e) m2 (counts m c)) ps hs g
+    go true f = rw (at, f) (onward (turns-base (t .base) c k l u i j z0))
+    go false f = rw (at, f) (counts-base (t .base) c l u (more (eqb-false ((t .view .low c + 1) % 256) e f)))
+
+-- "at 60, 54"; "at 60, 53 and C3"; "at 10, 52 and C2"; "at the divider it is 0 and 51 is served and C1 counts"
+c3-base : {m : List ℕ} {ps : List ℕ} {hs : List ℕ} {g : ℕ} → Some m ps hs g → Some (Model.c3Counts m) ps hs g
+unfolding Interrupt.c3Counts
+c3-base {m} t =
+    let l = t .view .low in
+    let k = t .base .facts .clock in
+    turned t 243 54 60 (turns m 243 54) (omega arith) (omega arith) (omega arith) (omega arith) (clock3 l 0 (omega arith) k)
+    (λ n. clock3 (t .view .low) ((t .view .low 243 + 1) % 256) (omega (arith, k .c3)) k) (λ x. x)
+
+c2-base : {m : List ℕ} {ps : List ℕ} {hs : List ℕ} {g : ℕ} → Some m ps hs g → Some (Model.c2Counts m) ps hs g
+unfolding Interrupt.c2Counts
+c2-base {m} t =
+    let l = t .view .low in
+    let k = t .base .facts .clock in
+    turned t 242 53 60 (Model.c3Counts (turns m 242 53)) (omega arith) (omega arith) (omega arith) (omega arith) (clock2 l 0 (omega arith) k)
+    (λ n. clock2 (t .view .low) ((t .view .low 242 + 1) % 256) (omega (arith, k .c2)) k) c3-base
+
+c1-base : {m : List ℕ} {ps : List ℕ} {hs : List ℕ} {g : ℕ} → Some m ps hs g → Some (Model.c1Counts m) ps hs g
+unfolding Interrupt.c1Counts
+c1-base {m} t =
+    let l = t .view .low in
+    let k = t .base .facts .clock in
+    turned t 241 52 10 (Model.c2Counts (turns m 241 52)) (omega arith) (omega arith) (omega arith) (omega arith) (clock1 l 0 (omega arith) k)
+    (λ n. clock1 (t .view .low) ((t .view .low 241 + 1) % 256) (omega (arith, k .c1)) k) c2-base
+
+c0-base : {m : List ℕ} {ps : List ℕ} {hs : List ℕ} {g : ℕ} → Some m ps hs g → Some (Model.c0Counts m) ps hs g
+unfolding Interrupt.c0Counts
+c0-base {m} t =
+    let l = t .view .low in
+    let k = t .base .facts .clock in
+    let end : getD m 251 0 ≡ t .view .low 251 = t .base .mem .reads .fixed .turn 251 (omega arith) (omega arith) in
+    turned t 240 51 (getD m 251 0) (Model.c1Counts (turns m 240 51)) (omega arith) (omega arith) (omega arith) (omega arith)
+    (clock0 l 0 (omega (arith, k .divider)) k) (λ n. clock0 (t .view .low) ((t .view .low 240 + 1) % 256) (omega (arith, k .c0, k .divider, end)) k) c1-base
+
+-- "An interrupt on the clock line is served, then C0 counts"
+pub delivered-base : {m : List ℕ} {ps : List ℕ} {hs : List ℕ} {g : ℕ} {L : Lists} {W : View} (k c : ℕ) → 1 ≤ k → k ≤ 54 → Base m ps L W hs g
+    → Some (delivered m k c) ps hs g
+unfolding Interrupt.delivered
+delivered-base {m} {ps} {hs} {g} k c i j b = go (eqb k (getD m 239 0)) refl
+  where
+    go : (x : Bool) → eqb k (getD m 239 0) ≡ x → Some (delivered m k c) ps hs g
+    go true e = rw e (c0-base (some-of (serve-base k c i j b)))
+    go false e = rw e (some-of (serve-base k c i j b))
+
+pub delivered-well : {m : List ℕ} (k c : ℕ) → 1 ≤ k → k ≤ 54 → WellFormed m → WellFormed (whoRuns (delivered m k c))
+delivered-well k c i j w = well-formed (who-inv (delivered-base k c i j (invariant w .base) .base) .1)
+
+-- ---- the instructions
+module _ {m : List ℕ} (w : WellFormed m) (d : getD m 248 0 ≢ 0) where
+  iv : Inv m (lists m 247) (lists m) (view m)
+  iv = invariant w
+
+  pub gin-fine : (len : ℕ) → Fine (Model.gin m len)
+  unfolding Operate.gin
+  gin-fine len =
+      let b = iv .base in
+      let n = b .facts .names .range (getD m 248 0) (running-in b d) in
+      done-fine (serve-base (getD m (getD m 248 0 * 32 + 7) 0 % 16) 0 (n .name) (omega arith) b .base) len
+
+  pub win-fine : (k c len : ℕ) → c ≤ 255 → Fine (Model.win m k c len)
+  unfolding Operate.win
+  win-fine k c len u = go (eqb k 0) (ltb 54 k) (eqb c 0) refl refl refl
+    where
+      go : (x y z : Bool) → eqb k 0 ≡ x → ltb 54 k ≡ y → eqb c 0 ≡ z → Fine (Model.win m k c len)
+      go true y z e f g = rw e (fails w d 5 (omega arith) (omega arith))
+      go false true z e f g = rw (e, f) (fails w d 5 (omega arith) (omega arith))
+      go false false true e f g = rw (e, f, g) (fails w d 5 (omega arith) (omega arith))
+      go false false false e f g =
+          let b = iv .base in
+          let k1 = eqb-false k 0 e in
+          let k2 = ltb-false 54 k f in
+          let c1 = eqb-false c 0 g in
+          let at1 : 131 + 2 * (k - 1) ≡ 129 + 2 * k = omega arith in
+          rw (e, f, g) (waits-fine (advance-base b len) (129 + 2 * k) c d (rw at1 at (int-sem (lists m 247) (k - 1) (omega arith)))
+          (omega (arith, iv .best .ready d)) (record {
+            line = λ j h q. (omega arith, omega arith);
+            page = λ q. absurd (omega arith);
+            own = λ y h q. let t = proc-page (b .facts .sep) y h in absurd (omega arith);
+          }))

@@ -1,0 +1,190 @@
+-- Well-formed: the invariant, a field for each sentence. A view names the judged words as functions, so that the sentences name no memory: a step
+-- changes one function, and every sentence that does not name it stays. Assumes nothing.
+use mathlib.Core.Path.{_≡_, refl}
+use mathlib.Core.Logic.{_≢_}
+use mathlib.Core.Bool.{false, cond}
+use mathlib.Core.List.{List, []}
+use Prim.Native.Nat.{ℕ, zero, suc, _+_, _-_, _*_, _/_, _%_, _≤_, _<_}
+use lib.ListN.{length, getD}
+use lib.Dec.{eqb}
+use borrow.Author.Tests.{ne-eqb}
+use Rattle.model.specs.Map.{less}
+use Rattle.model.specs.Mail.{fits}
+use Rattle.model.specs.Lists.{count, Lists, sum, each-of, some, uses, queues}
+use Rattle.laws.specs.Chain.{Page}
+use Rattle.laws.specs.Queues.{Rep}
+use Rattle.laws.specs.Heads.{one}
+use Rattle.laws.specs.Uses.{Head, Sep}
+
+-- ---- the judged words: numbers that the memory must hold
+pub record View : Type 0 where
+  pub note : ℕ → ℕ  -- word 1 of a page that is no processor's
+  pub reason : ℕ → ℕ  -- word 2 of a page
+  pub label : ℕ → ℕ  -- word 7
+  pub state : ℕ → ℕ  -- word 12
+  pub sem : ℕ → ℕ  -- the word before the header of a wait queue
+  pub low : ℕ → ℕ  -- 239-243 and 248-251
+  pub code : ℕ → ℕ  -- the first word of code c
+  pub next : ℕ  -- word 0 of page 9
+  pub entry : ℕ → ℕ  -- word i + 1 of page 9
+
+abbrev pub view : List ℕ → View
+view m = record {
+  note = λ p. getD m (p * 32 + 1) 0;
+  reason = λ p. getD m (p * 32 + 2) 0;
+  label = λ p. getD m (p * 32 + 7) 0;
+  state = λ p. getD m (p * 32 + 12) 0;
+  sem = λ s. getD m s 0;
+  low = λ a. getD m a 0;
+  code = λ c. getD m (256 + 2 * c) 0;
+  next = getD m 288 0;
+  entry = λ i. getD m (289 + i) 0;
+}
+
+-- word k of each control page
+abbrev pub Col : List ℕ → ℕ → (ℕ → ℕ) → Type 0
+Col m k f = (p : ℕ) → Page p → getD m (p * 32 + k) 0 ≡ f p
+
+pub record Words (m : List ℕ) (ps : List ℕ) (n r l t : ℕ → ℕ) : Type 0 where
+  pub note : (p : ℕ) → Page p → count p ps ≡ 0 → getD m (p * 32 + 1) 0 ≡ n p
+  pub reason : Col m 2 r
+  pub label : Col m 7 l
+  pub state : Col m 12 t
+
+pub record Fixed (m : List ℕ) (l c : ℕ → ℕ) (n : ℕ) (e : ℕ → ℕ) : Type 0 where
+  pub clock : (a : ℕ) → 239 ≤ a → a ≤ 243 → getD m a 0 ≡ l a
+  pub turn : (a : ℕ) → 248 ≤ a → a ≤ 251 → getD m a 0 ≡ l a
+  pub code : (k : ℕ) → k < 16 → getD m (256 + 2 * k) 0 ≡ c k
+  pub next : getD m 288 0 ≡ n
+  pub entry : (i : ℕ) → i < 31 → getD m (289 + i) 0 ≡ e i
+
+pub record Reads (m : List ℕ) (ps : List ℕ) (W : View) : Type 0 where
+  pub words : Words m ps (W .note) (W .reason) (W .label) (W .state)
+  pub fixed : Fixed m (W .low) (W .code) (W .next) (W .entry)
+  pub sems : (s : ℕ) → 1 ≤ count (s + 1) (queues ps) → getD m s 0 ≡ W .sem s
+
+-- ---- what is true of them
+-- "names differ and lie in 1-15, priorities 1-15"
+abbrev pub bearers : (ℕ → ℕ) → List ℕ → ℕ → ℕ
+bearers l ps k = count k (each-of (λ p. l p % 16) ps)
+
+pub record Label (w : ℕ) : Type 0 where
+  pub name : 1 ≤ w % 16
+  pub low : 1 ≤ w / 16
+  pub high : w / 16 ≤ 15
+
+pub record Names (ps : List ℕ) (l : ℕ → ℕ) : Type 0 where
+  pub differ : (p : ℕ) → 1 ≤ count p ps → bearers l ps (l p % 16) ≡ 1
+  pub range : (p : ℕ) → 1 ≤ count p ps → Label (l p)
+
+-- "waiting bit set exactly if in one wait queue; reasons 1-255 in interrupt queues, 0 in the page queue and when not waiting"; "the two zeros of word 12"
+pub record Seats (ps : List ℕ) (L : Lists) (t r : ℕ → ℕ) : Type 0 where
+  pub bit : (p : ℕ) → 1 ≤ count p ps → sum p L (queues ps) ≡ t p % 128 / 64
+  pub zeros : (p : ℕ) → 1 ≤ count p ps → t p % 64 / 16 ≡ 0
+  pub served : (k : ℕ) → k < 54 → (p : ℕ) → 1 ≤ count p (L (132 + 2 * k)) → (1 ≤ r p) × (r p ≤ 255)
+  pub asking : (p : ℕ) → 1 ≤ count p (L 246) → r p ≡ 0
+  pub quiet : (p : ℕ) → 1 ≤ count p ps → t p % 128 / 64 ≡ 0 → r p ≡ 0
+
+-- "a message wait holds its owner only, reason flag 0-7, and matches nothing in its Q1": page x in the wait of p, whose reason is r and whose Q1 is qs
+pub record Waits (r : ℕ) (n : ℕ → ℕ) (qs : List ℕ) (p x : ℕ) : Type 0 where
+  pub owner : x ≡ p
+  pub flag : r % 16 ≤ 7
+  pub none : (q : ℕ) → 1 ≤ count q qs → fits (r / 16) (r % 16) (n q) ≡ false
+
+-- what counts for the semaphore at s beside its waiters: the free pages, for that of the page queue
+unfoldable pub stock : Lists → ℕ → ℕ
+stock L s = cond (eqb s 245) (length (L 244)) 0
+
+pub stock-page : (L : Lists) → stock L 245 ≡ length (L 244)
+unfolding stock
+stock-page L = refl
+
+pub stock-else : (L : Lists) (s : ℕ) → s ≢ 245 → stock L s ≡ 0
+unfolding stock
+stock-else L s n = rw (ne-eqb s 245 n)
+
+-- "free list empty if anyone waits for a page, who then holds no grant; grants only to existing names"; g is the name that is being deleted, whose
+-- grant is given back last, and 32 if none is
+pub record Granted (ps : List ℕ) (L : Lists) (l : ℕ → ℕ) (g : ℕ) : Type 0 where
+  pub bare : (p : ℕ) → 1 ≤ count p (L 246) → (length (L 244) ≡ 0) × (length (L (320 + l p % 16)) ≡ 0)
+  pub known : (k : ℕ) → k < 32 → k ≢ g → length (L (320 + k)) ≢ 0 → bearers l ps k ≡ 1
+
+-- "senders 1-15, flags 1-7, word 2 of a message 0-29 or 128"
+pub record Message (n w : ℕ) : Type 0 where
+  pub sender : 1 ≤ n / 16
+  pub known : n / 16 ≤ 15
+  pub flag : 1 ≤ n % 16
+  pub small : n % 16 ≤ 7
+  pub long : w ≢ 128 → w ≤ 29
+
+-- "word 25 of page 7 is the running one's word 7"
+pub record Runs (ps : List ℕ) (l b : ℕ → ℕ) : Type 0 where
+  pub idle : l 248 ≡ 0 → l 249 ≡ 0
+  pub listed : l 248 ≢ 0 → count (l 248) ps ≡ 1
+  pub tag : l 248 ≢ 0 → l 249 ≡ b (l 248)
+
+-- "the running one is ready and none ready is higher, idle only if none is ready"
+pub record Best (ps : List ℕ) (W : View) : Type 0 where
+  pub ready : W .low 248 ≢ 0 → suc (W .state (W .low 248)) ≤ 64
+  pub top : (p : ℕ) → 1 ≤ count p ps → suc (W .state p) ≤ 64 → W .label p / 16 ≤ W .low 249 / 16
+
+-- "kinds 0-2, codes 0, 1 built in, 15 absent or own"
+pub record Codes (c : ℕ → ℕ) : Type 0 where
+  pub kinds : (k : ℕ) → k < 16 → c k / 32 ≤ 2
+  pub zero : c 0 / 32 ≡ 1
+  pub one : c 1 / 32 ≡ 1
+  pub last : eqb (c 15 / 32) 1 ≡ false
+
+-- "counters below their ends, divider 1-255, line 16-47"; "page 7 word 26 zero"
+pub record Clock (l : ℕ → ℕ) : Type 0 where
+  pub c0 : suc (l 240) ≤ l 251
+  pub c1 : suc (l 241) ≤ 10
+  pub c2 : suc (l 242) ≤ 60
+  pub c3 : suc (l 243) ≤ 60
+  pub divider : (1 ≤ l 251) × (l 251 ≤ 255)
+  pub line : (16 ≤ l 239) × (l 239 ≤ 47)
+  pub nought : l 250 ≡ 0
+
+-- "page 9 in range with names 1-15, faults 1-12, unused zero"
+pub record Entry (w : ℕ) : Type 0 where
+  pub name : (1 ≤ w / 16) × (w / 16 ≤ 15)
+  pub fault : (1 ≤ w % 16) × (w % 16 ≤ 12)
+
+pub record Faults (n : ℕ) (e : ℕ → ℕ) : Type 0 where
+  pub range : (1 ≤ n) × (n ≤ 32)
+  pub used : (i : ℕ) → i < 31 → i + 2 ≤ n → Entry (e i)
+  pub unused : (i : ℕ) → i < 31 → n ≤ i + 1 → e i ≡ 0
+
+pub record Facts (ps : List ℕ) (L : Lists) (W : View) (g : ℕ) : Type 0 where
+  pub sep : Sep ps L
+  pub names : Names ps (W .label)
+  pub seats : Seats ps L (W .state) (W .reason)
+  pub own : (p : ℕ) → 1 ≤ count p ps → (x : ℕ) → 1 ≤ count x (L (p * 32 + 4)) → Waits (W .reason p) (W .note) (L (p * 32 + 5)) p x
+  pub sems : (s : ℕ) → 1 ≤ count (s + 1) (queues ps) → W .sem s ≡ less (stock L s) (length (L (s + 1)))
+  pub granted : Granted ps L (W .label) g
+  pub mail : (p w : ℕ) → 1 ≤ count p ps → 5 ≤ w → w ≤ 6 → (q : ℕ) → 1 ≤ count q (L (p * 32 + w)) → Message (W .note q) (W .reason q)
+  pub runs : Runs ps (W .low) (W .label)
+  pub codes : Codes (W .code)
+  pub clock : Clock (W .low)
+  pub faults : Faults (W .next) (W .entry)
+
+-- ---- the memory
+pub record Holds (m : List ℕ) (ps : List ℕ) (L : Lists) : Type 0 where
+  pub rep : Rep m (Head ps) L
+  pub grant : (k : ℕ) → k < 32 → L (320 + k) ≡ some (getD m (320 + k) 0)
+
+pub record Mem (m : List ℕ) (ps : List ℕ) (L : Lists) (W : View) : Type 0 where
+  pub size : length m ≡ 8192
+  pub holds : Holds m ps L
+  pub reads : Reads m ps W
+
+-- all but who runs, in the midst of a call: the pages hs are in hand, every other control page has its one use
+pub record Base (m : List ℕ) (ps : List ℕ) (L : Lists) (W : View) (hs : List ℕ) (g : ℕ) : Type 0 where
+  pub mem : Mem m ps L W
+  pub facts : Facts ps L W g
+  pub all : (z : ℕ) → sum z L (uses ps) + count z hs ≡ one z
+
+-- between calls: no page is in hand, and the right one runs
+pub record Inv (m : List ℕ) (ps : List ℕ) (L : Lists) (W : View) : Type 0 where
+  pub base : Base m ps L W [] 32
+  pub best : Best ps W

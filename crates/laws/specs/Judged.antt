@@ -1,0 +1,403 @@
+-- Well-formed: the judge accepts a memory of 8,192 words exactly where the invariant holds, of the lists that a walk finds. Assumes nothing.
+use mathlib.Core.Path.{_≡_, refl, sym, ap, _∙_}
+use mathlib.Core.Logic.{_≢_, _⊎_, inl, inr}
+use mathlib.Core.Bool.{Bool, true, false}
+use mathlib.Core.List.{List, [], _∷_}
+use Prim.Native.Nat.{ℕ, zero, _+_, _-_, _*_, _/_, _%_, _≤_, _<_}
+use native.Mathlib.Omega.{arith}
+use lib.ListN.{length, getD}
+use Rattle.model.specs.Store.{bytes}
+use Rattle.model.specs.Map.{less}
+use Rattle.model.specs.Bytes.{lists, judged, walk}
+use Rattle.model.specs.Lists as Model
+use Rattle.model.specs.Lists.{count, Lists, sum, each-of, range, some, linkOf, uses, queues, isGrant}
+use Rattle.model.specs.Judge as Judge
+use Rattle.laws.specs.Count.{hit-self, hit-or, zero-or}
+use Rattle.laws.specs.Rules.{means, sound, complete}
+use Rattle.laws.specs.Chain.{Page, Pages, walk-chain, chain-walk}
+use Rattle.laws.specs.Heads.{one, one-page, page-one, sum-pos, sum-ext, range1-at, range1-of, Seat, seat-of}
+use Rattle.laws.specs.Heads.Seat.{line, page, own}
+use Rattle.laws.specs.Uses.{Among, Sep, proc-page, list-short}
+use Rattle.laws.specs.Places.{in-uses, in-queues, in-procs, in-free, in-asking, in-own, in-q, in-grant, int-queue, grant-is, grant-of}
+use Rattle.laws.specs.Places.{q-free, wait-page, all-pages, own-once, asking-once}
+use Rattle.laws.specs.Inv.{View, view, bearers, Message, stock, stock-page, stock-else, Facts, Mem, Base, Best, Inv}
+
+-- ---- lists
+lists-walk : (m : List ℕ) (a : ℕ) → isGrant a ≡ false → lists m a ≡ walk 21 m (linkOf a) a
+unfolding Model.lists
+lists-walk m a e = rw (e, Model.lists)
+
+lists-some : (m : List ℕ) (a : ℕ) → isGrant a ≡ true → lists m a ≡ some (getD m a 0)
+unfolding Model.lists
+lists-some m a e = rw (e, Model.lists)
+
+-- ---- the judge is sound
+pages-of : (xs : List ℕ) → ((z : ℕ) → 1 ≤ count z xs → (236 ≤ z) × (z ≤ 255)) → Pages xs
+pages-of [] h = tt
+pages-of (x ∷ xs) h = let r = h x (omega (arith, hit-self x)) in ((r .0, omega arith), pages-of xs (λ z i. h z (omega arith)))
+
+page-or : (z : ℕ) → Page z ⊎ (one z ≡ 0)
+page-or z = go (zero-or (one z))
+  where
+    go : (one z ≡ 0) ⊎ (1 ≤ one z) → Page z ⊎ (one z ≡ 0)
+    go (inl e) = inr e
+    go (inr i) = inl (one-page z i)
+
+module _ (m : List ℕ) (ps : List ℕ) (L : Lists) (h : means (Judge.listed bytes m ps L)) where
+  none : (z a : ℕ) → one z ≡ 0 → Among ps a → count z (L a) ≡ 0
+  unfolding Judge.listed Judge.list Judge.page
+  none z a e i = go (zero-or (count z (L a)))
+    where
+      go : (count z (L a) ≡ 0) ⊎ (1 ≤ count z (L a)) → count z (L a) ≡ 0
+      go (inl e) = e
+      go (inr j) = let r = h a i .1 z j in absurd (omega (arith, page-one z (r .0, omega arith)))
+
+  once : means (Judge.usedOnce bytes m ps L) → (z : ℕ) → sum z L (uses ps) ≡ one z
+  unfolding Judge.usedOnce Judge.once
+  once u z = go (page-or z)
+    where
+      go : Page z ⊎ (one z ≡ 0) → sum z L (uses ps) ≡ one z
+      go (inl p) = u z (omega (arith, range1-at 20 236 z (p .0) (omega arith))) ∙ sym (page-one z p)
+      go (inr e) = sum-pos z L (uses ps) (λ a i. none z a e (in-uses ps a i)) ∙ sym e
+
+  only : means (Judge.waitingBits bytes m ps L) → (z : ℕ) → sum z L (queues ps) ≤ count z ps
+  unfolding Judge.waitingBits Judge.waiter
+  only u z = go (page-or z)
+    where
+      go : Page z ⊎ (one z ≡ 0) → sum z L (queues ps) ≤ count z ps
+      go (inl p) = u .1 z (omega (arith, range1-at 20 236 z (p .0) (omega arith)))
+      go (inr e) = omega (arith, sum-pos z L (queues ps) (λ a i. none z a e (in-queues ps a i)))
+
+-- the parts of two sentences that the invariant says in one
+sems : (m : List ℕ) (L : Lists) {ps : List ℕ} → ((k : ℕ) → k < 54 → getD m (131 + 2 * k) 0 ≡ less 0 (length (L (132 + 2 * k))))
+    → ((p : ℕ) → 1 ≤ count p ps → Page p) → ((p : ℕ) → 1 ≤ count p ps → getD m (p * 32 + 3) 0 ≡ less 0 (length (L (p * 32 + 4))))
+    → getD m 245 0 ≡ less (length (L 244)) (length (L 246)) → (s : ℕ) → Seat ps s → getD m s 0 ≡ less (stock L s) (length (L (s + 1)))
+sems m L f pg g h s (line k i e) =
+    let d : 131 + 2 * k + 1 ≡ 132 + 2 * k = omega arith in
+    rw (e, d, stock-else L (131 + 2 * k) (omega arith)) (f k i)
+sems m L f pg g h s (page e) = rw (e, stock-page L) h
+sems m L f pg g h s (own p i e) =
+    let d : p * 32 + 3 + 1 ≡ p * 32 + 4 = omega arith in
+    let n = pg p i in
+    rw (e, d, stock-else L (p * 32 + 3) (omega arith)) (g p i)
+
+abbrev Letter : ℕ → ℕ → Type 0
+Letter n w = ((1 ≤ n / 16) × (n / 16 ≤ 15)) × (((1 ≤ n % 16) × (n % 16 ≤ 7)) × (w ≢ 128 → w ≤ 29))
+
+letter : {n w : ℕ} → Letter n w → Message n w
+letter t = record { sender = t .0 .0; known = t .0 .1; flag = t .1 .0 .0; small = t .1 .0 .1; long = t .1 .1 }
+
+letter-of : {n w : ℕ} → Message n w → Letter n w
+letter-of t = ((t .sender, t .known), ((t .flag, t .small), t .long))
+
+mail : (m : List ℕ) (ps : List ℕ) (L : Lists) → means (Judge.messages bytes m ps L) → (p w : ℕ) → 1 ≤ count p ps → 5 ≤ w → w ≤ 6
+    → (q : ℕ) → 1 ≤ count q (L (p * 32 + w)) → Letter (getD m (q * 32 + 1) 0) (getD m (q * 32 + 2) 0)
+unfolding Judge.messages Judge.mail Judge.message Judge.sized
+mail m ps L t p w h i j q c = go (hit-or w 5)
+  where
+    go : (w ≡ 5) ⊎ (w ≢ 5) → Letter (getD m (q * 32 + 1) 0) (getD m (q * 32 + 2) 0)
+    go (inl e) = t p h .0 q (rw e at c)
+    go (inr n) = let e : w ≡ 6 = omega arith in t p h .1 q (rw e at c)
+
+-- the judged words and lists of a memory that the judge accepts
+pub judge-inv : (m : List ℕ) → length m ≡ 8192 → judged m ≡ true → Inv m (lists m 247) (lists m) (view m)
+unfolding Judge.page Judge.list Judge.listed Judge.once Judge.usedOnce Judge.label Judge.names Judge.bit Judge.waiter Judge.waitingBits Judge.reasoned
+    Judge.reasonless Judge.served Judge.quiet Judge.reasons Judge.unasked Judge.owner Judge.messageWait Judge.messageWaits Judge.interruptSemaphore
+    Judge.messageSemaphore Judge.pageSemaphore Judge.semaphores Judge.pageWait Judge.pageWaits Judge.grant Judge.granted Judge.sized Judge.message
+    Judge.mail Judge.messages Judge.runner Judge.notHigher Judge.running Judge.kind Judge.codes Judge.counters Judge.clock Judge.used Judge.entry
+    Judge.faults Judge.zeroBits Judge.zeros Judge.wellFormed Judge.judged
+judge-inv m size e =
+    let L = lists m in
+    let ps = L 247 in
+    let t = sound (Judge.wellFormed bytes m ps L) e in
+    let o = once m ps L (t .0) (t .1 .0) in
+    let sp : Sep ps L = record { procs = refl; most = λ z. omega (arith, o z); waits = only m ps L (t .0) (t .1 .1 .1 .0) } in
+    record {
+      base = record {
+        mem = record {
+          size = size;
+          holds = record {
+            rep = λ a h.
+                let q = t .0 a (h .0) in
+                let w = lists-walk m a (h .1) in
+                rw w (chain-walk 21 m (linkOf a) a (omega (arith, q .0, ap length w)) (rw w at (pages-of (L a) (q .1))));
+            grant = λ k h. lists-some m (320 + k) (grant-is k h);
+          };
+          reads = record {
+            words = record { note = λ p h n. refl; reason = λ p h. refl; label = λ p h. refl; state = λ p h. refl };
+            fixed = record { clock = λ a h i. refl; turn = λ a h i. refl; code = λ c h. refl; next = refl; entry = λ i h. refl };
+            sems = λ s h. refl;
+          };
+        };
+        facts = record {
+          sep = sp;
+          names = record {
+            differ = λ p h. t .1 .1 .0 p h .0;
+            range = λ p h. let q = t .1 .1 .0 p h in record { name = q .1 .0 .0; low = q .1 .1 .0; high = q .1 .1 .1 };
+          };
+          seats = record {
+            bit = λ p h. t .1 .1 .1 .0 .0 p h;
+            zeros = t .1 .1 .1 .1 .1 .1 .1 .1 .1 .1 .1 .1 .1 .1 .0;
+            served = λ k i p h. t .1 .1 .1 .1 .0 .0 k i p h;
+            asking = λ p h. t .1 .1 .1 .1 .0 .1 .0 p h;
+            quiet = λ p h z. t .1 .1 .1 .1 .0 .1 .1 p h z;
+          };
+          own = λ p h x i. let q = t .1 .1 .1 .1 .1 .0 p h x i in record { owner = q .0; flag = q .1 .0; none = q .1 .1 };
+          sems = λ s h. sems m L (t .1 .1 .1 .1 .1 .1 .0 .0) (proc-page sp) (t .1 .1 .1 .1 .1 .1 .0 .1 .0) (t .1 .1 .1 .1 .1 .1 .0 .1 .1) s (seat-of ps s h);
+          granted = record { bare = λ p h. t .1 .1 .1 .1 .1 .1 .1 .0 p h; known = λ k h d n. t .1 .1 .1 .1 .1 .1 .1 .1 .0 k h n };
+          mail = λ p w h i j q c. letter (mail m ps L (t .1 .1 .1 .1 .1 .1 .1 .1 .1 .0) p w h i j q c);
+          runs = record {
+            idle = t .1 .1 .1 .1 .1 .1 .1 .1 .1 .1 .0 .0;
+            listed = λ n. t .1 .1 .1 .1 .1 .1 .1 .1 .1 .1 .0 .1 .0 n .0;
+            tag = λ n. t .1 .1 .1 .1 .1 .1 .1 .1 .1 .1 .0 .1 .0 n .1 .0;
+          };
+          codes = let r = t .1 .1 .1 .1 .1 .1 .1 .1 .1 .1 .1 .0 in record { kinds = r .0; zero = r .1 .0; one = r .1 .1 .0; last = r .1 .1 .1 };
+          clock = let r = t .1 .1 .1 .1 .1 .1 .1 .1 .1 .1 .1 .1 .0 in record {
+            c0 = r .0 .0;
+            c1 = r .0 .1 .0;
+            c2 = r .0 .1 .1 .0;
+            c3 = r .0 .1 .1 .1;
+            divider = r .1 .0;
+            line = r .1 .1;
+            nought = t .1 .1 .1 .1 .1 .1 .1 .1 .1 .1 .1 .1 .1 .1 .1;
+          };
+          faults = let r = t .1 .1 .1 .1 .1 .1 .1 .1 .1 .1 .1 .1 .1 .0 in record {
+            range = r .0;
+            used = λ i h l. let q = r .1 i h .0 l in record { name = q .0; fault = q .1 };
+            unused = λ i h l. r .1 i h .1 l;
+          };
+        };
+        all = λ z. omega (arith, o z);
+      };
+      best = record { ready = λ n. t .1 .1 .1 .1 .1 .1 .1 .1 .1 .1 .0 .1 .0 n .1 .1; top = t .1 .1 .1 .1 .1 .1 .1 .1 .1 .1 .0 .1 .1 };
+    }
+
+-- ---- and complete
+pub each-ext : (f g : ℕ → ℕ) (ps : List ℕ) → ((p : ℕ) → 1 ≤ count p ps → f p ≡ g p) → each-of f ps ≡ each-of g ps
+each-ext f g [] h = refl
+each-ext f g (p ∷ ps) h = rw (h p (omega (arith, hit-self p)), each-ext f g ps (λ x i. h x (omega arith)))
+
+-- the lists of the invariant are those that a walk finds
+pub walked-short : {m : List ℕ} {ps : List ℕ} {L : Lists} {W : View} → Mem m ps L W → (a : ℕ) → Among ps a → length (L a) ≤ 20 → lists m a ≡ L a
+walked-short {m} {L = L} x a h l = go (isGrant a) refl
+  where
+    go : (b : Bool) → isGrant a ≡ b → lists m a ≡ L a
+    go true e =
+        let r = grant-of a e in
+        let q : 320 + (a - 320) ≡ a = omega arith in
+        lists-some m a e ∙ sym (rw q at (x .holds .grant (a - 320) (omega arith)))
+    go false e = lists-walk m a e ∙ walk-chain 21 m (linkOf a) a (L a) (x .holds .rep a (h, e)) (omega arith)
+
+module _ {m : List ℕ} {ps : List ℕ} {L : Lists} {W : View} {hs : List ℕ} {g : ℕ} (i : Base m ps L W hs g) where
+  s : Sep ps L
+  s = i .facts .sep
+
+  pub walked : (a : ℕ) → Among ps a → lists m a ≡ L a
+  walked a h = walked-short (i .mem) a h (list-short s a h)
+
+  bearers-is : (k : ℕ) → bearers (λ p. getD m (p * 32 + 7) 0) ps k ≡ bearers (W .label) ps k
+  bearers-is k =
+      ap (count k) (each-ext (λ p. getD m (p * 32 + 7) 0 % 16) (λ p. W .label p % 16) ps
+      (λ p h. ap (λ (x : ℕ). x % 16) (i .mem .reads .words .label p (proc-page s p h))))
+
+  pub sums : (z : ℕ) → (sum z (lists m) (uses ps) ≡ sum z L (uses ps)) × (sum z (lists m) (queues ps) ≡ sum z L (queues ps))
+  sums z = (sum-ext z (lists m) L (uses ps) (λ a h. walked a (in-uses ps a h)), sum-ext z (lists m) L (queues ps) (λ a h. walked a (in-queues ps a h)))
+
+  at-queue : (a : ℕ) → 1 ≤ count a (queues ps) → lists m a ≡ L a
+  at-queue a h = walked a (in-queues ps a h)
+
+  at-own : (p : ℕ) → 1 ≤ count p ps → lists m (p * 32 + 4) ≡ L (p * 32 + 4)
+  at-own p h = walked (p * 32 + 4) (in-own ps p h)
+
+  at-mail : (p w : ℕ) → 5 ≤ w → w ≤ 6 → 1 ≤ count p ps → lists m (p * 32 + w) ≡ L (p * 32 + w)
+  at-mail p w u v h = walked (p * 32 + w) (in-q ps p w u v h)
+
+  at-grant : (k : ℕ) → k < 32 → lists m (320 + k) ≡ L (320 + k)
+  at-grant k h = walked (320 + k) (in-grant ps k h)
+
+  stock-is : (a : ℕ) → stock (lists m) a ≡ stock L a
+  unfolding stock
+  stock-is a = rw (walked 244 (in-free ps))
+
+  pub facts-here : Facts ps (lists m) (view m) g
+  facts-here =
+      let f = i .facts in
+      let r = i .mem .reads in
+      let pg = proc-page s in
+      let wf = walked 244 (in-free ps) in
+      let wa = walked 246 (in-asking ps) in
+      let l8 = r .fixed .turn 248 (omega arith) (omega arith) in
+      let l9 = r .fixed .turn 249 (omega arith) (omega arith) in
+      let d = r .fixed .turn 251 (omega arith) (omega arith) in
+      record {
+        sep = record {
+          procs = walked 247 (in-procs ps) ∙ s .procs;
+          most = λ z. omega (arith, sums z, s .most z);
+          waits = λ z. omega (arith, sums z, s .waits z);
+        };
+        names = record {
+          differ = λ p h. rw (r .words .label p (pg p h)) (bearers-is (W .label p % 16) ∙ f .names .differ p h);
+          range = λ p h. rw (r .words .label p (pg p h)) (f .names .range p h);
+        };
+        seats = record {
+          bit = λ p h. rw (r .words .state p (pg p h)) (sums p .1 ∙ f .seats .bit p h);
+          zeros = λ p h. rw (r .words .state p (pg p h)) (f .seats .zeros p h);
+          served = λ k h p j.
+              let q = int-queue ps k h in
+              let g = rw (at-queue (132 + 2 * k) q) at j in
+              rw (r .words .reason p (pg p (wait-page s (132 + 2 * k) p q g))) (f .seats .served k h p g);
+          asking = λ p j. let g = rw wa at j in rw (r .words .reason p (pg p (wait-page s 246 p (omega arith) g))) (f .seats .asking p g);
+          quiet = λ p h z. rw (r .words .reason p (pg p h)) (f .seats .quiet p h (rw (r .words .state p (pg p h)) at z));
+        };
+        own = λ p h x j. let t = f .own p h x (rw (at-own p h) at j) in record {
+          owner = t .owner;
+          flag = rw (r .words .reason p (pg p h)) (t .flag);
+          none = λ q c.
+              let c2 = rw (at-mail p 5 (omega arith) (omega arith) h) at c in
+              let n = q-free s p 5 q (omega arith) (omega arith) h c2 in
+              rw (r .words .reason p (pg p h), r .words .note q (n .0) (n .1)) (t .none q c2);
+        };
+        sems = λ a h. rw (at-queue (a + 1) h, stock-is a) (r .sems a h ∙ f .sems a h);
+        granted = record {
+          bare = λ p j.
+              let c = rw wa at j in
+              let h = wait-page s 246 p (omega arith) c in
+              rw (r .words .label p (pg p h), wf, at-grant (W .label p % 16) (omega arith)) (f .granted .bare p c);
+          known = λ k h c n. bearers-is k ∙ f .granted .known k h c (rw (at-grant k h) at n);
+        };
+        mail = λ p w h u v q c.
+            let c2 = rw (at-mail p w u v h) at c in
+            let n = q-free s p w q u v h c2 in
+            rw (r .words .note q (n .0) (n .1), r .words .reason q (n .0)) (f .mail p w h u v q c2);
+        runs = record {
+          idle = rw (l8, l9) (f .runs .idle);
+          listed = rw l8 (f .runs .listed);
+          tag = rw l8 (λ n. let h = pg (W .low 248) (omega (arith, f .runs .listed n)) in l9 ∙ f .runs .tag n ∙ sym (r .words .label (W .low 248) h));
+        };
+        codes = let c = f .codes in record {
+          kinds = λ k h. rw (r .fixed .code k h) (c .kinds k h);
+          zero = rw (r .fixed .code 0 (omega arith)) (c .zero);
+          one = rw (r .fixed .code 1 (omega arith)) (c .one);
+          last = rw (r .fixed .code 15 (omega arith)) (c .last);
+        };
+        clock = let c = f .clock in record {
+          c0 = rw (r .fixed .clock 240 (omega arith) (omega arith), d) (c .c0);
+          c1 = rw (r .fixed .clock 241 (omega arith) (omega arith)) (c .c1);
+          c2 = rw (r .fixed .clock 242 (omega arith) (omega arith)) (c .c2);
+          c3 = rw (r .fixed .clock 243 (omega arith) (omega arith)) (c .c3);
+          divider = rw d (c .divider);
+          line = rw (r .fixed .clock 239 (omega arith) (omega arith)) (c .line);
+          nought = rw (r .fixed .turn 250 (omega arith) (omega arith)) (c .nought);
+        };
+        faults = let c = f .faults in record {
+          range = rw (r .fixed .next) (c .range);
+          used = λ k h l. rw (r .fixed .entry k h) (c .used k h (rw (r .fixed .next) at l));
+          unused = λ k h l. rw (r .fixed .entry k h) (c .unused k h (rw (r .fixed .next) at l));
+        };
+      }
+
+module _ {m : List ℕ} {ps : List ℕ} {L : Lists} {W : View} (inv : Inv m ps L W) where
+  i : Base m ps L W [] 32
+  i = inv .base
+
+  best-here : Best ps (view m)
+  best-here =
+      let f = i .facts in
+      let r = i .mem .reads in
+      let pg = proc-page (i .facts .sep) in
+      let l8 = r .fixed .turn 248 (omega arith) (omega arith) in
+      let l9 = r .fixed .turn 249 (omega arith) (omega arith) in
+      record {
+        ready = rw l8 (λ n. rw (r .words .state (W .low 248) (pg (W .low 248) (omega (arith, f .runs .listed n)))) (inv .best .ready n));
+        top = λ p h c. rw (r .words .label p (pg p h), l9) (inv .best .top p h (rw (r .words .state p (pg p h)) at c));
+      }
+
+  passes : means (Judge.wellFormed bytes m ps (lists m))
+  unfolding Judge.page Judge.list Judge.listed Judge.once Judge.usedOnce Judge.label Judge.names Judge.bit Judge.waiter Judge.waitingBits Judge.reasoned
+      Judge.reasonless Judge.served Judge.quiet Judge.reasons Judge.unasked Judge.owner Judge.messageWait Judge.messageWaits Judge.interruptSemaphore
+      Judge.messageSemaphore Judge.pageSemaphore Judge.semaphores Judge.pageWait Judge.pageWaits Judge.grant Judge.granted Judge.sized Judge.message
+      Judge.mail Judge.messages Judge.runner Judge.notHigher Judge.running Judge.kind Judge.codes Judge.counters Judge.clock Judge.used Judge.entry
+      Judge.faults Judge.zeroBits Judge.zeros Judge.wellFormed
+  passes =
+      let f = facts-here i in
+      let u = f .sep in (
+        (λ a h. (list-short u a h, λ x j. listed a h x j)),
+        (
+          (λ z h. let r = range1-of 20 236 z h in omega (arith, u .most z, sums i z, i .all z, page-one z (r .0, omega arith))),
+          (
+            (λ p h. (f .names .differ p h, let l = f .names .range p h in ((l .name, omega arith), (l .low, l .high)))),
+            (
+              (f .seats .bit, λ z h. u .waits z),
+              (
+                (f .seats .served, (f .seats .asking, f .seats .quiet)),
+                (
+                  (λ p h x j. let t = f .own p h x j in (t .owner, (t .flag, t .none))),
+                  (
+                    (line-sem, (own-sem, f .sems 245 (omega (arith, asking-once u .here)) ∙ page-sem)),
+                    (
+                      f .granted .bare,
+                      (
+                        (λ k h n. f .granted .known k h (omega arith) n),
+                        (
+                          (λ p h. (
+                            λ q j. letter-of (f .mail p 5 h (omega arith) (omega arith) q j),
+                            λ q j. letter-of (f .mail p 6 h (omega arith)
+                                (omega arith) q j),
+                          )),
+                          (
+                            (f .runs .idle, ((λ n. (f .runs .listed n, (f .runs .tag n, best-here .ready n))), best-here .top)),
+                            (
+                              (f .codes .kinds, (f .codes .zero, (f .codes .one, f .codes .last))),
+                              (
+                                ((f .clock .c0, (f .clock .c1, (f .clock .c2, f .clock .c3))), (f .clock .divider, f .clock .line)),
+                                (
+                                  (f .faults .range, λ k h. ((λ l. let t = f .faults .used k h l in (t .name, t .fault)), f .faults .unused k h)),
+                                  (f .seats .zeros, f .clock .nought),
+                                ),
+                              ),
+                            ),
+                          ),
+                        ),
+                      ),
+                    ),
+                  ),
+                ),
+              ),
+            ),
+          ),
+        ),
+      )
+    where
+      listed : (a : ℕ) → Among ps a → (x : ℕ) → 1 ≤ count x (lists m a) → (236 ≤ x) × (x ≤ 255)
+      listed a h x j = let r = all-pages (facts-here i .sep) a x h j in (r .0, omega arith)
+
+      line-sem : (k : ℕ) → k < 54 → getD m (131 + 2 * k) 0 ≡ less 0 (length (lists m (132 + 2 * k)))
+      line-sem k h =
+          let d : 131 + 2 * k + 1 ≡ 132 + 2 * k = omega arith in
+          let q = int-queue ps k h in
+          rw (stock-else (lists m) (131 + 2 * k) (omega arith), d) at (facts-here i .sems (131 + 2 * k) (rw d q))
+
+      own-sem : (p : ℕ) → 1 ≤ count p ps → getD m (p * 32 + 3) 0 ≡ less 0 (length (lists m (p * 32 + 4)))
+      own-sem p h =
+          let d : p * 32 + 3 + 1 ≡ p * 32 + 4 = omega arith in
+          let g = proc-page (facts-here i .sep) p h in
+          let q = own-once (facts-here i .sep) p h .here in
+          rw (stock-else (lists m) (p * 32 + 3) (omega arith), d) at (facts-here i .sems (p * 32 + 3) (rw d (omega arith)))
+
+      page-sem : less (stock (lists m) 245) (length (lists m 246)) ≡ less (length (lists m 244)) (length (lists m 246))
+      page-sem = rw (stock-page (lists m))
+
+  pub inv-judge : judged m ≡ true
+  unfolding Judge.judged
+  inv-judge = rw (facts-here i .sep .procs) (complete (Judge.wellFormed bytes m ps (lists m)) passes)
+
+-- ---- what every later law is about
+pub record WellFormed (m : List ℕ) : Type 0 where
+  pub size : length m ≡ 8192
+  pub accepted : judged m ≡ true
+
+pub well-formed : {m : List ℕ} {ps : List ℕ} {L : Lists} {W : View} → Inv m ps L W → WellFormed m
+well-formed v = record { size = v .base .mem .size; accepted = inv-judge v }
+
+pub invariant : {m : List ℕ} → WellFormed m → Inv m (lists m 247) (lists m) (view m)
+invariant {m} w = judge-inv m (w .size) (w .accepted)

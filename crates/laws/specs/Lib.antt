@@ -1,0 +1,51 @@
+-- What follows from the model.
+-- Counting, chains, what a rule says
+pub mod Count
+pub mod Chain
+pub mod Queues
+pub mod Rules
+-- Which cells head a list, and that no page has two uses
+pub mod Heads
+pub mod Uses
+pub mod Places
+pub mod Members
+-- The invariant, and that the judge says the same
+pub mod Inv
+pub mod Judged
+-- Stores: what they leave, what the memory then holds, which sentences stay
+pub mod Frames
+pub mod Views
+pub mod Stores
+pub mod Cells
+pub mod Changes
+-- The steps: wake, wait, take and give pages, deliver, create, delete, who runs
+pub mod Wake
+pub mod Waits
+pub mod Hands
+pub mod Grants
+pub mod Post
+pub mod Still
+pub mod Grow
+pub mod Shrink
+pub mod Leave
+pub mod Who
+-- How calls end; a fresh start; the instructions and interrupts
+pub mod Ends
+pub mod Start
+pub mod Simple
+pub mod Mails
+pub mod Interrupts
+pub mod Create
+pub mod Delete
+-- Words of 8 bits; any instruction; the calls
+pub mod Words
+pub mod Run
+pub mod Eight
+pub mod Kinds
+pub mod Calls
+-- What the promises cite
+pub mod Refusals
+pub mod Frame
+pub mod Four
+pub mod Meaning
+pub mod Witness

@@ -1,0 +1,109 @@
+-- What the steps do to the lists: joining appends, leaving takes just that page out, a page given back is free or the first waiter's grant, a message
+-- delivered stands at the end of Q1; and no other list changes. The lists are those that a walk finds. Assumes nothing.
+use mathlib.Core.Path.{_≡_, sym, ap, _∙_}
+use mathlib.Core.Logic.{_≢_}
+use mathlib.Core.List.{List, [], _∷_, _++_}
+use Prim.Native.Nat.{ℕ, _+_, _-_, _*_, _%_, _≤_}
+use native.Mathlib.Omega.{arith}
+use lib.ListN.{length, getD, length-append}
+use borrow.Author.Tests.{ne-eqb}
+use Rattle.model.specs.Page as Page
+use Rattle.model.specs.Bytes.{lists, join, leave, giveBack, deliver}
+use Rattle.model.specs.Lists.{count, Lists, some}
+use Rattle.laws.specs.Count.{count-append}
+use Rattle.laws.specs.Chain.{Page}
+use Rattle.laws.specs.Queues.{upd, upd-same, upd-other}
+use Rattle.laws.specs.Uses.{Among, Head, proc-page, list-short}
+use Rattle.laws.specs.Places.{InUses, in-free, in-asking, in-q, in-grant, grant-low}
+use Rattle.laws.specs.Inv.{View, Message, Base}
+use Rattle.laws.specs.Judged.{walked, walked-short}
+use Rattle.laws.specs.Cells.{chain0, join-mem, leave-mem}
+use Rattle.laws.specs.Changes.{uses-upd, uses-sep, hand-page}
+use Rattle.laws.specs.Hands.{in-hand, hand-new, give-free}
+use Rattle.laws.specs.Grants.{waiter-proc, give-grant, some-is}
+use Rattle.laws.specs.Post.{deliver-all}
+
+-- from m to m′ the list of a becomes xs, and no other list changes
+pub record Becomes (ps : List ℕ) (m m′ : List ℕ) (a : ℕ) (xs : List ℕ) : Type 0 where
+  pub here : lists m′ a ≡ xs
+  pub others : (c : ℕ) → Among ps c → c ≢ a → lists m′ c ≡ lists m c
+
+-- "Joining is at the end": a page in hand joins a list of uses
+pub join-appends : {m : List ℕ} {ps : List ℕ} {L : Lists} {W : View} {hs : List ℕ} {g q : ℕ} → Base m ps L W (q ∷ hs) g → (a : ℕ) → Head ps a → InUses ps a
+    → a ≢ 247 → Becomes ps m (join m a 0 q) a (lists m a ++ q ∷ [])
+join-appends {m} {ps} {L} {W} {hs} {g} {q} b a ha i na =
+    let s = b .facts .sep in
+    let K = L a ++ q ∷ [] in
+    let x = join-mem s (b .mem) a ha na q (hand-page b q (in-hand b)) (hand-new b) in
+    let s2 = uses-sep s a i na (L a ++ q ∷ []) (λ z. omega (arith, uses-upd s a i na (L a ++ q ∷ []) z, count-append z (L a) (q ∷ []), b .all z)) in
+    record {
+      here = walked-short x a (ha .0) (list-short s2 a (ha .0)) ∙ upd-same L a K ∙ ap (λ (l : List ℕ). l ++ q ∷ []) (sym (walked b a (ha .0)));
+      others = λ c h d. walked-short x c h (list-short s2 c h) ∙ upd-other L a c K d ∙ sym (walked b c h);
+    }
+
+-- "a page that leaves": it stood between xs and ys
+pub leave-takes : {m : List ℕ} {ps : List ℕ} {L : Lists} {W : View} {hs : List ℕ} {g : ℕ} → Base m ps L W hs g → (a q : ℕ) (xs ys : List ℕ) → Head ps a
+    → a ≢ 247
+    → lists m a ≡ xs ++ q ∷ ys → Becomes ps m (leave m a 0 q) a (xs ++ ys)
+leave-takes {m} {ps} {L} b a q xs ys ha na e =
+    let s = b .facts .sep in
+    let e2 = sym (walked b a (ha .0)) ∙ e in
+    let x = leave-mem s (b .mem) a ha na q xs ys e2 in
+    let l = list-short s a (ha .0) in
+    record {
+      here = walked-short x a (ha .0) (rw (upd-same L a (xs ++ ys)) (omega (arith, l, ap length e2, length-append xs (q ∷ ys), length-append xs ys)))
+          ∙ upd-same L a (xs ++ ys);
+      others = λ c h d.
+          let k = upd-other L a c (xs ++ ys) d in
+          walked-short x c h (rw k (list-short s c h)) ∙ k ∙ sym (walked b c h);
+    }
+
+-- "A page given back": with no waiter, to the end of the free list
+pub give-frees : {m : List ℕ} {ps : List ℕ} {L : Lists} {W : View} {hs : List ℕ} {g q : ℕ} → Base m ps L W (q ∷ hs) g → lists m 246 ≡ []
+    → Becomes ps m (giveBack m q) 244 (lists m 244 ++ q ∷ [])
+unfolding Page.giveBack
+give-frees {m} {ps} {L} {q = q} b e =
+    let s = b .facts .sep in
+    let e2 = sym (walked b 246 (in-asking ps)) ∙ e in
+    let z : getD m 246 0 ≡ 0 = rw e2 at (chain0 s (b .mem) 246 (in-asking ps, grant-low 246 (omega arith)) (omega arith)) in
+    let r = give-free b e2 in
+    rw z (record {
+      here = walked r 244 (in-free ps) ∙ upd-same L 244 (L 244 ++ q ∷ []) ∙ ap (λ (l : List ℕ). l ++ q ∷ []) (sym (walked b 244 (in-free ps)));
+      others = λ c h d. walked r c h ∙ upd-other L 244 c (L 244 ++ q ∷ []) d ∙ sym (walked b c h);
+    })
+
+-- "to the first waiter as its grant and wakes it": p was the first, ws the others
+pub record Grants (ps : List ℕ) (m m′ : List ℕ) (n q : ℕ) (ws : List ℕ) : Type 0 where
+  pub grant : lists m′ (320 + n) ≡ q ∷ []
+  pub queue : lists m′ 246 ≡ ws
+  pub others : (c : ℕ) → Among ps c → c ≢ 320 + n → c ≢ 246 → lists m′ c ≡ lists m c
+
+pub give-grants : {m : List ℕ} {ps : List ℕ} {L : Lists} {W : View} {hs : List ℕ} {g q : ℕ} → Base m ps L W (q ∷ hs) g → (p : ℕ) (ws : List ℕ)
+    → lists m 246 ≡ p ∷ ws
+    → Grants ps m (giveBack m q) (getD m (p * 32 + 7) 0 % 16) q ws
+unfolding Page.giveBack
+give-grants {m} {ps} {L} {W} {q = q} b p ws e =
+    let s = b .facts .sep in
+    let e2 = sym (walked b 246 (in-asking ps)) ∙ e in
+    let z = rw e2 at (chain0 s (b .mem) 246 (in-asking ps, grant-low 246 (omega arith)) (omega arith)) in
+    let n = W .label p % 16 in
+    let l = b .mem .reads .words .label p (proc-page s p (waiter-proc b p ws e2)) in
+    let pq = hand-page b q (in-hand b) in
+    let r = give-grant b p ws e2 in
+    let A = upd L 246 ws in
+    rw (z .0, ne-eqb p 0 (omega (arith, z)), l) (record {
+      grant = walked r (320 + n) (in-grant ps n (omega arith)) ∙ upd-same A (320 + n) (some q) ∙ some-is q (omega (arith, pq));
+      queue = walked r 246 (in-asking ps) ∙ upd-other A (320 + n) 246 (some q) (omega arith) ∙ upd-same L 246 ws;
+      others = λ c h d1 d2. walked r c h ∙ upd-other A (320 + n) c (some q) d1 ∙ upd-other L 246 c ws d2 ∙ sym (walked b c h);
+    })
+
+-- "The page joins NI's Q1; if NI waits for it, NI wakes": p is NI's page; its own wait is the only other list that may change
+pub deliver-appends : {m : List ℕ} {ps : List ℕ} {L : Lists} {W : View} {hs : List ℕ} {g q : ℕ} (b : Base m ps L W (q ∷ hs) g) (p : ℕ) (h : 1 ≤ count p ps)
+    (letter : Message (W .note q) (W .reason q)) → (lists (deliver m p q) (p * 32 + 5) ≡ lists m (p * 32 + 5) ++ q ∷ [])
+    × ((c : ℕ) → Among ps c → c ≢ p * 32 + 5 → c ≢ p * 32 + 4 → lists (deliver m p q) c ≡ lists m c)
+deliver-appends {ps = ps} {q = q} b p h letter =
+    let t = deliver-all b p h letter in
+    let i5 = in-q ps p 5 (omega arith) (omega arith) h in (
+      walked (t .gave .base) (p * 32 + 5) i5 ∙ t .here ∙ ap (λ (l : List ℕ). l ++ q ∷ []) (sym (walked b (p * 32 + 5) i5)),
+      λ c i d e. walked (t .gave .base) c i ∙ t .others c d e ∙ sym (walked b c i),
+    )

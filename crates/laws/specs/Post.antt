@@ -1,0 +1,216 @@
+-- Sending: "The page joins NI's Q1; if NI waits for it, NI wakes." "A notice wakes one that waits for it alike." A message or a notice in hand, delivered,
+-- keeps the invariant. Assumes nothing.
+use mathlib.Core.Path.{_≡_, refl, ap, _∙_}
+use mathlib.Core.Logic.{_≢_}
+use mathlib.Core.Bool.{Bool, true, false}
+use mathlib.Core.List.{List, [], _∷_, _++_}
+use Prim.Native.Nat.{ℕ, zero, suc, _+_, _-_, _*_, _/_, _%_, _≤_, _<_}
+use native.Mathlib.Omega.{arith}
+use lib.ListN.{length, getD, set, length-set}
+use lib.Seq.{getD-set-same}
+use lib.Dec.{eqb}
+use borrow.Author.Tests.{ne-eqb}
+use Rattle.model.specs.Address as Address
+use Rattle.model.specs.Mail as Mail
+use Rattle.model.specs.Mail.{fits}
+use Rattle.model.specs.Bytes.{join, wake, copy, deliver, writeMessage, makeNotice}
+use Rattle.model.specs.Lists.{hit, count, Lists, sum, uses}
+use Rattle.laws.specs.Count.{hit-self}
+use Rattle.laws.specs.Chain.{Page, Chain}
+use Rattle.laws.specs.Queues.{upd, upd-same, upd-other, upd-swap}
+use Rattle.laws.specs.Heads.{one, sum-skip}
+use Rattle.laws.specs.Uses.{Sep, proc-page, single}
+use Rattle.laws.specs.Places.{in-own, own-once, grant-high}
+use Rattle.laws.specs.Inv.{View, Label, Message, Facts, Mem, Base}
+use Rattle.laws.specs.Frames.{other, Only, only-refl, only-set, only-copy}
+use Rattle.laws.specs.Views.{put1, put1-same, put1-other}
+use Rattle.laws.specs.Cells.{chain0}
+use Rattle.laws.specs.Changes.{own-sem, hand-page, hand-out}
+use Rattle.laws.specs.Wake.{woken, facts-wake, wake-mem}
+use Rattle.laws.specs.Hands.{hand-base, in-hand, room, facts-mail, more-mail, mail-sep, mail-mem, give-mail}
+use Rattle.laws.specs.Grants.{Gave}
+
+module _ {m : List ℕ} {ps : List ℕ} {L : Lists} {W : View} {hs : List ℕ} {g q : ℕ} (b : Base m ps L W (q ∷ hs) g) (p : ℕ) (h : 1 ≤ count p ps)
+    (letter : Message (W .note q) (W .reason q)) where
+  s : Sep ps L
+  s = b .facts .sep
+
+  pg : Page p
+  pg = proc-page s p h
+
+  abbrev a5 : ℕ
+  a5 = p * 32 + 5
+
+  abbrev a4 : ℕ
+  a4 = p * 32 + 3 + 1
+
+  abbrev K : Lists
+  K = upd L a5 (L a5 ++ q ∷ [])
+
+  abbrev m1 : List ℕ
+  m1 = join m a5 0 q
+
+  pub x1 : Mem m1 ps K W
+  x1 = mail-mem b p 5 h (omega arith) (omega arith)
+
+  abbrev asked : Bool
+  asked = fits (W .reason p / 16) (W .reason p % 16) (W .note q)
+
+  -- what `awaits` reads
+  pub reason-at : getD m1 (p * 32 + 2) 0 ≡ W .reason p
+  reason-at = x1 .reads .words .reason p pg
+
+  pub note-at : getD m1 (q * 32 + 1) 0 ≡ W .note q
+  note-at = x1 .reads .words .note q (hand-page b q (in-hand b)) (hand-out b q (in-hand b))
+
+  -- then Q1 ends with q, and no list changes but it and the own wait of p
+  pub record Delivered (M : List ℕ) : Type 0 where
+    pub gave : Gave M ps hs g W
+    pub here : gave .lists (p * 32 + 5) ≡ L (p * 32 + 5) ++ q ∷ []
+    pub others : (c : ℕ) → c ≢ p * 32 + 5 → c ≢ p * 32 + 4 → gave .lists c ≡ L c
+
+  -- nobody wakes
+  quiet : ((x : ℕ) → 1 ≤ count x (L (p * 32 + 4)) → asked ≡ false) → Delivered m1
+  quiet none = record {
+    gave = record { lists = K; view = W; base = give-mail b p 5 h (omega arith) (omega arith) letter (λ x i e. none x i); low = refl };
+    here = upd-same L a5 (L a5 ++ q ∷ []);
+    others = λ c d e. upd-other L a5 c (L a5 ++ q ∷ []) d;
+  }
+
+  -- the owner wakes; L says that its wait holds it alone
+  module _ (xs : List ℕ) (e : L a4 ≡ p ∷ xs) where
+    at4 : a4 ≡ p * 32 + 4
+    at4 = omega arith
+
+    fw : Facts ps (upd L a4 xs) (woken W (p * 32 + 3) p) g
+    fw = facts-wake (p * 32 + 3) p [] xs (b .facts) (own-sem s p h) e
+
+    not-p : q ≢ p
+    not-p d = omega (arith, ap (λ (y : ℕ). count y ps) d, hand-out b q (in-hand b))
+
+    room4 : (z : ℕ) → sum z (upd L a4 xs) (uses ps) + hit (eqb z q) ≤ one z
+    room4 z = omega (arith, room b z, sum-skip z L a4 xs (uses ps) (rw at4 (own-once s p h .away)))
+
+    letter4 : Message (W .note q) (put1 (W .reason) p 0 q)
+    letter4 = rw (put1-other (W .reason) p 0 q not-p) letter
+
+    alone : (x : ℕ) → 1 ≤ count x (upd L a4 xs (p * 32 + 4)) → _≡_ {A = ℕ} 5 5
+        → fits (woken W (p * 32 + 3) p .reason p / 16) (woken W (p * 32 + 3) p .reason p % 16) (W .note q) ≡ false
+    alone x i r =
+        let o = fw .own p h x i .owner in
+        let j = rw (← at4, upd-same, o) at i in
+        absurd (omega (arith, single s (p * 32 + 4) (in-own ps p h, grant-high (p * 32 + 4) (omega (arith, pg))) p, hit-self p, ap (count p) (rw at4 at e)))
+
+    fm : Facts ps (upd (upd L a4 xs) a5 (upd L a4 xs a5 ++ q ∷ [])) (woken W (p * 32 + 3) p) g
+    fm = facts-mail q fw room4 p 5 h (omega arith) (omega arith) letter4 alone
+
+    swap : upd K a4 xs ≡ upd (upd L a4 xs) a5 (upd L a4 xs a5 ++ q ∷ [])
+    swap = rw (upd-other L a4 a5 xs (omega arith)) (upd-swap L a5 a4 (L a5 ++ q ∷ []) xs (omega arith))
+
+    wakes : Delivered (wake m1 (p * 32 + 3) p)
+    wakes =
+        let e2 = upd-other L a5 a4 (L a5 ++ q ∷ []) (omega arith) ∙ e in
+        let x5 = upd-other L a4 a5 xs (omega arith) in
+        record {
+          gave = record {
+            lists = upd (upd L a4 xs) a5 (upd L a4 xs a5 ++ q ∷ []);
+            view = woken W (p * 32 + 3) p;
+            base = record {
+              mem = rw swap at (wake-mem (p * 32 + 3) p [] xs (mail-sep b p 5 h (omega arith) (omega arith)) (rw swap (fm .sep)) x1 (own-sem s p h) pg e2);
+              facts = fm;
+              all = λ z.
+                  omega (
+                    arith,
+                    more-mail q fw room4 p 5 h (omega arith) (omega arith) letter4 alone z,
+                    b .all z,
+                    sum-skip z L a4 xs (uses ps) (rw at4 (own-once s p h .away)),
+                  );
+            };
+            low = refl;
+          };
+          here = upd-same (upd L a4 xs) a5 (upd L a4 xs a5 ++ q ∷ []) ∙ ap (λ (l : List ℕ). l ++ q ∷ []) x5;
+          others = λ c d f. upd-other (upd L a4 xs) a5 c (upd L a4 xs a5 ++ q ∷ []) d ∙ upd-other L a4 c xs (λ z. f (z ∙ at4));
+        }
+
+  pub deliver-all : Delivered (deliver m p q)
+  unfolding Mail.deliver Mail.heard Mail.awaits Mail.matches
+  deliver-all =
+      go (L (p * 32 + 4)) refl (chain0 (mail-sep b p 5 h (omega arith) (omega arith)) x1 (p * 32 + 4) (
+        in-own ps p h,
+        grant-high (p * 32 + 4)
+            (omega (arith, pg)),
+      )
+      (omega (arith, pg))) asked refl
+    where
+      same : K (p * 32 + 4) ≡ L (p * 32 + 4)
+      same = upd-other L a5 (p * 32 + 4) (L a5 ++ q ∷ []) (omega arith)
+
+      go : (ys : List ℕ) → L (p * 32 + 4) ≡ ys → Chain m1 0 (p * 32 + 4) (K (p * 32 + 4)) → (c : Bool) → asked ≡ c → Delivered (deliver m p q)
+      go [] e c t f = let z : getD m1 (p * 32 + 4) 0 ≡ 0 = rw (same, e) at c in rw z (quiet (λ x i. absurd (omega (arith, ap (count x) e))))
+      go (y ∷ ys) e c false f =
+          let z = rw (same, e) at c in
+          rw (z .0, ne-eqb y 0 (omega arith), reason-at, note-at, f) (quiet (λ x i. f))
+      go (y ∷ ys) e c true f =
+          let z = rw (same, e) at c in
+          let d = b .facts .own p h y (rw e (omega (arith, hit-self y))) .owner in
+          let at4 : p * 32 + 3 + 1 ≡ p * 32 + 4 = omega arith in
+          rw (z .0, ne-eqb y 0 (omega arith), reason-at, note-at, f) (wakes ys (rw (at4, e, d)))
+
+  pub deliver-base : Gave (deliver m p q) ps hs g W
+  deliver-base = deliver-all .gave
+
+-- ---- what is written in a page in hand
+pub copy-below : (n : ℕ) (m : List ℕ) (a b i : ℕ) → i < b → b + n ≤ 8192 → getD (copy n m a b) i 0 ≡ getD m i 0
+unfolding Address.copy
+copy-below zero m a b i h l = refl
+copy-below (suc zero) m a b i h l = other m b (getD m a 0) i (omega arith)
+copy-below (suc (suc n)) m a b i h l =
+    let w : (b + 1) % 8192 ≡ b + 1 = omega arith in
+    rw w (copy-below (suc n) (set m b (getD m a 0)) ((a + 1) % 8192) (b + 1) i (omega arith) (omega arith) ∙ other m b (getD m a 0) i (omega arith))
+
+module _ {m : List ℕ} {ps : List ℕ} {L : Lists} {W : View} {hs : List ℕ} {g q : ℕ} (b : Base m ps L W (q ∷ hs) g) where
+  hp : Page q
+  hp = hand-page b q (in-hand b)
+
+  pub two : (v w : ℕ) → Only q m (set (set m (q * 32 + 1) v) (q * 32 + 2) w)
+  two v w = only-set (q * 32 + 2) w (omega arith) (omega arith) (only-set (q * 32 + 1) v (omega arith) (omega arith) (only-refl q m))
+
+  size1 : (v : ℕ) → length (set m (q * 32 + 1) v) ≡ 8192
+  size1 v = simp length-set (b .mem .size)
+
+  pub word1 : (v w : ℕ) → getD (set (set m (q * 32 + 1) v) (q * 32 + 2) w) (q * 32 + 1) 0 ≡ v
+  word1 v w = other (set m (q * 32 + 1) v) (q * 32 + 2) w (q * 32 + 1) (omega arith) ∙ getD-set-same m (q * 32 + 1) v 0 (omega (arith, hp, b .mem .size))
+
+  pub word2 : (v w : ℕ) → getD (set (set m (q * 32 + 1) v) (q * 32 + 2) w) (q * 32 + 2) 0 ≡ w
+  word2 v w = getD-set-same (set m (q * 32 + 1) v) (q * 32 + 2) w 0 (omega (arith, hp, size1 v))
+
+  -- "a notice with NI as sender and the same flag"
+  pub notice-base : (n f p : ℕ) → 1 ≤ n → n ≤ 15 → 1 ≤ f → f ≤ 7 → 1 ≤ count p ps → Gave (deliver (makeNotice m q n f) p q) ps hs g W
+  unfolding Mail.makeNotice
+  notice-base n f p i j k l h =
+      let m2 = set (set m (q * 32 + 1) (n * 16 + f)) (q * 32 + 2) 128 in
+      let t = deliver-base (hand-base q (in-hand b) (two (n * 16 + f) 128) b) p h
+      (rw (
+        put1-same (W .note) q (getD m2 (q * 32 + 1) 0) q refl,
+        put1-same (W .reason) q (getD m2 (q * 32 + 2) 0) q refl,
+        word1 (n * 16 + f) 128,
+        word2 (n * 16 + f) 128,
+      )
+      (record { sender = omega arith; known = omega arith; flag = omega arith; small = omega arith; long = λ z. absurd (z refl) })) in
+      record { lists = t .lists; view = t .view; base = t .base; low = t .low }
+
+  -- "text length at A, text from A+1, to processor NI"
+  pub message-base : (f a l p : ℕ) → 1 ≤ f → f ≤ 7 → l ≤ 29 → Label (getD m (getD m 248 0 * 32 + 7) 0) → 1 ≤ count p ps
+      → Gave (deliver (writeMessage m q f a l) p q) ps hs g W
+  unfolding Mail.writeMessage
+  message-base f a l p i j k n h =
+      let v = getD m (getD m 248 0 * 32 + 7) 0 % 16 * 16 + f in
+      let m1 = set (set m (q * 32 + 1) v) (q * 32 + 2) l in
+      let m2 = copy l m1 a (q * 32 + 3) in
+      let o : Only q m m2 = only-copy l m1 a (q * 32 + 3) (omega (arith, hp)) (omega arith) (omega arith) (two v l) in
+      let w1 : getD m2 (q * 32 + 1) 0 ≡ v = copy-below l m1 a (q * 32 + 3) (q * 32 + 1) (omega arith) (omega (arith, hp)) ∙ word1 v l in
+      let w2 : getD m2 (q * 32 + 2) 0 ≡ l = copy-below l m1 a (q * 32 + 3) (q * 32 + 2) (omega arith) (omega (arith, hp)) ∙ word2 v l in
+      let t = deliver-base (hand-base q (in-hand b) o b) p h
+      (rw (put1-same (W .note) q (getD m2 (q * 32 + 1) 0) q refl, put1-same (W .reason) q (getD m2 (q * 32 + 2) 0) q refl, w1, w2)
+      (record { sender = omega (arith, n .name); known = omega arith; flag = omega arith; small = omega arith; long = λ z. k })) in
+      record { lists = t .lists; view = t .view; base = t .base; low = t .low }

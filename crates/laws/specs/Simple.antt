@@ -1,0 +1,250 @@
+-- Instructions: CVI, DVI, ST1, STP, ST2 and code 13 leave a well-formed memory, and so does setting registers. Assumes nothing.
+use mathlib.Core.Path.{_≡_, refl, ap}
+use mathlib.Core.Logic.{_≢_, _⊎_, inl, inr}
+use mathlib.Core.Bool.{Bool, true, false}
+use mathlib.Core.List.{List, [], _∷_}
+use Prim.Native.Nat.{ℕ, zero, suc, _+_, _-_, _*_, _/_, _%_, _≤_, _<_}
+use native.Mathlib.Omega.{arith}
+use lib.ListN.{getD, set}
+use lib.Dec.{eqb, ltb, leb}
+use borrow.Author.Tests.{eqb-true, eqb-false, ltb-true, ltb-false, leb-false}
+use Rattle.model.specs.declared.Registers.{Registers}
+use Rattle.model.specs.Map.{threeFlags}
+use Rattle.model.specs.Address as Address
+use Rattle.model.specs.Address.{guarded}
+use Rattle.model.specs.Queue as Queue
+use Rattle.model.specs.Queue.{first}
+use Rattle.model.specs.Processor as Processor
+use Rattle.model.specs.Instruction as Instruction
+use Rattle.model.specs.Operate as Operate
+use Rattle.model.specs.Bytes as Model
+use Rattle.model.specs.Bytes.{lists, pageOf, isNamed, setCode, setRegistersOf}
+use Rattle.model.specs.Lists.{count, Lists}
+use Rattle.laws.specs.Count.{hit-self, hit-or}
+use Rattle.laws.specs.Uses.{proc-page}
+use Rattle.laws.specs.Inv.{View, view, Codes, Base, Inv}
+use Rattle.laws.specs.Judged.{WellFormed, well-formed, invariant}
+use Rattle.laws.specs.Frames.{Kept, kept-refl, kept-set, base-kept, Quiet, quiet-low, quiet-mid}
+use Rattle.laws.specs.Views.{put1, put1-same, put1-other, withCode}
+use Rattle.laws.specs.Stores.{code-mem}
+use Rattle.laws.specs.Changes.{facts-code}
+use Rattle.laws.specs.Who.{listed}
+use Rattle.laws.specs.Ends.{Fine, stop-base, start-base, state-base, lr-kept, quiet-run, run-page, done-fine, jumps-fine, fault-fine}
+
+-- ---- one of a list of things, by its number
+abbrev pub Each : {A : Type 0} → (A → Type 0) → ℕ → ℕ → List A → Type 0
+Each P c i [] = Unit {0}
+Each P c i (x ∷ xs) = (c ≡ i → P x) × Each P c (suc i) xs
+
+pub pick : {A : Type 0} (P : A → Type 0) (xs : List A) (d : A) (k c i : ℕ) → c ≡ i + k → Each P c i xs → P d → P (getD xs k d)
+pick P [] d k c i e h z = z
+pick P (x ∷ xs) d zero c i e h z = h .0 (omega arith)
+pick P (x ∷ xs) d (suc k) c i e h z = pick P xs d k c (suc i) (omega arith) (h .1) z
+
+-- ---- a name on the list
+pub first-in : (f : ℕ → Bool) (xs : List ℕ) → first f xs ≢ 0 → (1 ≤ count (first f xs) xs) × (f (first f xs) ≡ true)
+unfolding Queue.first
+first-in f [] n = absurd (n refl)
+first-in f (x ∷ xs) n = go (f x) refl (first-in f xs)
+  where
+    go : (b : Bool) → f x ≡ b → (first f xs ≢ 0 → (1 ≤ count (first f xs) xs) × (f (first f xs) ≡ true))
+        → (1 ≤ count (first f (x ∷ xs)) (x ∷ xs)) × (f (first f (x ∷ xs)) ≡ true)
+    go true e ih = let k : first f (x ∷ xs) ≡ x = rw (e, Queue.first) in rw k (omega (arith, hit-self x), e)
+    go false e ih = let k : first f (x ∷ xs) ≡ first f xs = rw (e, Queue.first) in rw k (let t = ih (rw k at n) in (omega (arith, t .0), t .1))
+
+module _ {m : List ℕ} {ps : List ℕ} {L : Lists} {W : View} {hs : List ℕ} {g : ℕ} (b : Base m ps L W hs g) where
+  pub named-in : (n : ℕ) → pageOf m n ≢ 0 → 1 ≤ count (pageOf m n) ps
+  named-in n h = let l = listed b in rw l (first-in (isNamed m n) ps (rw l at h) .0)
+
+-- ---- what an instruction may write
+pub quiet-clear : (a : ℕ) → guarded a ≡ false → Quiet a
+unfolding Address.guarded
+quiet-clear a h = go (ltb a 16) (ltb a 128) (ltb a 352) (leb 7552 a) refl refl refl refl
+  where
+    go : (x y z t : Bool) → ltb a 16 ≡ x → ltb a 128 ≡ y → ltb a 352 ≡ z → leb 7552 a ≡ t → Quiet a
+    go true y z t e f i j = let c = rw e at h in let k : _≡_ {A = ℕ} 0 1 = cc in absurd (omega arith)
+    go false true z t e f i j = let l = ltb-true a 128 f in quiet-low a (omega arith)
+    go false false true t e f i j = let c = rw (e, f, i) at h in let k : _≡_ {A = ℕ} 0 1 = cc in absurd (omega arith)
+    go false false false true e f i j = let c = rw (e, f, i, j) at h in let k : _≡_ {A = ℕ} 0 1 = cc in absurd (omega arith)
+    go false false false false e f i j =
+        let l = ltb-false a 352 i in
+        let u = leb-false 7552 a j in
+        quiet-mid a (omega arith) (omega arith)
+
+-- ---- page 8
+codes-put : (c : ℕ → ℕ) (k v : ℕ) → 2 ≤ k → v / 32 ≤ 2 → v / 32 ≢ 1 → Codes c → Codes (put1 c k v)
+codes-put c k v l u n h = record {
+  kinds = λ i j. kinds i j (hit-or i k);
+  zero = rw (put1-other c k v 0 (omega arith)) (h .zero);
+  one = rw (put1-other c k v 1 (omega arith)) (h .one);
+  last = last (hit-or 15 k);
+}
+  where
+    kinds : (i : ℕ) → i < 16 → (i ≡ k) ⊎ (i ≢ k) → put1 c k v i / 32 ≤ 2
+    kinds i j (inl e) = rw (put1-same c k v i e) u
+    kinds i j (inr d) = rw (put1-other c k v i d) (h .kinds i j)
+
+    no : (x : ℕ) → x ≢ 1 → eqb x 1 ≡ false
+    no x d = go (eqb x 1) refl
+      where
+        go : (b : Bool) → eqb x 1 ≡ b → eqb x 1 ≡ false
+        go true e = absurd (d (eqb-true x 1 e))
+        go false e = e
+
+    last : (15 ≡ k) ⊎ (15 ≢ k) → eqb (put1 c k v 15 / 32) 1 ≡ false
+    last (inl e) = rw (put1-same c k v 15 e) (no (v / 32) n)
+    last (inr d) = rw (put1-other c k v 15 d) (h .last)
+
+pub code-base : {m : List ℕ} {ps : List ℕ} {L : Lists} {W : View} {hs : List ℕ} {g : ℕ} (c k a : ℕ) → 2 ≤ c → c < 16 → (k ≡ 0) ⊎ (k ≡ 2)
+    → Base m ps L W hs g → Base (setCode m c k a) ps L (withCode W (put1 (W .code) c (k * 32 + a / 256 % 32))) hs g
+unfolding Instruction.setCode
+code-base {W = W} c k a l u o b = record {
+  mem = code-mem (b .facts .sep) (b .mem) c (k * 32 + a / 256 % 32) (a % 256) u;
+  facts = facts-code (put1 (W .code) c (k * 32 + a / 256 % 32)) (codes-put (W .code) c (k * 32 + a / 256 % 32) l (top o) (kind o) (b .facts .codes)) (b .facts);
+  all = b .all;
+}
+  where
+    top : (k ≡ 0) ⊎ (k ≡ 2) → (k * 32 + a / 256 % 32) / 32 ≤ 2
+    top (inl e) = omega arith
+    top (inr e) = omega arith
+
+    kind : (k ≡ 0) ⊎ (k ≡ 2) → (k * 32 + a / 256 % 32) / 32 ≢ 1
+    kind (inl e) = omega arith
+    kind (inr e) = omega arith
+
+-- ---- the instructions, of a well-formed memory where someone runs
+module _ {m : List ℕ} (w : WellFormed m) (d : getD m 248 0 ≢ 0) where
+  i : Inv m (lists m 247) (lists m) (view m)
+  i = invariant w
+
+  b : Base m (lists m 247) (lists m) (view m) [] 32
+  b = i .base
+
+  pub fails : (f : ℕ) → 1 ≤ f → f ≤ 12 → Fine (Model.fault m f)
+  fails f h j = fault-fine b f d h j
+
+  -- what is quiet may change before the end
+  pub kept-done : {m′ : List ℕ} (n : ℕ) → Kept m m′ → Fine (Model.done m′ n)
+  kept-done n k = done-fine (base-kept k b) n
+
+  pub cvi-fine : (c a n : ℕ) → c < 16 → Fine (Model.cvi m c a n)
+  unfolding Operate.cvi
+  cvi-fine c a n l = go (eqb (getD m (256 + 2 * c) 0 / 32) 0) refl
+    where
+      go : (x : Bool) → eqb (getD m (256 + 2 * c) 0 / 32) 0 ≡ x → Fine (Model.cvi m c a n)
+      go false e = rw e (fails 3 (omega arith) (omega arith))
+      go true e =
+          let z = eqb-true (getD m (256 + 2 * c) 0 / 32) 0 e in
+          let k = b .facts .codes in
+          let n0 : c ≢ 0 = λ q. (let t = ap (λ (y : ℕ). getD m (256 + 2 * y) 0 / 32) q in omega (arith, k .zero)) in
+          let n1 : c ≢ 1 = λ q. (let t = ap (λ (y : ℕ). getD m (256 + 2 * y) 0 / 32) q in omega (arith, k .one)) in
+          rw e (done-fine (code-base c 2 a (omega arith) l (inr refl) b) n)
+
+  pub dvi-fine : (c n : ℕ) → c < 16 → Fine (Model.dvi m c n)
+  unfolding Operate.dvi
+  dvi-fine c n l = go (ltb c 2) (eqb (getD m (256 + 2 * c) 0 / 32) 0) refl refl
+    where
+      go : (x y : Bool) → ltb c 2 ≡ x → eqb (getD m (256 + 2 * c) 0 / 32) 0 ≡ y → Fine (Model.dvi m c n)
+      go true y e f = rw e (fails 4 (omega arith) (omega arith))
+      go false true e f = rw (e, f) (fails 1 (omega arith) (omega arith))
+      go false false e f = let h = ltb-false c 2 e in rw (e, f) (done-fine (code-base c 0 0 (omega arith) l (inl refl) b) n)
+
+  pub st1-fine : (p n : ℕ) → 1 ≤ count p (lists m 247) → Fine (Model.st1 m p n)
+  unfolding Operate.st1
+  st1-fine p n h = done-fine (start-base b p h) n
+
+  pub stp-fine : (p n : ℕ) → 1 ≤ count p (lists m 247) → Fine (Model.stp m p n)
+  unfolding Operate.stp
+  stp-fine p n h = done-fine (stop-base b p h) n
+
+  st2-found : (p a n : ℕ) → 1 ≤ count p (lists m 247) → Fine (Model.st2Found m p a n)
+  unfolding Operate.st2Found
+  st2-found p a n h = go (leb 128 (getD m (p * 32 + 12) 0)) (eqb (getD m (p * 32 + 12) 0 % 128 / 64) 0) refl refl
+    where
+      go : (x y : Bool) → leb 128 (getD m (p * 32 + 12) 0) ≡ x → eqb (getD m (p * 32 + 12) 0 % 128 / 64) 0 ≡ y → Fine (Model.st2Found m p a n)
+      go false y e f = rw e (fails 8 (omega arith) (omega arith))
+      go true false e f = rw (e, f) (fails 8 (omega arith) (omega arith))
+      go true true e f = rw (e, f) (done-fine (start-base (base-kept (lr-kept m p a (λ z. proc-page (b .facts .sep) p h)) b) p h) n)
+
+  pub st2-fine : (n a len : ℕ) → Fine (Model.st2 m n a len)
+  unfolding Operate.st2
+  st2-fine n a len = go (eqb n 0) (eqb (pageOf m n) 0) refl refl
+    where
+      go : (x y : Bool) → eqb n 0 ≡ x → eqb (pageOf m n) 0 ≡ y → Fine (Model.st2 m n a len)
+      go true y e f = rw e (fails 12 (omega arith) (omega arith))
+      go false true e f = rw (e, f) (fails 7 (omega arith) (omega arith))
+      go false false e f = rw (e, f) (st2-found (pageOf m n) a len (named-in b n (eqb-false (pageOf m n) 0 f)))
+
+  -- ---- code 13
+  reg : (k v : ℕ) (m′ : List ℕ) → 8 ≤ k → k < 12 → Kept m m′ → Kept m (set m′ (getD m 248 0 * 32 + k) v)
+  reg k v m′ l u h = kept-set (getD m 248 0 * 32 + k) v (quiet-run (getD m 248 0) k (run-page b) l (omega arith) (omega arith)) h
+
+  worked-kept : (o a : ℕ) → guarded a ≡ false → Kept m (Model.worked m o a)
+  unfolding Operate.worked Operate.adds Operate.storesA Operate.ands Operate.increments
+  worked-kept o a h =
+      let q = quiet-clear a h in
+      let k = kept-refl m in
+      pick (Kept m) (Model.adds m a ∷ Model.storesA m a ∷ Model.ands m a ∷ Model.increments m a ∷ []) m o o 0 (omega arith) (
+        (λ e. reg 10 _ _ (omega arith) (omega arith) (reg 8 _ m (omega arith) (omega arith) k)),
+        (
+          (λ e. reg 8 0 _ (omega arith) (omega arith) (kept-set a _ q k)),
+          ((λ e. reg 8 _ m (omega arith) (omega arith) k), ((λ e. kept-set a _ q k), tt)),
+        ),
+      ) k
+
+  reaches-fine : (o a n : ℕ) → Fine (Model.reaches m o a n)
+  unfolding Operate.reaches Operate.returnTo
+  reaches-fine o a n = go (eqb o 5) (eqb o 4) (guarded a) refl refl refl
+    where
+      go : (x y z : Bool) → eqb o 5 ≡ x → eqb o 4 ≡ y → guarded a ≡ z → Fine (Model.reaches m o a n)
+      go true y z e f g =
+          rw e (jumps-fine (base-kept (kept-set 6 _ (quiet-low 6 (omega arith)) (kept-set 5 _ (quiet-low 5 (omega arith)) (kept-refl m))) b) a)
+      go false true z e f g = rw (e, f) (jumps-fine b a)
+      go false false true e f g = rw (e, f, g) (fails 11 (omega arith) (omega arith))
+      go false false false e f g = rw (e, f, g) (kept-done n (worked-kept o a g))
+
+  follows-fine : (x o a n : ℕ) → Fine (Model.follows m x o a n)
+  unfolding Operate.follows
+  follows-fine x o a n = go (eqb x 0) (Address.clear 2 a) refl refl
+    where
+      go : (y z : Bool) → eqb x 0 ≡ y → Address.clear 2 a ≡ z → Fine (Model.follows m x o a n)
+      go true z e f = rw e (reaches-fine o a n)
+      go false false e f = rw (e, f) (fails 11 (omega arith) (omega arith))
+      go false true e f = rw (e, f) (reaches-fine o (Model.addressAt m a) n)
+
+  pub thirteen-fine : (x o a n : ℕ) → Fine (Model.thirteen m x o a n)
+  unfolding Operate.thirteen
+  thirteen-fine x o a n = go (ltb 5 o) refl
+    where
+      go : (y : Bool) → ltb 5 o ≡ y → Fine (Model.thirteen m x o a n)
+      go true e = rw e (fails 12 (omega arith) (omega arith))
+      go false e = rw e (follows-fine (x / 8) o (Model.indexed m (x % 8) a) n)
+
+  -- ---- setting registers: the running one stays ready
+  low-bits : (u x : ℕ) → u % 64 / 16 ≡ 0 → ((u / 16 * 16 + x % 16) % 128 / 64 ≡ u % 128 / 64) × ((u / 16 * 16 + x % 16) % 64 / 16 ≡ 0)
+  low-bits u x h = (omega arith, omega arith)
+
+  pub registers-well : (r : Registers) → WellFormed (setRegistersOf m (getD m 248 0) r)
+  unfolding Processor.setRegistersOf Processor.setFlagsLr
+  registers-well r =
+      let p = getD m 248 0 in
+      let hp : 1 ≤ count p (lists m 247) = omega (arith, b .facts .runs .listed d) in
+      let m2 = set (set m (p * 32 + 8) (r .a % 256)) (p * 32 + 9) (r .s % 256) in
+      let m3 = set m2 (p * 32 + 10) (threeFlags (r .p) (r .z) (r .ci) + r .lr / 256 % 32) in
+      let k : Kept m (set m3 (p * 32 + 11) (r .lr % 256)) =
+      reg 11 (r .lr % 256) m3 (omega arith) (omega arith) (reg 10 (threeFlags (r .p) (r .z) (r .ci) + r .lr / 256 % 32) m2 (omega arith) (omega arith)
+      (reg 9 (r .s % 256) (set m (p * 32 + 8) (r .a % 256)) (omega arith) (omega arith) (reg 8 (r .a % 256) m (omega arith) (omega arith) (kept-refl m)))) in
+      let v = getD m (p * 32 + 12) 0 / 16 * 16 + r .w % 16 in
+      rw (k .state p (run-page b d)) (well-formed (record {
+        base = state-base p v hp (low-bits (getD m (p * 32 + 12) 0) (r .w) (b .facts .seats .zeros p hp)) (base-kept k b);
+        best = record {
+          ready = λ n. rw (put1-same (λ y. getD m (y * 32 + 12) 0) p v p refl) (omega (arith, i .best .ready d));
+          top = λ y j c. i .best .top y j (still y c (hit-or y p));
+        };
+      }))
+    where
+      still : (y : ℕ) → suc (put1 (λ z. getD m (z * 32 + 12) 0) (getD m 248 0) (getD m (getD m 248 0 * 32 + 12) 0 / 16 * 16 + r .w % 16) y) ≤ 64
+          → (y ≡ getD m 248 0) ⊎ (y ≢ getD m 248 0) → suc (getD m (y * 32 + 12) 0) ≤ 64
+      still y c (inl e) = rw e (omega (arith, i .best .ready d))
+      still y c (inr n) =
+          rw (put1-other (λ z. getD m (z * 32 + 12) 0) (getD m 248 0) (getD m (getD m 248 0 * 32 + 12) 0 / 16 * 16 + r .w % 16) y n) at c

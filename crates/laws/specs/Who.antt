@@ -1,0 +1,327 @@
+-- Who runs: "the running one stays if ready (neither bit set) and no ready one has higher priority; else the first on the processor list of the highest
+-- ready priority; else nobody". After it the right one runs, whoever ran before. Assumes nothing.
+use mathlib.Core.Path.{_≡_, refl, sym, ap, _∙_}
+use mathlib.Core.Logic.{_≢_, _⊎_, inl, inr}
+use mathlib.Core.Bool.{Bool, true, false, cond}
+use mathlib.Core.List.{List, [], _∷_}
+use Prim.Native.Nat.{ℕ, zero, suc, _+_, _-_, _*_, _/_, _≤_, _<_}
+use native.Mathlib.Omega.{arith}
+use lib.ListN.{length, getD, set}
+use lib.Dec.{eqb, ltb}
+use borrow.Author.Tests.{eqb-true, eqb-false, eq-eqb, ne-eqb, ltb-true, ltb-false}
+use Rattle.model.specs.Turn as Turn
+use Rattle.model.specs.Turn.{fold}
+use Rattle.model.specs.Bytes.{better, stays, processors, save, load, switch, whoRuns}
+use Rattle.model.specs.Bytes as Model
+use Rattle.model.specs.Lists.{count, Lists}
+use Rattle.laws.specs.Count.{hit-self, hit-other, hit-or}
+use Rattle.laws.specs.Chain.{Page, walk-chain}
+use Rattle.laws.specs.Queues.{link-procs}
+use Rattle.laws.specs.Uses.{Sep, proc-page, proc-once, list-short}
+use Rattle.laws.specs.Places.{in-procs, grant-low}
+use Rattle.laws.specs.Inv.{View, Runs, Clock, Best, Base, Inv}
+use Rattle.laws.specs.Frames.{Kept, kept-refl, kept-set, quiet-low, quiet-word, base-kept}
+use Rattle.laws.specs.Views.{put1, withLow}
+use Rattle.laws.specs.Stores.{turn-mem}
+use Rattle.laws.specs.Changes.{facts-low}
+
+-- ---- page 0's words, saved and loaded
+kept-kept : {m : List ℕ} (n : ℕ) (m′ : List ℕ) (p : ℕ) (w : List ℕ) → Page p → n ≤ 19 → Kept m m′ → Kept m (Model.kept n m′ p w)
+unfolding Turn.kept
+kept-kept zero m′ p w g l k = k
+kept-kept (suc n) m′ p w g l k =
+    kept-kept n (set m′ (p * 32 + (13 + n)) (getD w n 0)) p w g (omega arith)
+    (kept-set (p * 32 + (13 + n)) (getD w n 0) (quiet-word p (13 + n) (p * 32 + (13 + n)) g (omega arith) (omega arith) (omega arith) refl) k)
+
+pub zero-low : (n : ℕ) → n < 19 → cond (ltb n 3) (4 + n) (13 + n) < 32
+zero-low n h = go (ltb n 3) refl
+  where
+    go : (b : Bool) → ltb n 3 ≡ b → cond (ltb n 3) (4 + n) (13 + n) < 32
+    go true e = rw e (let l = ltb-true n 3 e in omega arith)
+    go false e = rw e (omega arith)
+
+kept-restored : {m : List ℕ} (n : ℕ) (m′ : List ℕ) (w : List ℕ) → n ≤ 19 → Kept m m′ → Kept m (Model.restored n m′ w)
+unfolding Turn.restored
+kept-restored zero m′ w l k = k
+kept-restored (suc n) m′ w l k =
+    let a : ℕ = cond (ltb n 3) (4 + n) (13 + n) in
+    kept-restored n (set m′ a (getD w n 0)) w (omega arith) (kept-set a (getD w n 0) (quiet-low a (omega (arith, zero-low n (omega arith)))) k)
+
+pub save-kept : {m : List ℕ} (m′ : List ℕ) (p : ℕ) → (p ≢ 0 → Page p) → Kept m m′ → Kept m (save m′ p)
+unfolding Turn.save
+save-kept {m} m′ p g k = go (eqb p 0) refl
+  where
+    go : (b : Bool) → eqb p 0 ≡ b → Kept m (save m′ p)
+    go true e = rw e k
+    go false e = rw e (kept-kept 19 m′ p (Model.onPage0 m′) (g (eqb-false p 0 e)) (omega arith) k)
+
+pub load-kept : {m : List ℕ} (m′ : List ℕ) (p : ℕ) → Kept m m′ → Kept m (load m′ p)
+unfolding Turn.load
+load-kept {m} m′ p k = go (eqb p 0) refl
+  where
+    go : (b : Bool) → eqb p 0 ≡ b → Kept m (load m′ p)
+    go true e = rw e k
+    go false e = rw e (kept-restored 19 m′ (Model.keptOn m′ p) (omega arith) k)
+
+-- ---- the choice
+module _ (m : List ℕ) where
+  abbrev st : ℕ → ℕ
+  st p = getD m (p * 32 + 12) 0
+
+  abbrev pr : ℕ → ℕ
+  pr p = getD m (p * 32 + 7) 0 / 16
+
+  -- 0 is below all
+  pub rank : ℕ → ℕ
+  rank t = cond (eqb t 0) 0 (pr t)
+
+  pub rank-zero : (t : ℕ) → t ≡ 0 → rank t ≡ 0
+  unfolding rank
+  rank-zero t e = rw (eq-eqb t 0 e)
+
+  pub rank-of : (t : ℕ) → t ≢ 0 → rank t ≡ pr t
+  unfolding rank
+  rank-of t n = rw (ne-eqb t 0 n)
+
+  -- one step: either p is taken, or b stays and p is not ready or not above it
+  pub record Taken (b p t : ℕ) : Type 0 where
+    pub is : t ≡ p
+    pub ready : suc (st p) ≤ 64
+    pub over : rank b ≤ pr p
+
+  pub record Stays (b p t : ℕ) : Type 0 where
+    pub is : t ≡ b
+    pub over : suc (st p) ≤ 64 → pr p ≤ rank b
+
+  better-cases : (b p : ℕ) → Taken b p (better m b p) ⊎ Stays b p (better m b p)
+  unfolding Turn.better Turn.above
+  better-cases b p = go (ltb (st p) 64) (eqb b 0) (ltb (pr b) (pr p)) refl refl refl
+    where
+      go : (x y z : Bool) → ltb (st p) 64 ≡ x → eqb b 0 ≡ y → ltb (pr b) (pr p) ≡ z → Taken b p (better m b p) ⊎ Stays b p (better m b p)
+      go false y z e f g = inr (record { is = rw e; over = λ h. let d = ltb-false (st p) 64 e in absurd (omega arith) })
+      go true true z e f g = inl (record {
+        is = rw (e, f);
+        ready = let d = ltb-true (st p) 64 e in omega arith;
+        over = omega (arith, rank-zero b (eqb-true b 0 f));
+      })
+      go true false true e f g = inl (record {
+        is = rw (e, f, g);
+        ready = let d = ltb-true (st p) 64 e in omega arith;
+        over = let d = ltb-true (pr b)
+            (pr p) g in omega (arith, rank-of b (eqb-false b 0 f));
+      })
+      go true false false e f g = inr (record {
+        is = rw (e, f, g);
+        over = λ h. let d = ltb-false (pr b) (pr p) g in omega (
+          arith,
+          rank-of b (eqb-false b 0 f),
+        );
+      })
+
+  -- the whole list
+  pub record Chosen (b : ℕ) (qs : List ℕ) (t : ℕ) : Type 0 where
+    pub from : (t ≡ b) ⊎ ((1 ≤ count t qs) × (suc (st t) ≤ 64))
+    pub over : rank b ≤ rank t
+    pub top : (p : ℕ) → 1 ≤ count p qs → suc (st p) ≤ 64 → pr p ≤ rank t
+
+  fold-cons : (b q : ℕ) (qs : List ℕ) → fold (better m) b (q ∷ qs) ≡ fold (better m) (better m b q) qs
+  unfolding Turn.fold
+  fold-cons b q qs = refl
+
+  fold-nil : (b : ℕ) → fold (better m) b [] ≡ b
+  unfolding Turn.fold
+  fold-nil b = refl
+
+  pub chosen : (b : ℕ) (qs : List ℕ) → ((p : ℕ) → 1 ≤ count p qs → p ≢ 0) → Chosen b qs (fold (better m) b qs)
+  chosen b [] nz = rw (fold-nil b) (record { from = inl refl; over = omega arith; top = λ p h c. absurd (omega arith) })
+  chosen b (q ∷ qs) nz = rw (fold-cons b q qs) (go (better-cases b q) (chosen (better m b q) qs (λ p h. nz p (omega arith))))
+    where
+      go : let c = better m b q in let t = fold (better m) c qs in Taken b q c ⊎ Stays b q c → Chosen c qs t → Chosen b (q ∷ qs) t
+      go (inl s) r = record {
+        from = pick (r .from);
+        over = omega (arith, s .over, r .over, rank-of q (nz q (omega (arith, hit-self q))), ap rank (s .is));
+        top = λ p h c. at p h c (hit-or p q);
+      }
+        where
+          pick : let c = better m b q in let t = fold (better m) c qs in (t ≡ c) ⊎ ((1 ≤ count t qs) × (suc (st t) ≤ 64))
+              → (t ≡ b) ⊎ ((1 ≤ count t (q ∷ qs)) × (suc (st t) ≤ 64))
+          pick (inl e) = inr (rw (e, s .is) (omega (arith, hit-self q), s .ready))
+          pick (inr i) = inr (omega arith, i .1)
+
+          at : (p : ℕ) → 1 ≤ count p (q ∷ qs) → suc (st p) ≤ 64 → (p ≡ q) ⊎ (p ≢ q) → pr p ≤ rank (fold (better m) (better m b q) qs)
+          at p h c (inl e) = rw e (omega (arith, r .over, rank-of q (nz q (omega (arith, hit-self q))), ap rank (s .is)))
+          at p h c (inr n) = r .top p (omega (arith, hit-other p q n)) c
+      go (inr s) r = record {
+        from = pick (r .from);
+        over = omega (arith, r .over, ap rank (s .is));
+        top = λ p h c. at p h c (hit-or p q);
+      }
+        where
+          pick : let c = better m b q in let t = fold (better m) c qs in (t ≡ c) ⊎ ((1 ≤ count t qs) × (suc (st t) ≤ 64))
+              → (t ≡ b) ⊎ ((1 ≤ count t (q ∷ qs)) × (suc (st t) ≤ 64))
+          pick (inl e) = inl (e ∙ s .is)
+          pick (inr i) = inr (omega arith, i .1)
+
+          at : (p : ℕ) → 1 ≤ count p (q ∷ qs) → suc (st p) ≤ 64 → (p ≡ q) ⊎ (p ≢ q) → pr p ≤ rank (fold (better m) (better m b q) qs)
+          at p h c (inl e) = rw e (let d = s .over (rw e at c) in omega (arith, r .over, ap rank (s .is)))
+          at p h c (inr n) = r .top p (omega (arith, hit-other p q n)) c
+
+-- ---- words 24 and 25 of page 7
+clock-runs : (l : ℕ → ℕ) (t w : ℕ) → Clock l → Clock (put1 (put1 l 248 t) 249 w)
+unfolding put1
+clock-runs l t w c = record { c0 = c .c0; c1 = c .c1; c2 = c .c2; c3 = c .c3; divider = c .divider; line = c .line; nought = c .nought }
+
+new-runs : {ps : List ℕ} (l b : ℕ → ℕ) (t w : ℕ) → (t ≡ 0 → w ≡ 0) → (t ≢ 0 → count t ps ≡ 1) → (t ≢ 0 → w ≡ b t) → Runs ps (put1 (put1 l 248 t) 249 w) b
+unfolding put1
+new-runs l b t w z n r = record { idle = z; listed = n; tag = r }
+
+pub base-runs : {m : List ℕ} {ps : List ℕ} {L : Lists} {W : View} {hs : List ℕ} {g : ℕ} (t w : ℕ) → (t ≡ 0 → w ≡ 0) → (t ≢ 0 → count t ps ≡ 1)
+    → (t ≢ 0 → w ≡ W .label t) → Base m ps L W hs g → Base (set (set m 248 t) 249 w) ps L (withLow W (put1 (put1 (W .low) 248 t) 249 w)) hs g
+base-runs {W = W} t w z n r b =
+    let s = b .facts .sep in
+    record {
+      mem = turn-mem s (turn-mem s (b .mem) 248 t (omega arith) (omega arith)) 249 w (omega arith) (omega arith);
+      facts = facts-low (put1 (put1 (W .low) 248 t) 249 w) (new-runs (W .low) (W .label) t w z n r) (clock-runs (W .low) t w (b .facts .clock)) (b .facts);
+      all = b .all;
+    }
+
+-- ---- who runs
+module _ {m : List ℕ} {ps : List ℕ} {L : Lists} {W : View} {hs : List ℕ} {g : ℕ} (b : Base m ps L W hs g) where
+  s : Sep ps L
+  s = b .facts .sep
+
+  abbrev r : ℕ
+  r = W .low 248
+
+  pub running-at : getD m 248 0 ≡ W .low 248
+  running-at = b .mem .reads .fixed .turn 248 (omega arith) (omega arith)
+
+  pub running-in : r ≢ 0 → 1 ≤ count r ps
+  running-in n = omega (arith, b .facts .runs .listed n)
+
+  -- the processors are those on the list
+  pub listed : processors m ≡ ps
+  listed =
+      let c = rw (link-procs, s .procs) at (b .mem .holds .rep 247 (in-procs ps, grant-low 247 (omega arith))) in
+      walk-chain 20 m 1 247 ps c (omega (arith, ap length (s .procs), list-short s 247 (in-procs ps)))
+
+  pub record Fits (t : ℕ) : Type 0 where
+    pub listed : t ≢ 0 → 1 ≤ count t ps
+    pub ready : t ≢ 0 → suc (W .state t) ≤ 64
+    pub top : (p : ℕ) → 1 ≤ count p ps → suc (W .state p) ≤ 64 → W .label p / 16 ≤ rank m t
+
+  pub state-at : (p : ℕ) → 1 ≤ count p ps → getD m (p * 32 + 12) 0 ≡ W .state p
+  state-at p h = b .mem .reads .words .state p (proc-page s p h)
+
+  pub label-at : (p : ℕ) → 1 ≤ count p ps → getD m (p * 32 + 7) 0 ≡ W .label p
+  label-at p h = b .mem .reads .words .label p (proc-page s p h)
+
+  stays-cases : (stays m r ≡ 0) ⊎ ((stays m r ≡ r) × (r ≢ 0) × (suc (W .state r) ≤ 64))
+  unfolding Turn.stays
+  stays-cases = go (eqb r 0) (ltb (getD m (r * 32 + 12) 0) 64) refl refl
+    where
+      go : (x y : Bool) → eqb r 0 ≡ x → ltb (getD m (r * 32 + 12) 0) 64 ≡ y → (stays m r ≡ 0) ⊎ ((stays m r ≡ r) × (r ≢ 0) × (suc (W .state r) ≤ 64))
+      go true y e f = inl (rw e)
+      go false false e f = inl (rw (e, f))
+      go false true e f =
+          let n = eqb-false r 0 e in
+          let d = ltb-true (getD m (r * 32 + 12) 0) 64 f in
+          inr (rw (e, f), n, omega (arith, state-at r (running-in n)))
+
+  fits-best : Fits (fold (better m) (stays m r) ps)
+  fits-best =
+      let c = chosen m (stays m r) ps (λ p h. let t = proc-page s p h in omega arith) in
+      go (c .from) stays-cases c
+    where
+      t : ℕ
+      t = fold (better m) (stays m r) ps
+
+      top : Chosen m (stays m r) ps t → (p : ℕ) → 1 ≤ count p ps → suc (W .state p) ≤ 64 → W .label p / 16 ≤ rank m t
+      top c p h i = rw (← label-at p h) (c .top p h (omega (arith, state-at p h)))
+
+      go : (t ≡ stays m r) ⊎ ((1 ≤ count t ps) × (suc (getD m (t * 32 + 12) 0) ≤ 64))
+          → (stays m r ≡ 0) ⊎ ((stays m r ≡ r) × (r ≢ 0) × (suc (W .state r) ≤ 64)) → Chosen m (stays m r) ps t → Fits t
+      go (inl e) (inl z) c = record { listed = λ n. absurd (n (e ∙ z)); ready = λ n. absurd (n (e ∙ z)); top = top c }
+      go (inl e) (inr y) c =
+          let q : t ≡ r = e ∙ y .0 in
+          record { listed = λ n. rw q (running-in (y .1)); ready = λ n. rw q (y .2); top = top c }
+      go (inr y) z c = record { listed = λ n. y .0; ready = λ n. omega (arith, state-at t (y .0), y .1); top = top c }
+
+  best-stays : (t : ℕ) → t ≡ r → Fits t → Best ps W
+  best-stays t e f = record { ready = λ n. rw (← e) (f .ready (λ z. n (sym e ∙ z))); top = λ p h c. go p (f .top p h c) (hit-or r 0) }
+    where
+      go : (p : ℕ) → W .label p / 16 ≤ rank m t → (r ≡ 0) ⊎ (r ≢ 0) → W .label p / 16 ≤ W .low 249 / 16
+      go p h (inl z) = omega (arith, rank-zero m t (e ∙ z))
+      go p h (inr n) = rw (b .facts .runs .tag n, ← label-at r (running-in n)) (rw (rank-of m r n) at (rw e at h))
+
+  best-new : (t w : ℕ) → (t ≡ 0 → w ≡ 0) → (t ≢ 0 → w ≡ W .label t) → Fits t → Best ps (withLow W (put1 (put1 (W .low) 248 t) 249 w))
+  unfolding put1
+  best-new t w z n f = record { ready = f .ready; top = λ p h c. go p (f .top p h c) (hit-or t 0) }
+    where
+      go : (p : ℕ) → W .label p / 16 ≤ rank m t → (t ≡ 0) ⊎ (t ≢ 0) → W .label p / 16 ≤ w / 16
+      go p h (inl e) = omega (arith, rank-zero m t e)
+      go p h (inr d) = rw (n d, ← label-at t (f .listed d)) (rw (rank-of m t d) at h)
+
+  tag : ℕ → ℕ
+  tag t = cond (eqb t 0) 0 (W .label t)
+
+  tag-zero : (t : ℕ) → t ≡ 0 → tag t ≡ 0
+  unfolding tag
+  tag-zero t e = rw (eq-eqb t 0 e)
+
+  tag-of : (t : ℕ) → t ≢ 0 → tag t ≡ W .label t
+  unfolding tag
+  tag-of t n = rw (ne-eqb t 0 n)
+
+  -- what is written is the tag
+  tag-is : (m2 : List ℕ) (t : ℕ) → Base m2 ps L W hs g → Fits t → cond (eqb t 0) 0 (getD m2 (t * 32 + 7) 0) ≡ tag t
+  unfolding tag
+  tag-is m2 t b2 f = go (eqb t 0) refl
+    where
+      go : (x : Bool) → eqb t 0 ≡ x → cond (eqb t 0) 0 (getD m2 (t * 32 + 7) 0) ≡ tag t
+      go true e = rw e
+      go false e = rw e (b2 .mem .reads .words .label t (proc-page s t (f .listed (eqb-false t 0 e))))
+
+  pub record Turned (m2 : List ℕ) : Type 0 where
+    pub low : ℕ → ℕ
+    pub base : Base m2 ps L (withLow W low) hs g
+    pub best : Best ps (withLow W low)
+
+  switched : (t : ℕ) → Fits t → Turned (switch m r t)
+  unfolding Turn.switch Turn.runs
+  switched t f = go (eqb r t) refl
+    where
+      same : Best ps W → Best ps (withLow W (W .low))
+      same h = record { ready = h .ready; top = h .top }
+
+      alike : Base m ps L W hs g → Base m ps L (withLow W (W .low)) hs g
+      alike x =
+          let y = x .mem in
+          let rd = y .reads in
+          let fc = x .facts in
+          record {
+            mem = record { size = y .size; holds = y .holds; reads = record { words = rd .words; fixed = rd .fixed; sems = rd .sems } };
+            facts = facts-low (W .low) (fc .runs) (fc .clock) fc;
+            all = x .all;
+          }
+
+      go : (x : Bool) → eqb r t ≡ x → Turned (switch m r t)
+      go true e = rw e (record { low = W .low; base = alike b; best = same (best-stays t (sym (eqb-true r t e)) f) })
+      go false e =
+          let m2 = load (save m r) t in
+          let k : Kept m m2 = load-kept (save m r) t (save-kept m r (λ n. proc-page s r (running-in n)) (kept-refl m)) in
+          let b2 : Base m2 ps L W hs g = base-kept k b in
+          let w : cond (eqb t 0) 0 (getD m2 (t * 32 + 7) 0) ≡ tag t = tag-is m2 t b2 f in
+          rw (e, w) (record {
+            low = put1 (put1 (W .low) 248 t) 249 (tag t);
+            base = base-runs t (tag t) (tag-zero t) (λ n. let l = f .listed n in omega (arith, proc-once s t)) (tag-of t) b2;
+            best = best-new t (tag t) (tag-zero t) (tag-of t) f;
+          })
+
+  pub who-runs : Turned (whoRuns m)
+  unfolding Turn.whoRuns Turn.chosen
+  who-runs = rw (running-at, listed) (switched (fold (better m) (stays m r) ps) fits-best)
+
+-- "Who runs, after each call": the invariant then holds whole
+pub who-inv : {m : List ℕ} {ps : List ℕ} {L : Lists} {W : View} (b : Base m ps L W [] 32) → (X : View) × Inv (whoRuns m) ps L X
+who-inv {W = W} b = let t = who-runs b in (withLow W (t .low), record { base = t .base; best = t .best })

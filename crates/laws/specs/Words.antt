@@ -1,0 +1,384 @@
+-- Memory map: "8,192 words of 8 bits". Every step keeps words below 256, on any memory. Assumes nothing.
+use mathlib.Core.Path.{_≡_, refl}
+use mathlib.Core.Logic.{_≢_, _⊎_, inl, inr}
+use mathlib.Core.Bool.{Bool, true, false, cond}
+use mathlib.Core.List.{List, [], _∷_}
+use Prim.Native.Nat.{ℕ, zero, suc, _+_, _-_, _*_, _/_, _%_, _<_}
+use native.Mathlib.Omega.{arith}
+use lib.ListN.{length, getD, set}
+use lib.Seq.{getD-set-same, getD-set-other, set-out}
+use lib.Dec.{eqb, ltb}
+use borrow.Author.Tests.{ltb-true, ltb-false}
+use Rattle.model.specs.declared.Registers.{Registers}
+use Rattle.model.specs.Map.{threeFlags}
+use Rattle.model.specs.Address as Address
+use Rattle.model.specs.Queue as Queue
+use Rattle.model.specs.Queue.{first}
+use Rattle.model.specs.Processor as Processor
+use Rattle.model.specs.Wait as Wait
+use Rattle.model.specs.Page as Page
+use Rattle.model.specs.Page.{Taken}
+use Rattle.model.specs.Page.Taken.{took}
+use Rattle.model.specs.Mail as Mail
+use Rattle.model.specs.Mail.{Tested}
+use Rattle.model.specs.Mail.Tested.{tested}
+use Rattle.model.specs.Delete as Delete
+use Rattle.model.specs.Interrupt as Interrupt
+use Rattle.model.specs.Turn as Turn
+use Rattle.model.specs.Turn.{fold}
+use Rattle.model.specs.Fresh as Fresh
+use Rattle.model.specs.Bytes as Model
+use Rattle.laws.specs.Count.{hit-or}
+
+pub record Small (m : List ℕ) : Type 0 where
+  pub at : (a : ℕ) → getD m a 0 < 256
+
+-- either arm of a test
+pub either : {A : Type 0} (P : A → Type 0) (c : Bool) {x y : A} → P x → P y → P (cond c x y)
+either P true p q = p
+either P false p q = q
+
+pub small-set : {m : List ℕ} (a v : ℕ) → v < 256 → Small m → Small (set m a v)
+small-set {m} a v l s = record { at = λ b. go b (hit-or b a) (ltb a (length m)) refl }
+  where
+    go : (b : ℕ) → (b ≡ a) ⊎ (b ≢ a) → (c : Bool) → ltb a (length m) ≡ c → getD (set m a v) b 0 < 256
+    go b (inl e) true f = rw (e, getD-set-same m a v 0 (ltb-true a (length m) f)) l
+    go b (inl e) false f = rw (set-out m a v (ltb-false a (length m) f)) (s .at b)
+    go b (inr n) c f = rw (getD-set-other m a b v 0 n) (s .at b)
+
+-- ---- addresses and lists
+pub small-copy : (n : ℕ) {m : List ℕ} (a b : ℕ) → Small m → Small (Model.copy n m a b)
+unfolding Address.copy
+small-copy zero a b s = s
+small-copy (suc n) {m} a b s = small-copy n ((a + 1) % 8192) ((b + 1) % 8192) (small-set b (getD m a 0) (s .at a) s)
+
+pub small-zeroed : (n : ℕ) {m : List ℕ} (a : ℕ) → Small m → Small (Model.zeroed n m a)
+unfolding Address.zeroed
+small-zeroed zero a s = s
+small-zeroed (suc n) a s = small-zeroed n a (small-set ((a + n) % 8192) 0 (omega arith) s)
+
+-- all of a list are below 256
+abbrev pub Few : List ℕ → Type 0
+Few [] = Unit {0}
+Few (x ∷ xs) = (x < 256) × Few xs
+
+pub few-walk : (n : ℕ) {m : List ℕ} (k a : ℕ) → Small m → Few (Model.walk n m k a)
+unfolding Queue.walk
+few-walk zero k a s = tt
+few-walk (suc n) {m} k a s = go (eqb (getD m a 0) 0) refl (few-walk n k (getD m a 0 * 32 + k) s)
+  where
+    go : (c : Bool) → eqb (getD m a 0) 0 ≡ c → Few (Model.walk n m k (getD m a 0 * 32 + k)) → Few (Model.walk (suc n) m k a)
+    go true e ih = let q : Model.walk (suc n) m k a ≡ [] = rw (e, Queue.walk) in rw q tt
+    go false e ih = let q : Model.walk (suc n) m k a ≡ getD m a 0 ∷ Model.walk n m k (getD m a 0 * 32 + k) = rw (e, Queue.walk) in rw q (s .at a, ih)
+
+pub few-first : (t : ℕ → Bool) (xs : List ℕ) → Few xs → first t xs < 256
+unfolding Queue.first
+few-first t [] f = omega arith
+few-first t (x ∷ xs) f = go (t x) refl (few-first t xs (f .1))
+  where
+    go : (c : Bool) → t x ≡ c → first t xs < 256 → first t (x ∷ xs) < 256
+    go true e ih = rw (e, Queue.first) (f .0)
+    go false e ih = rw (e, Queue.first) ih
+
+module _ {m : List ℕ} (s : Small m) where
+  pub few-page : (n : ℕ) → Model.pageOf m n < 256
+  few-page n = few-first (Model.isNamed m n) (Model.processors m) (few-walk 20 1 247 s)
+
+  pub few-queue : (t : ℕ → Bool) (h : ℕ) → first t (Model.queue m h) < 256
+  few-queue t h = few-first t (Model.queue m h) (few-walk 20 0 h s)
+
+  pub small-join : (h k p : ℕ) → p < 256 → Small (Model.join m h k p)
+  unfolding Queue.join
+  small-join h k p l = small-set _ p l (small-set (p * 32 + k) 0 (omega arith) s)
+
+  pub small-leave : (h k p : ℕ) → Small (Model.leave m h k p)
+  unfolding Queue.leave
+  small-leave h k p = small-set (p * 32 + k) 0 (omega arith) (small-set _ (getD m (p * 32 + k) 0) (s .at (p * 32 + k)) s)
+
+  -- ---- processors
+  pub small-stop : (p : ℕ) → Small (Model.stop m p)
+  unfolding Processor.stop
+  small-stop p = small-set (p * 32 + 12) _ (omega arith) s
+
+  pub small-start : (p : ℕ) → Small (Model.start m p)
+  unfolding Processor.start
+  small-start p = small-set (p * 32 + 12) _ (omega arith) s
+
+  pub small-lr : (p a : ℕ) → Small (Model.setLr m p a)
+  unfolding Processor.setLr
+  small-lr p a = small-set (p * 32 + 11) _ (omega arith) (small-set (p * 32 + 10) _ (omega (arith, s .at (p * 32 + 10))) s)
+
+  pub small-advance : (n : ℕ) → Small (Model.advance m n)
+  unfolding Processor.advance
+  small-advance n = small-lr (getD m 248 0) ((Model.lr m + n) % 8192)
+
+-- ---- waiting
+small-enqueue : {m : List ℕ} → Small m → (a p : ℕ) → p < 256 → Small (Model.enqueue m a p)
+unfolding Wait.enqueue
+small-enqueue s a p l = small-join (small-set a _ (omega arith) s) (a + 1) 0 p l
+
+small-unqueue : {m : List ℕ} → Small m → (a p : ℕ) → Small (Model.unqueue m a p)
+unfolding Wait.unqueue
+small-unqueue s a p = small-leave (small-set a _ (omega arith) s) (a + 1) 0 p
+
+pub small-wait : {m : List ℕ} → Small m → (a p w : ℕ) → p < 256 → w < 256 → Small (Model.putToWait m a p w)
+unfolding Wait.putToWait
+small-wait s a p w l u = small-enqueue (small-set (p * 32 + 2) w u (small-set (p * 32 + 12) _ (omega (arith, s .at (p * 32 + 12))) s)) a p l
+
+pub small-wake : {m : List ℕ} → Small m → (a p : ℕ) → Small (Model.wake m a p)
+unfolding Wait.wake
+small-wake s a p =
+    let t = small-unqueue s a p in
+    small-set (p * 32 + 2) 0 (omega arith) (small-set (p * 32 + 12) _ (omega (arith, t .at (p * 32 + 12))) t)
+
+-- ---- registers
+pub small-registers : {m : List ℕ} → Small m → (p : ℕ) (r : Registers) → Small (Model.setRegistersOf m p r)
+unfolding Processor.setRegistersOf Processor.setFlagsLr
+small-registers {m} s p r =
+    let t2 = small-set (p * 32 + 9) (r .s % 256) (omega arith) (small-set (p * 32 + 8) (r .a % 256) (omega arith) s) in
+    let t3 = small-set (p * 32 + 10) (threeFlags (r .p) (r .z) (r .ci) + r .lr / 256 % 32) (omega arith) t2 in
+    let t4 = small-set (p * 32 + 11) (r .lr % 256) (omega arith) t3 in
+    small-set (p * 32 + 12) _ (omega (arith, t4 .at (p * 32 + 12))) t4
+
+pub small-back : {m : List ℕ} → Small m → (p : ℕ) (r : Registers) → Small (Model.handBack m p r)
+unfolding Processor.handBack
+small-back s p r = small-set (p * 32 + 12) _ (omega arith) (small-registers s p r)
+
+-- ---- pages
+pub small-free : {m : List ℕ} → Small m → (q : ℕ) → Small (Model.takeFree m q)
+unfolding Page.takeFree
+small-free s q = small-leave (small-set 245 _ (omega arith) s) 244 0 q
+
+-- a page taken, and the memory without it
+pub record Light (t : Taken (List ℕ)) : Type 0 where
+  pub page : ℕ
+  pub memory : List ℕ
+  pub is : t ≡ took page memory
+  pub few : page < 256
+  pub small : Small memory
+
+light : {m : List ℕ} (q : ℕ) → q < 256 → Small m → Light (took q m)
+light {m} q l s = record { page = q; memory = m; is = refl; few = l; small = s }
+
+pub small-take : {m : List ℕ} → Small m → (p : ℕ) → Light (Model.takePage m p)
+unfolding Page.takePage Page.firstFree
+small-take {m} s p =
+    let a = 320 + getD m (p * 32 + 7) 0 % 16 in
+    either Light (eqb (getD m a 0) 0)
+    (either Light (eqb (getD m 244 0) 0) (light 0 (omega arith) s) (light (getD m 244 0) (s .at 244) (small-free s (getD m 244 0))))
+    (light (getD m a 0) (s .at a) (small-set a 0 (omega arith) s))
+
+pub small-give : {m : List ℕ} → Small m → (q : ℕ) → q < 256 → Small (Model.giveBack m q)
+unfolding Page.giveBack Page.freePage Page.grantPage
+small-give {m} s q l =
+    either Small (eqb (getD m 246 0) 0) (small-join (small-set 245 _ (omega arith) s) 244 0 q l)
+    (small-wake (small-set _ q l s) 245 (getD m 246 0))
+
+-- ---- mail
+pub small-deliver : {m : List ℕ} → Small m → (p q : ℕ) → q < 256 → Small (Model.deliver m p q)
+unfolding Mail.deliver Mail.heard
+small-deliver {m} s p q l =
+    let t = small-join s (p * 32 + 5) 0 q l in
+    either Small (Model.awaits (Model.join m (p * 32 + 5) 0 q) p q) (small-wake t (p * 32 + 3) p) t
+
+pub small-notice : {m : List ℕ} → Small m → (q n f : ℕ) → n < 16 → f < 16 → Small (Model.makeNotice m q n f)
+unfolding Mail.makeNotice
+small-notice s q n f l u = small-set (q * 32 + 2) 128 (omega arith) (small-set (q * 32 + 1) (n * 16 + f) (omega arith) s)
+
+pub small-message : {m : List ℕ} → Small m → (q f a l : ℕ) → f < 16 → l < 256 → Small (Model.writeMessage m q f a l)
+unfolding Mail.writeMessage
+small-message s q f a l i j = small-copy l a (q * 32 + 3) (small-set (q * 32 + 2) l j (small-set (q * 32 + 1) _ (omega arith) s))
+
+pub small-move : {m : List ℕ} → Small m → (p q : ℕ) → q < 256 → Small (Model.move m p q)
+unfolding Mail.move
+small-move s p q l = small-join (small-leave s (p * 32 + 5) 0 q) (p * 32 + 6) 0 q l
+
+pub record Tried (t : Tested (List ℕ)) : Type 0 where
+  pub found : Bool
+  pub memory : List ℕ
+  pub is : t ≡ tested found memory
+  pub small : Small memory
+
+tried : {m : List ℕ} (c : Bool) → Small m → Tried (tested c m)
+tried {m} c s = record { found = c; memory = m; is = refl; small = s }
+
+pub small-test : (k : ℕ) {m : List ℕ} (p n f : ℕ) → Small m → Tried (Model.testQ1 k m p n f)
+unfolding Mail.testQ1
+small-test zero p n f s = tried false s
+small-test (suc k) {m} p n f s = go (eqb (getD m (p * 32 + 5) 0) 0) (Model.matches m n f (getD m (p * 32 + 5) 0)) refl refl
+    (λ m′ t. small-test k {m = m′} p n f t)
+  where
+    x : ℕ
+    x = getD m (p * 32 + 5) 0
+
+    next : Small (Model.move m p (getD m (p * 32 + 5) 0))
+    next = small-move s p (getD m (p * 32 + 5) 0) (s .at (p * 32 + 5))
+
+    go : (c d : Bool) → eqb (getD m (p * 32 + 5) 0) 0 ≡ c → Model.matches m n f (getD m (p * 32 + 5) 0) ≡ d
+        → ((m′ : List ℕ) → Small m′ → Tried (Model.testQ1 k m′ p n f)) → Tried (Model.testQ1 (suc k) m p n f)
+    go true d e g ih = let q : Model.testQ1 (suc k) m p n f ≡ tested false m = rw (e, Mail.testQ1) in rw q (tried false s)
+    go false true e g ih = let q : Model.testQ1 (suc k) m p n f ≡ tested true (Model.move m p (getD m (p * 32 + 5) 0)) = rw (e, g, Mail.testQ1) in rw q
+        (tried true next)
+    go false false e g ih = let q : Model.testQ1 (suc k) m p n f ≡ Model.testQ1 k (Model.move m p (getD m (p * 32 + 5) 0)) p n f = rw (e, g, Mail.testQ1)
+        in rw q (ih (Model.move m p (getD m (p * 32 + 5) 0)) next)
+
+pub small-out : {m : List ℕ} → Small m → (q a : ℕ) → Small (Model.copyOut m q a)
+unfolding Mail.copyOut
+small-out {m} s q a =
+    small-copy (getD m (q * 32 + 2) 0 % 128) (q * 32 + 3) ((a + 3) % 8192)
+    (small-set ((a + 2) % 8192) _ (omega arith) (small-set ((a + 1) % 8192) _ (omega arith) (small-set a _ (omega (arith, s .at (q * 32 + 1))) s)))
+
+-- ---- deleting
+pub small-unlisted : {m : List ℕ} → Small m → (p : ℕ) → Small (Model.unlisted m p)
+unfolding Delete.unlisted Wait.leaveWait
+small-unlisted {m} s p = small-leave (either Small (Model.queued m (Model.seat 54 m p) p) (small-unqueue s (Model.seat 54 m p) p) s) 247 1 p
+
+small-returned : {m : List ℕ} → Small m → (n q : ℕ) → n < 16 → q < 256 → Small (Model.returned m n q)
+unfolding Delete.returned Delete.noticed
+small-returned {m} s n q l u =
+    let f = getD m (q * 32 + 1) 0 % 16 in
+    let p = Model.pageOf m (getD m (q * 32 + 1) 0 / 16) in
+    either Small (eqb (getD m (q * 32 + 2) 0) 128) (small-give s q u)
+    (either Small (eqb p 0) (small-give s q u) (small-deliver (small-notice s q n f l (omega arith)) p q u))
+
+small-emptied : (i : ℕ) {m : List ℕ} (n h : ℕ) → n < 16 → Small m → Small (Model.emptied i m n h)
+unfolding Delete.emptied
+small-emptied zero n h l s = s
+small-emptied (suc i) {m} n h l s =
+    go (eqb (getD m h 0) 0) refl (small-emptied i n h l (small-returned (small-leave s h 0 (getD m h 0)) n (getD m h 0) l (s .at h)))
+  where
+    go : (c : Bool) → eqb (getD m h 0) 0 ≡ c → Small (Model.emptied i (Model.returned (Model.leave m h 0 (getD m h 0)) n (getD m h 0)) n h)
+        → Small (Model.emptied (suc i) m n h)
+    go true e ih = let q : Model.emptied (suc i) m n h ≡ m = rw (e, Delete.emptied) in rw q s
+    go false e ih =
+        let q : Model.emptied (suc i) m n h ≡ Model.emptied i (Model.returned (Model.leave m h 0 (getD m h 0)) n (getD m h 0)) n h = rw (e, Delete.emptied)
+        in rw q ih
+
+pub small-delete : {m : List ℕ} → Small m → (p : ℕ) → p < 256 → Small (Model.delete m p)
+unfolding Delete.delete Delete.mailReturned Delete.grantReturned
+small-delete {m} s p l =
+    let n = getD m (p * 32 + 7) 0 % 16 in
+    let t = small-emptied 20 n (p * 32 + 5) (omega arith) (small-emptied 20 n (p * 32 + 6) (omega arith) (small-unlisted s p)) in
+    let m1 = Model.mailReturned (Model.unlisted m p) n p in
+    small-give (either Small (eqb (getD m1 (320 + n) 0) 0) t (small-give (small-set (320 + n) 0 (omega arith) t) (getD m1 (320 + n) 0) (t .at (320 + n)))) p l
+
+-- ---- interrupts
+small-struck : {m : List ℕ} → Small m → (k c p : ℕ) → c < 256 → Small (Model.struck m k c p)
+unfolding Interrupt.struck Interrupt.classed
+small-struck {m} s k c p l =
+    let t = small-wake s (129 + 2 * k) p in
+    either Small (eqb (getD m (p * 32 + 2) 0) 1) (either Small (ltb k 48) t (either Small (ltb 50 k) t (small-set (p * 32 + 8) c l t)))
+    (small-set (p * 32 + 2) _ (omega arith) s)
+
+small-from : (n : ℕ) {m : List ℕ} (k c p : ℕ) → c < 256 → Small m → Small (Model.servedFrom n m k c p)
+unfolding Interrupt.servedFrom
+small-from zero k c p l s = s
+small-from (suc n) {m} k c p l s = go (eqb p 0) refl (small-from n k c (getD m (p * 32 + 0) 0) l (small-struck s k c p l))
+  where
+    go : (x : Bool) → eqb p 0 ≡ x → Small (Model.servedFrom n (Model.struck m k c p) k c (getD m (p * 32 + 0) 0)) → Small (Model.servedFrom (suc n) m k c p)
+    go true e ih = let q : Model.servedFrom (suc n) m k c p ≡ m = rw (e, Interrupt.servedFrom) in rw q s
+    go false e ih =
+        let q : Model.servedFrom (suc n) m k c p ≡ Model.servedFrom n (Model.struck m k c p) k c (getD m (p * 32 + 0) 0) = rw (e, Interrupt.servedFrom)
+        in rw q ih
+
+pub small-serve : {m : List ℕ} → Small m → (k c : ℕ) → c < 256 → Small (Model.serve m k c)
+unfolding Interrupt.serve
+small-serve {m} s k c l = small-from 20 k c (getD m (130 + 2 * k) 0) l s
+
+small-turns : {m : List ℕ} → Small m → (c k : ℕ) → Small (Model.turns m c k)
+unfolding Interrupt.turns
+small-turns s c k = small-serve (small-set c 0 (omega arith) s) k 0 (omega arith)
+
+small-counts : {m : List ℕ} → Small m → (c : ℕ) → Small (Model.counts m c)
+unfolding Interrupt.counts
+small-counts s c = small-set c _ (omega arith) s
+
+small-c3 : {m : List ℕ} → Small m → Small (Model.c3Counts m)
+unfolding Interrupt.c3Counts
+small-c3 {m} s = either Small (Model.ends m 243 60) (small-turns s 243 54) (small-counts s 243)
+
+small-c2 : {m : List ℕ} → Small m → Small (Model.c2Counts m)
+unfolding Interrupt.c2Counts
+small-c2 {m} s = either Small (Model.ends m 242 60) (small-c3 (small-turns s 242 53)) (small-counts s 242)
+
+small-c1 : {m : List ℕ} → Small m → Small (Model.c1Counts m)
+unfolding Interrupt.c1Counts
+small-c1 {m} s = either Small (Model.ends m 241 10) (small-c2 (small-turns s 241 52)) (small-counts s 241)
+
+small-c0 : {m : List ℕ} → Small m → Small (Model.c0Counts m)
+unfolding Interrupt.c0Counts
+small-c0 {m} s = either Small (Model.ends m 240 (getD m 251 0)) (small-c1 (small-turns s 240 51)) (small-counts s 240)
+
+pub small-delivered : {m : List ℕ} → Small m → (k c : ℕ) → c < 256 → Small (Model.delivered m k c)
+unfolding Interrupt.delivered
+small-delivered {m} s k c l = let t = small-serve s k c l in either Small (eqb k (getD m 239 0)) (small-c0 t) t
+
+-- ---- who runs
+small-kept : (n : ℕ) {m : List ℕ} (p : ℕ) (w : List ℕ) → ((i : ℕ) → getD w i 0 < 256) → Small m → Small (Model.kept n m p w)
+unfolding Turn.kept
+small-kept zero p w f s = s
+small-kept (suc n) p w f s = small-kept n p w f (small-set (p * 32 + (13 + n)) (getD w n 0) (f n) s)
+
+small-restored : (n : ℕ) {m : List ℕ} (w : List ℕ) → ((i : ℕ) → getD w i 0 < 256) → Small m → Small (Model.restored n m w)
+unfolding Turn.restored
+small-restored zero w f s = s
+small-restored (suc n) w f s = small-restored n w f (small-set _ (getD w n 0) (f n) s)
+
+few-getD : (xs : List ℕ) → Few xs → (i : ℕ) → getD xs i 0 < 256
+few-getD [] f i = omega arith
+few-getD (x ∷ xs) f zero = f .0
+few-getD (x ∷ xs) f (suc i) = few-getD xs (f .1) i
+
+few-19 : (f : ℕ → ℕ) → ((i : ℕ) → f i < 256) → Few (Turn.nineteen f)
+few-19 f h =
+    (h 0, (h 1, (h 2, (h 3, (h 4, (h 5, (h 6, (h 7, (h 8, (h 9, (h 10, (h 11, (h 12, (h 13, (h 14, (h 15, (h 16, (h 17, (h 18, tt)))))))))))))))))))
+
+few-fold : {m : List ℕ} → Small m → (b : ℕ) (xs : List ℕ) → b < 256 → Few xs → fold (Model.better m) b xs < 256
+unfolding Turn.fold Turn.better
+few-fold s b [] l f = l
+few-fold {m} s b (x ∷ xs) l f =
+    few-fold s (Model.better m b x) xs
+    (either (λ (y : ℕ). y < 256) (ltb (getD m (x * 32 + 12) 0) 64) (either (λ (y : ℕ). y < 256) (Model.above m b x) (f .0) l) l) (f .1)
+
+pub few-chosen : {m : List ℕ} → Small m → Model.chosen m < 256
+unfolding Turn.chosen Turn.stays
+few-chosen {m} s =
+    let r = getD m 248 0 in
+    few-fold s (Model.stays m r) (Model.processors m)
+    (either (λ (y : ℕ). y < 256) (eqb r 0) (omega arith) (either (λ (y : ℕ). y < 256) (ltb (getD m (r * 32 + 12) 0) 64) (s .at 248) (omega arith)))
+    (few-walk 20 1 247 s)
+
+pub small-turn : {m : List ℕ} → Small m → Small (Model.whoRuns m)
+unfolding Turn.whoRuns Turn.switch Turn.runs Turn.save Turn.load Turn.onPage0 Turn.keptOn
+small-turn {m} s =
+    let r = getD m 248 0 in
+    let t = Model.chosen m in
+    let s1 : Small (Model.save m r) = either Small (eqb r 0) s
+    (small-kept 19 r (Model.onPage0 m) (few-getD (Model.onPage0 m) (few-19 (λ i. getD m (cond (ltb i 3) (4 + i) (13 + i)) 0)
+    (λ i. s .at (cond (ltb i 3) (4 + i) (13 + i))))) s) in
+    let s2 : Small (Model.load (Model.save m r) t) = either Small (eqb t 0) s1
+    (small-restored 19 (Model.keptOn (Model.save m r) t) (few-getD (Model.keptOn (Model.save m r) t) (few-19 (λ i. getD (Model.save m r) (t * 32 + (13 + i))
+    0) (λ i. s1 .at (t * 32 + (13 + i))))) s1) in
+    either Small (eqb r t) s
+    (small-set 249 _ (either (λ (y : ℕ). y < 256) (eqb t 0) (omega arith) (s2 .at (t * 32 + 7))) (small-set 248 t (few-chosen s) s2))
+
+-- ---- a fresh start
+small-chained : (n : ℕ) {m : List ℕ} (p : ℕ) → p + n < 256 → Small m → Small (Model.chained n m p)
+unfolding Fresh.chained
+small-chained zero p l s = s
+small-chained (suc n) p l s = small-chained n (p + 1) (omega arith) (small-set (p * 32 + 0) (p + 1) (omega arith) s)
+
+small-built : (n : ℕ) {m : List ℕ} → Small m → Small (Model.allBuiltIn n m)
+unfolding Fresh.allBuiltIn
+small-built zero s = s
+small-built (suc n) s = small-built n (small-set (256 + 2 * n) 32 (omega arith) s)
+
+pub small-started : {m : List ℕ} → Small m → (line d : ℕ) → line < 256 → d < 256 → Small (Model.started m line d)
+unfolding Fresh.started Fresh.freed Fresh.firstProcessor Fresh.timed Fresh.cleared Turn.runs
+small-started s line d l u =
+    let t = small-zeroed 640 7552 (small-zeroed 224 128 (small-zeroed 32 0 s)) in
+    let t2 = small-set 251 d u (small-set 239 line l t) in
+    let t3 = small-set 247 236 (omega arith) (small-back (small-set 7559 17 (omega arith) t2) 236 _) in
+    let t4 = small-set 249 _ (t3 .at 7559) (small-set 248 236 (omega arith) t3) in
+    let t5 = small-chained 18 237 (omega arith) (small-set 245 19 (omega arith) (small-set 244 237 (omega arith) t4)) in
+    small-set 288 1 (omega arith) (small-built 15 t5)

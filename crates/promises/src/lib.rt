@@ -1,0 +1,1 @@
+// The demands, as statements about the model: no code.
