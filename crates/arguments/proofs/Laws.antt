@@ -14,7 +14,8 @@ use Rattle.model.specs.Bytes.{Memory, at, addressAt, fieldAt, threeAt, addressO
 use Rattle.model.specs.Bytes.{pointedCreating, pointed, within}
 
 -- seven shapes, or none
-past : (s : ℕ) → (s ≡ 1 → ⊥) → (s ≡ 2 → ⊥) → (s ≡ 3 → ⊥) → (s ≡ 4 → ⊥) → (s ≡ 5 → ⊥) → (s ≡ 6 → ⊥) → (s ≡ 0) ⊎ ((k : ℕ) × (s ≡ suc (suc (suc (suc (suc (suc (suc k))))))))
+past : (s : ℕ) → (s ≡ 1 → ⊥) → (s ≡ 2 → ⊥) → (s ≡ 3 → ⊥) → (s ≡ 4 → ⊥) → (s ≡ 5 → ⊥) → (s ≡ 6 → ⊥)
+    → (s ≡ 0) ⊎ ((k : ℕ) × (s ≡ suc (suc (suc (suc (suc (suc (suc k))))))))
 past zero a b c d e f = inl refl
 past (suc zero) a b c d e f = absurd (a refl)
 past (suc (suc zero)) a b c d e f = absurd (b refl)
@@ -93,7 +94,8 @@ module _ (m : Memory) (e s : ℕ) where
   within-none (suc n) z = absurd (omega arith)
 
   -- i is n - 1 made wide
-  pub within-on : (n i a v l : ℕ) (r : Bool) → (n ≡ 0 → ⊥) → i ≡ n - 1 → a ≡ wrapped e i → v ≡ at m a → l ≡ limitFor s (n - 1) → v ≤ l → r ≡ within (n - 1) m e s
+  pub within-on : (n i a v l : ℕ) (r : Bool) → (n ≡ 0 → ⊥) → i ≡ n - 1 → a ≡ wrapped e i → v ≡ at m a → l ≡ limitFor s (n - 1) → v ≤ l
+      → r ≡ within (n - 1) m e s
       → r ≡ within n m e s
   unfolding Instruction.within
   within-on zero i a v l r o ei ea ev el h er = absurd (o refl)

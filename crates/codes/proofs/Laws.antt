@@ -49,7 +49,8 @@ module _ (m : Memory) (o : Step) (len : ℕ) where
     win-count z h y e = rw (ne-eqb k 0 z, le-ltb interrupts k h, eq-eqb c 0 y) e
 
     -- i is k made wide
-    pub win-waits : (m₁ : Memory) (i : ℕ) → (k ≡ 0 → ⊥) → k ≤ interrupts → (c ≡ 0 → ⊥) → m₁ ≡ advance m len → i ≡ k → o ≡ waits m₁ (semaphoreOf i) c → o ≡ win m k c len
+    pub win-waits : (m₁ : Memory) (i : ℕ) → (k ≡ 0 → ⊥) → k ≤ interrupts → (c ≡ 0 → ⊥) → m₁ ≡ advance m len → i ≡ k → o ≡ waits m₁ (semaphoreOf i) c
+        → o ≡ win m k c len
     unfolding Operate.win
     win-waits m₁ i z h y e₁ ei e = rw (ne-eqb k 0 z, le-ltb interrupts k h, ne-eqb c 0 y, ← e₁, ← ei) e
 

@@ -94,7 +94,8 @@ module _ (m : Memory) (o : Step) (x : Arguments) where
       exi-fault zero y z w h = absurd (y refl)
       exi-fault (suc d) y z w h = rw (← ee, ← eb, z, ← ef, ne-eqb f 0 w) h
 
-      pub exi-runs : (d s : ℕ) (v : Arguments) → (d ≡ 0 → ⊥) → b ≡ false → f ≡ 0 → s ≡ shapeFor (x .field) → v ≡ pointed m e s → o ≡ execute (d - 1) m (x .field) v 4
+      pub exi-runs : (d s : ℕ) (v : Arguments) → (d ≡ 0 → ⊥) → b ≡ false → f ≡ 0 → s ≡ shapeFor (x .field) → v ≡ pointed m e s
+          → o ≡ execute (d - 1) m (x .field) v 4
           → o ≡ exi d m x
       unfolding Execute.exi Execute.argued
       exi-runs zero s v y z w es ev h = absurd (y refl)
@@ -159,7 +160,8 @@ module _ (m : Memory) (o : Step) (n : ℕ) where
       unfolding Execute.fetched
       fetched-coded z e = rw (← eb, h, ← ew, eq-eqb w firstWord z) e
 
-pub fetched-refused : (m : Memory) (n w : ℕ) (b : Bool) → b ≡ guarded n → b ≡ false → w ≡ at m n → (w ≡ firstWord → ⊥) → gives (Refused noInstruction) m ≡ fetched m n
+pub fetched-refused : (m : Memory) (n w : ℕ) (b : Bool) → b ≡ guarded n → b ≡ false → w ≡ at m n → (w ≡ firstWord → ⊥)
+    → gives (Refused noInstruction) m ≡ fetched m n
 unfolding Execute.fetched
 fetched-refused m n w b eb h ew z = rw (← eb, h, ← ew, ne-eqb w firstWord z)
 

@@ -37,7 +37,8 @@ built-none zero m e = refl
 built-none (suc c) m e = absurd (omega arith)
 
 -- i is c - 1 made wide
-pub built-on : (c i : ℕ) (m m₁ m₂ : Memory) → (c ≡ 0 → ⊥) → i ≡ c - 1 → m₁ ≡ write m (codeWord i) (topped builtIn 0) → m₂ ≡ allBuiltIn (c - 1) m₁ → m₂ ≡ allBuiltIn c m
+pub built-on : (c i : ℕ) (m m₁ m₂ : Memory) → (c ≡ 0 → ⊥) → i ≡ c - 1 → m₁ ≡ write m (codeWord i) (topped builtIn 0) → m₂ ≡ allBuiltIn (c - 1) m₁
+    → m₂ ≡ allBuiltIn c m
 unfolding Fresh.allBuiltIn
 built-on zero i m m₁ m₂ o ei e₁ e₂ = absurd (o refl)
 built-on (suc c) i m m₁ m₂ o ei e₁ e₂ = let g : i ≡ c = omega arith in rw (← g, ← e₁, g) (simp sub-one at e₂)

@@ -44,7 +44,8 @@ unfolding Interrupt.servedFrom
 served-end zero m k c p z = refl
 served-end (suc n) m k c p z = rw (eq-eqb p 0 z, Interrupt.servedFrom)
 
-pub served-on : (n : ℕ) (m m₁ m₂ : Memory) (k c p q : ℕ) → (n ≡ 0 → ⊥) → (p ≡ 0 → ⊥) → q ≡ word m p link → m₁ ≡ struck m k c p → m₂ ≡ servedFrom (n - 1) m₁ k c q
+pub served-on : (n : ℕ) (m m₁ m₂ : Memory) (k c p q : ℕ) → (n ≡ 0 → ⊥) → (p ≡ 0 → ⊥) → q ≡ word m p link → m₁ ≡ struck m k c p
+    → m₂ ≡ servedFrom (n - 1) m₁ k c q
     → m₂ ≡ servedFrom n m k c p
 unfolding Interrupt.servedFrom
 served-on zero m m₁ m₂ k c p q o z eq e₁ e₂ = absurd (o refl)

@@ -3,19 +3,21 @@
 use mathlib.Core.Path.{_≡_, sym, ap, _∙_}
 use mathlib.Core.Logic.{_≢_}
 use mathlib.Core.List.{List, [], _∷_, _++_}
-use Prim.Native.Nat.{ℕ, _+_, _-_, _*_, _%_, _≤_}
+use Prim.Native.Nat.{ℕ, _+_, _*_, _/_, _%_, _≤_}
 use native.Mathlib.Omega.{arith}
 use lib.ListN.{length, getD, length-append}
 use borrow.Author.Tests.{ne-eqb}
 use Rattle.model.specs.Page as Page
-use Rattle.model.specs.Bytes.{lists, join, leave, giveBack, deliver}
-use Rattle.model.specs.Lists.{count, Lists, some}
+use Rattle.model.specs.Bytes.{lists, join, leave, giveBack, deliver, putToWait, wake}
+use Rattle.model.specs.Lists.{count, Lists, some, queues}
 use Rattle.laws.specs.Count.{count-append}
 use Rattle.laws.specs.Chain.{Page}
 use Rattle.laws.specs.Queues.{upd, upd-same, upd-other}
 use Rattle.laws.specs.Uses.{Among, Head, proc-page, list-short}
-use Rattle.laws.specs.Places.{InUses, in-free, in-asking, in-q, in-grant, grant-low}
+use Rattle.laws.specs.Places.{InUses, in-free, in-asking, in-q, in-grant, grant-low, in-queues}
 use Rattle.laws.specs.Inv.{View, Message, Base}
+use Rattle.laws.specs.Wake.{wake-base}
+use Rattle.laws.specs.Waits.{Fit, wait-base}
 use Rattle.laws.specs.Judged.{walked, walked-short}
 use Rattle.laws.specs.Cells.{chain0, join-mem, leave-mem}
 use Rattle.laws.specs.Changes.{uses-upd, uses-sep, hand-page}
@@ -107,3 +109,24 @@ deliver-appends {ps = ps} {q = q} b p h letter =
       walked (t .gave .base) (p * 32 + 5) i5 ∙ t .here ∙ ap (λ (l : List ℕ). l ++ q ∷ []) (sym (walked b (p * 32 + 5) i5)),
       λ c i d e. walked (t .gave .base) c i ∙ t .others c d e ∙ sym (walked b c i),
     )
+
+-- who is put to wait stands at the end of the queue whose semaphore is at a; who wakes leaves it
+pub wait-appends : {m : List ℕ} {ps : List ℕ} {L : Lists} {W : View} {hs : List ℕ} {g : ℕ} → Base m ps L W hs g → (a p w : ℕ) → 1 ≤ count (a + 1) (queues ps)
+    → 1 ≤ count p ps → W .state p % 128 / 64 ≡ 0 → Fit ps L W a p w → Becomes ps m (putToWait m a p w) (a + 1) (lists m (a + 1) ++ p ∷ [])
+wait-appends {ps = ps} {L = L} b a p w h hp idle fit =
+    let r = wait-base a p w b h hp idle fit in
+    let i = in-queues ps (a + 1) h in
+    record {
+      here = walked r (a + 1) i ∙ upd-same L (a + 1) (L (a + 1) ++ p ∷ []) ∙ ap (λ (l : List ℕ). l ++ p ∷ []) (sym (walked b (a + 1) i));
+      others = λ c k d. walked r c k ∙ upd-other L (a + 1) c (L (a + 1) ++ p ∷ []) d ∙ sym (walked b c k);
+    }
+
+pub wake-takes : {m : List ℕ} {ps : List ℕ} {L : Lists} {W : View} {hs : List ℕ} {g : ℕ} → Base m ps L W hs g → (a p : ℕ) (xs ys : List ℕ)
+    → 1 ≤ count (a + 1) (queues ps) → lists m (a + 1) ≡ xs ++ p ∷ ys → Becomes ps m (wake m a p) (a + 1) (xs ++ ys)
+wake-takes {ps = ps} {L = L} b a p xs ys h e =
+    let i = in-queues ps (a + 1) h in
+    let r = wake-base a p xs ys b h (sym (walked b (a + 1) i) ∙ e) in
+    record {
+      here = walked r (a + 1) i ∙ upd-same L (a + 1) (xs ++ ys);
+      others = λ c k d. walked r c k ∙ upd-other L (a + 1) c (xs ++ ys) d ∙ sym (walked b c k);
+    }

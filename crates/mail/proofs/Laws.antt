@@ -54,7 +54,8 @@ module _ (p n f : ℕ) where
   tests-on zero m m₁ q b t y eq z eb h e₁ e = absurd (y refl)
   tests-on (suc i) m m₁ q b t y eq z eb h e₁ e = rw (← eq, ne-eqb q 0 z, Mail.testQ1, ← eq, ← eb, h, Mail.testQ1, ← eq, ← e₁) (simp sub-one at e)
 
-pub write-is : (m m₁ m₂ m₃ : Memory) (q f a l p n b : ℕ) → p ≡ running m → n ≡ name m p → m₁ ≡ store m q note (pair n f) → m₂ ≡ store m₁ q size l → b ≡ place q text
+pub write-is : (m m₁ m₂ m₃ : Memory) (q f a l p n b : ℕ) → p ≡ running m → n ≡ name m p → m₁ ≡ store m q note (pair n f) → m₂ ≡ store m₁ q size l
+    → b ≡ place q text
     → m₃ ≡ copy l m₂ a b → m₃ ≡ writeMessage m q f a l
 unfolding Mail.writeMessage
 write-is m m₁ m₂ m₃ q f a l p n b ep en e₁ e₂ eb e₃ = rw (← ep, ← en, ← e₁, ← e₂, ← eb) e₃

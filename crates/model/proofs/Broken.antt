@@ -29,7 +29,8 @@ uses =
     ∷ refuses (made (grantFor 1) (237 ∷ []) ∷ [])
     ∷ refuses (made (place 236 q1) (235 ∷ []) ∷ [])
     ∷ refuses (made (place 236 q1) (237 ∷ []) ∷ made (place 237 link) (238 ∷ 35 ∷ 0 ∷ []) ∷ [])
-    ∷ refuses (second 18 (made (place 236 q1) (238 ∷ []) ∷ made (place 237 q1) (238 ∷ []) ∷ made freeList (239 ∷ 17 ∷ []) ∷ made (place 238 link) (0 ∷ 33 ∷ 0 ∷ []) ∷ []))
+    ∷ refuses (second 18 (made (place 236 q1) (238 ∷ []) ∷ made (place 237 q1) (238 ∷ []) ∷ made freeList (239 ∷ 17 ∷ []) ∷ made (place 238 link) (0
+    ∷ 33 ∷ 0 ∷ []) ∷ []))
     ∷ []
 
 -- "names differ and lie in 1-15, priorities 1-15"

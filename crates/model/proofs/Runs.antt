@@ -84,6 +84,18 @@ row-deleteSelf =
     ∷ has (place 237 state) (192 ∷ [])
     ∷ [])
 
+-- deletion of one that does not wait: no queue is left, whatever the host has put into page 0, which stands behind the end of every queue
+unfoldable pub row-page0 : Script
+row-page0 =
+    begins (crp 2 1 0 3000 ++ dep 2)
+    (step ok
+    ∷ host 0 (237 ∷ [])
+    ∷ step ok
+    ∷ has (semaphoreOf 54) (0 ∷ 0 ∷ [])
+    ∷ has 0 (237 ∷ [])
+    ∷ judges ok
+    ∷ [])
+
 -- one who waits for a page is deleted: it leaves the page queue, not woken, and its own page is then free
 unfoldable pub row-waiter : Script
 row-waiter =
@@ -395,8 +407,9 @@ row-st2 =
     ∷ [])
 
 unfoldable pub runs : List Script
-unfolding row-delete row-deleteWaiter row-deleteSelf row-waiter row-page row-grant row-tme row-wnm row-gin row-clock row-chain row-class
+unfolding row-delete row-deleteWaiter row-deleteSelf row-page0 row-waiter row-page row-grant row-tme row-wnm row-gin row-clock row-chain row-class
     row-exi row-own row-switch row-idle row-13 row-st2 Script.mailed
 runs =
-    row-delete ∷ row-deleteWaiter ∷ row-deleteSelf ∷ row-waiter ∷ row-page ∷ row-grant ∷ row-tme ∷ row-wnm ∷ row-gin ∷ row-clock ∷ row-chain ∷ row-class
+    row-delete ∷ row-deleteWaiter ∷ row-deleteSelf ∷ row-page0 ∷ row-waiter ∷ row-page ∷ row-grant ∷ row-tme ∷ row-wnm ∷ row-gin ∷ row-clock
+    ∷ row-chain ∷ row-class
     ∷ row-exi ∷ row-own ∷ row-switch ∷ row-idle ∷ row-13 ∷ row-st2 ∷ []

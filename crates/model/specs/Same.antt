@@ -95,7 +95,8 @@ tput-is zero x zero v = refl
 tput-is zero x (suc a) v = refl
 tput-is (suc n) t a v = go (ltb a (2 ^ n)) refl (tput-is n (t .0) a v) (tput-is n (t .1) (a - 2 ^ n) v)
   where
-    go : (b : Bool) → ltb a (2 ^ n) ≡ b → flat n (tput n (t .0) a v) ≡ set (flat n (t .0)) a v → flat n (tput n (t .1) (a - 2 ^ n) v) ≡ set (flat n (t .1)) (a - 2 ^ n) v
+    go : (b : Bool) → ltb a (2 ^ n) ≡ b → flat n (tput n (t .0) a v) ≡ set (flat n (t .0)) a v
+        → flat n (tput n (t .1) (a - 2 ^ n) v) ≡ set (flat n (t .1)) (a - 2 ^ n) v
         → flat (suc n) (tput (suc n) t a v) ≡ set (flat n (t .0) ++ flat n (t .1)) a v
     go true e l r = rw (e, tput, set-append-left (flat n (t .0)) (flat n (t .1)) a v (omega (arith, ltb-true, length-flat n (t .0))), l)
     go false e l r = rw (e, tput, set-past (flat n (t .0)) (flat n (t .1)) (2 ^ n) a v (length-flat n (t .0)) (ltb-false _ _ e), r)

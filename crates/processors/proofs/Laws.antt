@@ -19,7 +19,8 @@ pub wake-is : (m m₁ m₂ m₃ : Memory) (s p x : ℕ) → m₁ ≡ unqueue m s
 unfolding Wait.wake
 wake-is m m₁ m₂ m₃ s p x e₁ ex e₂ e₃ = rw (← e₁, ← ex, ← e₂) e₃
 
-pub advance-is : (m m₁ : Memory) (len p : ℕ) (r n : Registers) → p ≡ running m → r ≡ registersOf m p → n ≡ advanced r len → m₁ ≡ setLr m p (n .lr) → m₁ ≡ advance m len
+pub advance-is : (m m₁ : Memory) (len p : ℕ) (r n : Registers) → p ≡ running m → r ≡ registersOf m p → n ≡ advanced r len → m₁ ≡ setLr m p (n .lr)
+    → m₁ ≡ advance m len
 unfolding Processor.advance Processor.registersOf
 advance-is m m₁ len p r n ep er en e₁ = rw (← ep) (rw (en, er) at e₁)
 
@@ -35,12 +36,14 @@ seat-own zero m p r b e eb h er = rw (← eb, h, Wait.seat) er
 seat-own (suc n) m p r b e eb h er = absurd (omega arith)
 
 -- i is n - 1 made wide
-pub seat-here : (n : ℕ) (m : Memory) (p i : ℕ) (b : Bool) → (n ≡ 0 → ⊥) → i ≡ n - 1 → b ≡ queued m (semaphoreAfter i) p → b ≡ true → semaphoreAfter i ≡ seat n m p
+pub seat-here : (n : ℕ) (m : Memory) (p i : ℕ) (b : Bool) → (n ≡ 0 → ⊥) → i ≡ n - 1 → b ≡ queued m (semaphoreAfter i) p → b ≡ true
+    → semaphoreAfter i ≡ seat n m p
 unfolding Wait.seat
 seat-here zero m p i b o ei eb h = absurd (o refl)
 seat-here (suc n) m p i b o ei eb h = let g : i ≡ n = omega arith in rw (← g, ← eb, h, Wait.seat, ← g)
 
-pub seat-on : (n : ℕ) (m : Memory) (p i r : ℕ) (b : Bool) → (n ≡ 0 → ⊥) → i ≡ n - 1 → b ≡ queued m (semaphoreAfter i) p → b ≡ false → r ≡ seat (n - 1) m p → r ≡ seat n m p
+pub seat-on : (n : ℕ) (m : Memory) (p i r : ℕ) (b : Bool) → (n ≡ 0 → ⊥) → i ≡ n - 1 → b ≡ queued m (semaphoreAfter i) p → b ≡ false
+    → r ≡ seat (n - 1) m p → r ≡ seat n m p
 unfolding Wait.seat
 seat-on zero m p i r b o ei eb h er = absurd (o refl)
 seat-on (suc n) m p i r b o ei eb h er = let g : i ≡ n = omega arith in rw (← g, ← eb, h, Wait.seat) (simp sub-one at er)

@@ -12,12 +12,12 @@ use Rattle.model.specs.declared.Registers.{Registers}
 use Rattle.model.specs.declared.Answer.the-variants.{Fault, Refused}
 use Rattle.model.specs.declared.Held.the-variants as Held
 use Rattle.model.specs.declared.Verdict.the-variants as Verdict
-use Rattle.model.specs.Map.{place, pair, state, q1, ownQueue, freeList, pageQueue, processorList, firstUnused, entryAt, entriesFull, stopSet}
+use Rattle.model.specs.Map.{place, pair, state, q1, ownQueue, freeList, pageQueue, processorList, firstUnused, entryAt, entriesFull, stopSet, waitIn}
 use Rattle.model.specs.Fresh.{startable}
 use Rattle.model.specs.Answer.{answerOf, memoryOf}
 use Rattle.model.specs.Lists.{count, Lists, uses, queues}
 use Rattle.model.specs.Bytes.{lists, judged, fresh, instruction, interrupt, setRegisters, readRegisters, judge, fault, running, name, at, word, join, leave}
-use Rattle.model.specs.Bytes.{giveBack, deliver}
+use Rattle.model.specs.Bytes.{giveBack, deliver, putToWait, wake}
 use Rattle.laws.specs.Chain.{Page}
 use Rattle.laws.specs.Uses.{Head, proc-page}
 use Rattle.laws.specs.Places.{InUses}
@@ -25,13 +25,14 @@ use Rattle.laws.specs.Inv.{View, view, Message, Base, Inv}
 use Rattle.laws.specs.Judged.{judge-inv, inv-judge, invariant}
 use Rattle.laws.specs.Words.{Small}
 use Rattle.laws.specs.Who.{running-in}
+use Rattle.laws.specs.Waits.{Fit}
 use Rattle.laws.specs.Calls.{Sound, well, Host, Reached, fresh-starts, fresh-sound, instruction-sound, interrupt-sound, set-sound, host-sound, reached-sound}
 use Rattle.laws.specs.Refusals.{instruction-kept, fresh-kept, interrupt-kept, set-kept, read-kept, judge-kept, instruction-faults}
 use Rattle.laws.specs.Refusals.{instruction-never, fresh-never, interrupt-never, set-never, read-never, judge-accepts}
 use Rattle.laws.specs.Four.{asProcessor, asFree, asMessage, asGrant, used-once}
 use Rattle.laws.specs.Frame.{Unmoved, fault-answer, fault-frame, fault-full, fault-stops, fault-enters}
 use Rattle.laws.specs.Witness.{example, example-reached, example-runs, InHand, InHandMessage, InHandAsked, example-hand, example-message, example-asked}
-use Rattle.laws.specs.Meaning.{Becomes, join-appends, leave-takes, give-frees, Grants, give-grants, deliver-appends}
+use Rattle.laws.specs.Meaning.{Becomes, join-appends, leave-takes, give-frees, Grants, give-grants, deliver-appends, wait-appends, wake-takes}
 
 -- ---- the judge accepts a memory exactly where the lists fit together
 pub judge-says : (m : List ℕ) → length m ≡ 8192 → judged m ≡ true → Inv m (lists m processorList) (lists m) (view m)
@@ -128,6 +129,15 @@ module _ {m : List ℕ} {ps : List ℕ} {L : Lists} {W : View} {hs : List ℕ} {
 pub leaving : {m : List ℕ} {ps : List ℕ} {L : Lists} {W : View} {hs : List ℕ} {g : ℕ} → Base m ps L W hs g → (a q : ℕ) (xs ys : List ℕ) → Head ps a
     → a ≢ processorList → lists m a ≡ xs ++ q ∷ ys → Becomes ps m (leave m a 0 q) a (xs ++ ys)
 leaving = leave-takes
+
+pub waiting-joins : {m : List ℕ} {ps : List ℕ} {L : Lists} {W : View} {hs : List ℕ} {g : ℕ} → Base m ps L W hs g → (s p w : ℕ)
+    → 1 ≤ count (s + 1) (queues ps) → 1 ≤ count p ps → waitIn (W .state p) ≡ 0 → Fit ps L W s p w
+    → Becomes ps m (putToWait m s p w) (s + 1) (lists m (s + 1) ++ p ∷ [])
+waiting-joins = wait-appends
+
+pub waking-leaves : {m : List ℕ} {ps : List ℕ} {L : Lists} {W : View} {hs : List ℕ} {g : ℕ} → Base m ps L W hs g → (s p : ℕ) (xs ys : List ℕ)
+    → 1 ≤ count (s + 1) (queues ps) → lists m (s + 1) ≡ xs ++ p ∷ ys → Becomes ps m (wake m s p) (s + 1) (xs ++ ys)
+waking-leaves = wake-takes
 
 -- ---- the premises can be met: a fresh start on a memory of zeros is reached, someone runs there, and from it pages come in hand, one of them a message,
 -- one while a processor waits for a page

@@ -23,7 +23,8 @@ unfolding Queue.cellOf
 cell-here zero m k a v w e h = refl
 cell-here (suc n) m k a v w e h = rw (← e, eq-eqb w v h, Queue.cellOf)
 
-pub cell-on : (n : ℕ) (m : Memory) (k a v w b r : ℕ) → w ≡ at m a → (n ≡ 0 → ⊥) → (w ≡ v → ⊥) → b ≡ place w k → r ≡ cellOf (n - 1) m k b v → r ≡ cellOf n m k a v
+pub cell-on : (n : ℕ) (m : Memory) (k a v w b r : ℕ) → w ≡ at m a → (n ≡ 0 → ⊥) → (w ≡ v → ⊥) → b ≡ place w k → r ≡ cellOf (n - 1) m k b v
+    → r ≡ cellOf n m k a v
 unfolding Queue.cellOf
 cell-on zero m k a v w b r e o z eb h = absurd (o refl)
 cell-on (suc n) m k a v w b r e o z eb h = rw (← e, ne-eqb w v z, Queue.cellOf, ← e, ← eb) (simp sub-one at h)

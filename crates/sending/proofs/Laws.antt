@@ -9,7 +9,8 @@ use Rattle.model.specs.Page.Taken.{took}
 use Rattle.model.specs.Mail.Tested.{tested}
 use Rattle.model.specs.Answer.{badArgument, protected, noMatch}
 use Rattle.model.specs.Operate as Operate
-use Rattle.model.specs.Bytes.{Memory, Step, at, word, running, pageOf, done, jumps, waits, fault, takePage, deliver, makeNotice, writeMessage, waitsForPage, posted}
+use Rattle.model.specs.Bytes.{Memory, Step, at, word, running, pageOf, done, jumps, waits, fault, takePage, deliver, makeNotice, writeMessage}
+use Rattle.model.specs.Bytes.{waitsForPage, posted}
 use Rattle.model.specs.Bytes.{leave, giveBack, copyOut, sent, smeText, sme, inQ1, inQ2, move, wnm, received, rme, testQ1, tmeQ1, tme}
 
 module _ (m m₁ m₂ : Memory) (q n f a l p : ℕ) (ep : p ≡ pageOf m n) where

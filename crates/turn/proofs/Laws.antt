@@ -93,7 +93,8 @@ unfolding Turn.restored
 restored-none zero m w e = refl
 restored-none (suc n) m w e = absurd (omega arith)
 
-pub restored-on : (n : ℕ) (m m₁ m₂ : Memory) (a : ℕ) (w : List ℕ) → (n ≡ 0 → ⊥) → a ≡ zeroPlace (n - 1) → m₁ ≡ write m a (getD w (n - 1) 0) → m₂ ≡ restored (n - 1) m₁ w
+pub restored-on : (n : ℕ) (m m₁ m₂ : Memory) (a : ℕ) (w : List ℕ) → (n ≡ 0 → ⊥) → a ≡ zeroPlace (n - 1) → m₁ ≡ write m a (getD w (n - 1) 0)
+    → m₂ ≡ restored (n - 1) m₁ w
     → m₂ ≡ restored n m w
 unfolding Turn.restored
 restored-on zero m m₁ m₂ a w o ea e₁ e₂ = absurd (o refl)

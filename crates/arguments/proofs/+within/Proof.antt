@@ -17,8 +17,18 @@ abbrev μ : Measures 1 kinds.ps ℕ
 μ κs a = a .1 .1 .1 .0
 
 pub +within-spec : {M : Type 1} → statement M
-+within-spec = close μ λ t. lts.spec
-    (wide-reads.Asked, wide-reads.Learnt, wrapped-reads.Asked, wrapped-reads.Learnt, at-reads.Asked, at-reads.Learnt, limit-for-reads.Asked, limit-for-reads.Learnt, and 1 kinds.ps (falls 1 kinds.ps _<_ μ t) own.Pre, own.Post)
++within-spec = close μ λ t. lts.spec (
+  wide-reads.Asked,
+  wide-reads.Learnt,
+  wrapped-reads.Asked,
+  wrapped-reads.Learnt,
+  at-reads.Asked,
+  at-reads.Learnt,
+  limit-for-reads.Asked,
+  limit-for-reads.Learnt,
+  and 1 kinds.ps (falls 1 kinds.ps _<_ μ t) own.Pre,
+  own.Post,
+)
     (and 1 kinds.ps (is 1 kinds.ps μ t) own.Pre)
     own.Post
     (λ c. search (needs, arguing))

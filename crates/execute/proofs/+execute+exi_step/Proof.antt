@@ -54,7 +54,36 @@ exi-step-below t =
 
 pub +execute+exi-step-spec : {M : Type 1} → statement M
 unfolding Execute.run
-+execute+exi-step-spec = close μ-execute μ-exi-step (λ t. execute-lts.spec (cvi-reads.Asked, cvi-reads.Learnt, dvi-reads.Asked, dvi-reads.Learnt, gin-reads.Asked, gin-reads.Learnt, win-reads.Asked, win-reads.Learnt, sme-reads.Asked, sme-reads.Learnt, wnm-reads.Asked, wnm-reads.Learnt, rme-reads.Asked, rme-reads.Learnt, tme-reads.Asked, tme-reads.Learnt, st2-reads.Asked, st2-reads.Learnt, crp-reads.Asked, crp-reads.Learnt, thirteen-reads.Asked, thirteen-reads.Learnt, exi-step-below t, exi-step.Post, fault-reads.Asked, fault-reads.Learnt, named-reads.Asked, named-reads.Learnt)
++execute+exi-step-spec = close μ-execute μ-exi-step (λ t. execute-lts.spec (
+  cvi-reads.Asked,
+  cvi-reads.Learnt,
+  dvi-reads.Asked,
+  dvi-reads.Learnt,
+  gin-reads.Asked,
+  gin-reads.Learnt,
+  win-reads.Asked,
+  win-reads.Learnt,
+  sme-reads.Asked,
+  sme-reads.Learnt,
+  wnm-reads.Asked,
+  wnm-reads.Learnt,
+  rme-reads.Asked,
+  rme-reads.Learnt,
+  tme-reads.Asked,
+  tme-reads.Learnt,
+  st2-reads.Asked,
+  st2-reads.Learnt,
+  crp-reads.Asked,
+  crp-reads.Learnt,
+  thirteen-reads.Asked,
+  thirteen-reads.Learnt,
+  exi-step-below t,
+  exi-step.Post,
+  fault-reads.Asked,
+  fault-reads.Learnt,
+  named-reads.Asked,
+  named-reads.Learnt,
+)
     (execute-at t)
     execute.Post
     (λ c κs. search needs)
@@ -99,7 +128,24 @@ unfolding Execute.run
     (λ c. search (needs, run-absent))
     (λ c. search needs)
     (λ c. ⊎-elim (λ w. search (needs, run-12)) (λ w. search (needs, run-low)) (c .before .before .before .before .match .came)))
-    λ t. exi-step-lts.spec (fault-reads.Asked, fault-reads.Learnt, indexed-reads.Asked, indexed-reads.Learnt, is-foreign-reads.Asked, is-foreign-reads.Learnt, foreign-reads.Asked, foreign-reads.Learnt, argument-fault-reads.Asked, argument-fault-reads.Learnt, shape-for-reads.Asked, shape-for-reads.Learnt, pointed-reads.Asked, pointed-reads.Learnt, execute-below t, execute.Post)
+    λ t. exi-step-lts.spec (
+      fault-reads.Asked,
+      fault-reads.Learnt,
+      indexed-reads.Asked,
+      indexed-reads.Learnt,
+      is-foreign-reads.Asked,
+      is-foreign-reads.Learnt,
+      foreign-reads.Asked,
+      foreign-reads.Learnt,
+      argument-fault-reads.Asked,
+      argument-fault-reads.Learnt,
+      shape-for-reads.Asked,
+      shape-for-reads.Learnt,
+      pointed-reads.Asked,
+      pointed-reads.Learnt,
+      execute-below t,
+      execute.Post,
+    )
     (exi-step-at t)
     exi-step.Post
     (λ c κs. search needs)

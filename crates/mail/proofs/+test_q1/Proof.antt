@@ -16,8 +16,16 @@ abbrev μ : Measures 1 kinds.ps ℕ
 μ κs a = a .1 .1 .1 .1 .0
 
 pub +test-q1-spec : {M : Type 1} → statement M
-+test-q1-spec = close μ λ t. lts.spec
-    (word-reads.Asked, word-reads.Learnt, matches-reads.Asked, matches-reads.Learnt, move-message-reads.Asked, move-message-reads.Learnt, and 1 kinds.ps (falls 1 kinds.ps _<_ μ t) own.Pre, own.Post)
++test-q1-spec = close μ λ t. lts.spec (
+  word-reads.Asked,
+  word-reads.Learnt,
+  matches-reads.Asked,
+  matches-reads.Learnt,
+  move-message-reads.Asked,
+  move-message-reads.Learnt,
+  and 1 kinds.ps (falls 1 kinds.ps _<_ μ t) own.Pre,
+  own.Post,
+)
     (and 1 kinds.ps (is 1 kinds.ps μ t) own.Pre)
     own.Post
     (λ c. search (needs, mails))

@@ -16,8 +16,16 @@ abbrev μ : Measures 1 kinds.ps ℕ
 μ κs a = a .1 .1 .0
 
 pub +seat-spec : {M : Type 1} → statement M
-+seat-spec = close μ λ t. lts.spec
-    (queued-reads.Asked, queued-reads.Learnt, place-reads.Asked, place-reads.Learnt, wide-reads.Asked, wide-reads.Learnt, and 1 kinds.ps (falls 1 kinds.ps _<_ μ t) own.Pre, own.Post)
++seat-spec = close μ λ t. lts.spec (
+  queued-reads.Asked,
+  queued-reads.Learnt,
+  place-reads.Asked,
+  place-reads.Learnt,
+  wide-reads.Asked,
+  wide-reads.Learnt,
+  and 1 kinds.ps (falls 1 kinds.ps _<_ μ t) own.Pre,
+  own.Post,
+)
     (and 1 kinds.ps (is 1 kinds.ps μ t) own.Pre)
     own.Post
     (λ c κs. search needs)

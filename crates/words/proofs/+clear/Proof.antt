@@ -16,8 +16,16 @@ abbrev μ : Measures 0 kinds.ps ℕ
 μ κs a = a .0
 
 pub +clear-spec : {M : Type 1} → statement M
-+clear-spec = close μ λ t. lts.spec
-    (wide-reads.Asked, wide-reads.Learnt, wrapped-reads.Asked, wrapped-reads.Learnt, guarded-reads.Asked, guarded-reads.Learnt, and 0 kinds.ps (falls 0 kinds.ps _<_ μ t) own.Pre, own.Post)
++clear-spec = close μ λ t. lts.spec (
+  wide-reads.Asked,
+  wide-reads.Learnt,
+  wrapped-reads.Asked,
+  wrapped-reads.Learnt,
+  guarded-reads.Asked,
+  guarded-reads.Learnt,
+  and 0 kinds.ps (falls 0 kinds.ps _<_ μ t) own.Pre,
+  own.Post,
+)
     (and 0 kinds.ps (is 0 kinds.ps μ t) own.Pre)
     own.Post
     (λ c. search (needs, words))

@@ -1,0 +1,4 @@
+// The script of this crate, run.
+fn main() {
+    console::start();
+}

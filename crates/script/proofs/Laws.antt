@@ -1,0 +1,293 @@
+-- Laws of the parser, a law for each way through the code.
+use Prim.Native.Nat.{ℕ, zero, suc, _+_, _*_, _-_, _%_, _≤_, _<_}
+use mathlib.Core.Path.{_≡_, refl, sym, _∙_, ap}
+use mathlib.Core.Bool.{Bool, true, false, cond}
+use mathlib.Core.List.{List, [], _∷_}
+use lib.ListN.{length, getD, set}
+use lib.Dec.{ltb, leb, eqb}
+use borrow.Author.Tests.{eq-eqb, ne-eqb, lt-ltb, le-ltb, le-leb, lt-leb}
+use native.Mathlib.Numerals.{sub-one}
+use native.Mathlib.Omega.{arith}
+use Rattle.script.specs.declared.Seven.{Seven}
+use Rattle.script.specs.declared.Figures.{Figures}
+use Rattle.script.specs.declared.Order.{Order}
+use Rattle.script.specs.declared.Order.the-variants.{Nothing, NotUnderstood, Fresh, Step, Interrupt, Registers, Set, Judge}
+use Rattle.script.specs.declared.Order.the-variants.{Put, Break, Length, Words, Changes, Show}
+use Rattle.script.specs.Script.{skip, parts, wordEnd, ends, ended, isDigit, more, digits, number, Read, keep, numbers, same, isWord}
+use Rattle.script.specs.Script.Read.{read}
+use Rattle.script.specs.Script.{alone, fresh, interrupt, registers, setting, values, put, putAnywhere, lengthOf, words}
+use Rattle.script.specs.Script.{hostOrder, storeOrder, lookOrder, callOrder, Parsed, ordered, parse}
+use Rattle.script.specs.Script.Parsed.{parsed}
+use Rattle.script.specs.Script.{is-fresh, is-step, is-interrupt, is-registers, is-set, is-judge}
+use Rattle.script.specs.Script.{is-put, is-break, is-length, is-words, is-changes, is-show}
+
+module _ (s : List ℕ) where
+  pub skip-none : (n a : ℕ) → n ≡ 0 → a ≡ skip n s a
+  unfolding skip
+  skip-none zero a e = refl
+  skip-none (suc n) a e = absurd (omega arith)
+
+  pub skip-on : (n a r : ℕ) → (n ≡ 0 → ⊥) → getD s a 0 ≡ 32 → r ≡ skip (n - 1) s (a + 1) → r ≡ skip n s a
+  unfolding skip
+  skip-on zero a r o e h = absurd (o refl)
+  skip-on (suc n) a r o e h = rw (eq-eqb (getD s a 0) 32 e, skip) (simp sub-one at h)
+
+  pub skip-end : (n a : ℕ) → (getD s a 0 ≡ 32 → ⊥) → a ≡ skip n s a
+  unfolding skip
+  skip-end zero a e = refl
+  skip-end (suc n) a e = rw (ne-eqb (getD s a 0) 32 e, skip)
+
+  pub wordEnd-none : (n a : ℕ) → n ≡ 0 → a ≡ wordEnd n s a
+  unfolding wordEnd
+  wordEnd-none zero a e = refl
+  wordEnd-none (suc n) a e = absurd (omega arith)
+
+  pub wordEnd-here : (n a : ℕ) (b : Bool) → b ≡ parts (getD s a 0) → b ≡ true → a ≡ wordEnd n s a
+  unfolding wordEnd
+  wordEnd-here zero a b e h = refl
+  wordEnd-here (suc n) a b e h = rw (← e, h, wordEnd)
+
+  pub wordEnd-on : (n a r : ℕ) (b : Bool) → (n ≡ 0 → ⊥) → b ≡ parts (getD s a 0) → b ≡ false → r ≡ wordEnd (n - 1) s (a + 1) → r ≡ wordEnd n s a
+  unfolding wordEnd
+  wordEnd-on zero a r b o e h er = absurd (o refl)
+  wordEnd-on (suc n) a r b o e h er = rw (← e, h, wordEnd) (simp sub-one at er)
+
+  pub digits-none : (n a v : ℕ) → n ≡ 0 → record { value = v; next = a } ≡ digits n s a v
+  unfolding digits
+  digits-none zero a v e = refl
+  digits-none (suc n) a v e = absurd (omega arith)
+
+  pub digits-end : (n a v : ℕ) (b : Bool) → b ≡ isDigit (getD s a 0) → b ≡ false → record { value = v; next = a } ≡ digits n s a v
+  unfolding digits
+  digits-end zero a v b e h = refl
+  digits-end (suc n) a v b e h = rw (← e, h, digits)
+
+  pub digits-on : (n a v w : ℕ) (b : Bool) (r : Figures) → (n ≡ 0 → ⊥) → b ≡ isDigit (getD s a 0) → b ≡ true → w ≡ more v (getD s a 0)
+      → r ≡ digits (n - 1) s (a + 1) w → r ≡ digits n s a v
+  unfolding digits
+  digits-on zero a v w b r o e h ew er = absurd (o refl)
+  digits-on (suc n) a v w b r o e h ew er = rw (← e, h, digits, ← ew) (simp sub-one at er)
+
+  module _ (a b : ℕ) (d : Figures) (eb : b ≡ skip (length s - a) s a) (ed : d ≡ digits (length s - b) s b 0) where
+    pub number-none : d .next ≡ b → record { value = 65536; next = b } ≡ number s a
+    unfolding number
+    number-none z = rw (← eb, ← ed, eq-eqb (d .next) b z)
+
+    pub number-is : (d .next ≡ b → ⊥) → d ≡ number s a
+    unfolding number
+    number-is z = rw (← eb, ← ed, ne-eqb (d .next) b z)
+
+  module _ (v : List ℕ) where
+    pub numbers-ended : (n a : ℕ) (b : Bool) → n ≤ 33 → b ≡ ended s a → b ≡ true → read (33 - n) v ≡ numbers n s a v
+    unfolding numbers
+    numbers-ended zero a b l e h = rw (← e, h, numbers)
+    numbers-ended (suc n) a b l e h = let g : 33 - suc n ≡ 32 - n = omega arith in rw (← e, h, numbers, g)
+
+    pub numbers-full : (n a : ℕ) (b : Bool) → n ≡ 0 → b ≡ ended s a → b ≡ false → read 34 v ≡ numbers n s a v
+    unfolding numbers
+    numbers-full zero a b z e h = rw (← e, h, numbers)
+    numbers-full (suc n) a b z e h = absurd (omega arith)
+
+    pub numbers-wrong : (n a : ℕ) (b : Bool) (x : Figures) → (n ≡ 0 → ⊥) → b ≡ ended s a → b ≡ false → x ≡ number s a → 65535 < x .value
+        → read 34 v ≡ numbers n s a v
+    unfolding numbers
+    numbers-wrong zero a b x o e h ex l = absurd (o refl)
+    numbers-wrong (suc n) a b x o e h ex l = rw (← e, h, numbers, ← ex, lt-ltb 65535 (x .value) l)
+
+    pub numbers-on : (n a i k : ℕ) (b : Bool) (x : Figures) (v₁ v₂ : List ℕ) → (n ≡ 0 → ⊥) → n ≤ 33 → b ≡ ended s a → b ≡ false → x ≡ number s a
+        → x .value ≤ 65535 → i ≡ 33 - n → v₁ ≡ keep v i (x .value) → read k v₂ ≡ numbers (n - 1) s (x .next) v₁ → read k v₂ ≡ numbers n s a v
+    unfolding numbers
+    numbers-on zero a i k b x v₁ v₂ o m e h ex l ei e₁ e₂ = absurd (o refl)
+    numbers-on (suc n) a i k b x v₁ v₂ o m e h ex l ei e₁ e₂ =
+        let g : i ≡ 32 - n = omega arith in rw (← e, h, numbers, ← ex, le-ltb 65535 (x .value) l, ← ex, ← g, ← e₁) (simp sub-one at e₂)
+
+  module _ (a : ℕ) (w : List ℕ) where
+    pub same-none : (n : ℕ) → n ≡ 0 → true ≡ same n s a w
+    unfolding same
+    same-none zero e = refl
+    same-none (suc n) e = absurd (omega arith)
+
+    pub same-on : (n : ℕ) (r : Bool) → (n ≡ 0 → ⊥) → getD s (a + (n - 1)) 0 ≡ getD w (n - 1) 0 → r ≡ same (n - 1) s a w → r ≡ same n s a w
+    unfolding same
+    same-on zero r o e er = absurd (o refl)
+    same-on (suc n) r o e er = let g = simp sub-one at e in rw (eq-eqb (getD s (a + n) 0) (getD w n 0) g, same) (simp sub-one at er)
+
+    pub same-not : (n : ℕ) → (n ≡ 0 → ⊥) → (getD s (a + (n - 1)) 0 ≡ getD w (n - 1) 0 → ⊥) → false ≡ same n s a w
+    unfolding same
+    same-not zero o e = absurd (o refl)
+    same-not (suc n) o e = let g = simp sub-one at e in rw (ne-eqb (getD s (a + n) 0) (getD w n 0) g, same)
+
+    pub isWord-is : (e : ℕ) (b : Bool) → e - a ≡ length w → b ≡ same (length w) s a w → b ≡ isWord s a e w
+    unfolding isWord
+    isWord-is e b h eb = rw (eq-eqb (e - a) (length w) h) eb
+
+    pub isWord-not : (e : ℕ) → (e - a ≡ length w → ⊥) → false ≡ isWord s a e w
+    unfolding isWord
+    isWord-not e h = rw (ne-eqb (e - a) (length w) h)
+
+  module _ (a e : ℕ) (v : List ℕ) (n : ℕ) (b₁ : Bool) (e₁ : b₁ ≡ is-words s a e) where
+    pub hostOrder-words : (r : Order) → b₁ ≡ true → r ≡ words v n → r ≡ hostOrder s a e v n
+    unfolding hostOrder
+    hostOrder-words r h er = rw (← e₁, h) er
+
+    module _ (b₂ : Bool) (h₁ : b₁ ≡ false) (e₂ : b₂ ≡ is-changes s a e) where
+      pub hostOrder-changes : (r : Order) → b₂ ≡ true → r ≡ alone Changes n → r ≡ hostOrder s a e v n
+      unfolding hostOrder
+      hostOrder-changes r h er = rw (← e₁, h₁, ← e₂, h) er
+
+      module _ (b₃ : Bool) (h₂ : b₂ ≡ false) (e₃ : b₃ ≡ is-show s a e) where
+        pub hostOrder-show : (r : Order) → b₃ ≡ true → r ≡ alone Show n → r ≡ hostOrder s a e v n
+        unfolding hostOrder
+        hostOrder-show r h er = rw (← e₁, h₁, ← e₂, h₂, ← e₃, h) er
+
+        pub hostOrder-other : b₃ ≡ false → NotUnderstood ≡ hostOrder s a e v n
+        unfolding hostOrder
+        hostOrder-other h = rw (← e₁, h₁, ← e₂, h₂, ← e₃, h)
+
+  module _ (a e : ℕ) (v : List ℕ) (n : ℕ) (b₁ : Bool) (e₁ : b₁ ≡ is-put s a e) where
+    pub storeOrder-put : (r : Order) → b₁ ≡ true → r ≡ put v n → r ≡ storeOrder s a e v n
+    unfolding storeOrder
+    storeOrder-put r h er = rw (← e₁, h) er
+
+    module _ (b₂ : Bool) (h₁ : b₁ ≡ false) (e₂ : b₂ ≡ is-break s a e) where
+      pub storeOrder-break : (r : Order) → b₂ ≡ true → r ≡ putAnywhere v n → r ≡ storeOrder s a e v n
+      unfolding storeOrder
+      storeOrder-break r h er = rw (← e₁, h₁, ← e₂, h) er
+
+      module _ (b₃ : Bool) (h₂ : b₂ ≡ false) (e₃ : b₃ ≡ is-length s a e) where
+        pub storeOrder-length : (r : Order) → b₃ ≡ true → r ≡ lengthOf v n → r ≡ storeOrder s a e v n
+        unfolding storeOrder
+        storeOrder-length r h er = rw (← e₁, h₁, ← e₂, h₂, ← e₃, h) er
+
+        pub storeOrder-other : (r : Order) → b₃ ≡ false → r ≡ hostOrder s a e v n → r ≡ storeOrder s a e v n
+        unfolding storeOrder
+        storeOrder-other r h er = rw (← e₁, h₁, ← e₂, h₂, ← e₃, h) er
+
+  module _ (a e : ℕ) (v : List ℕ) (n : ℕ) (b₁ : Bool) (e₁ : b₁ ≡ is-registers s a e) where
+    pub lookOrder-registers : (r : Order) → b₁ ≡ true → r ≡ alone Registers n → r ≡ lookOrder s a e v n
+    unfolding lookOrder
+    lookOrder-registers r h er = rw (← e₁, h) er
+
+    module _ (b₂ : Bool) (h₁ : b₁ ≡ false) (e₂ : b₂ ≡ is-set s a e) where
+      pub lookOrder-set : (r : Order) → b₂ ≡ true → r ≡ setting v n → r ≡ lookOrder s a e v n
+      unfolding lookOrder
+      lookOrder-set r h er = rw (← e₁, h₁, ← e₂, h) er
+
+      module _ (b₃ : Bool) (h₂ : b₂ ≡ false) (e₃ : b₃ ≡ is-judge s a e) where
+        pub lookOrder-judge : (r : Order) → b₃ ≡ true → r ≡ alone Judge n → r ≡ lookOrder s a e v n
+        unfolding lookOrder
+        lookOrder-judge r h er = rw (← e₁, h₁, ← e₂, h₂, ← e₃, h) er
+
+        pub lookOrder-other : (r : Order) → b₃ ≡ false → r ≡ storeOrder s a e v n → r ≡ lookOrder s a e v n
+        unfolding lookOrder
+        lookOrder-other r h er = rw (← e₁, h₁, ← e₂, h₂, ← e₃, h) er
+
+  module _ (a e : ℕ) (v : List ℕ) (n : ℕ) (b₁ : Bool) (e₁ : b₁ ≡ is-fresh s a e) where
+    pub callOrder-fresh : (r : Order) → b₁ ≡ true → r ≡ fresh v n → r ≡ callOrder s a e v n
+    unfolding callOrder
+    callOrder-fresh r h er = rw (← e₁, h) er
+
+    module _ (b₂ : Bool) (h₁ : b₁ ≡ false) (e₂ : b₂ ≡ is-step s a e) where
+      pub callOrder-step : (r : Order) → b₂ ≡ true → r ≡ alone Step n → r ≡ callOrder s a e v n
+      unfolding callOrder
+      callOrder-step r h er = rw (← e₁, h₁, ← e₂, h) er
+
+      module _ (b₃ : Bool) (h₂ : b₂ ≡ false) (e₃ : b₃ ≡ is-interrupt s a e) where
+        pub callOrder-interrupt : (r : Order) → b₃ ≡ true → r ≡ interrupt v n → r ≡ callOrder s a e v n
+        unfolding callOrder
+        callOrder-interrupt r h er = rw (← e₁, h₁, ← e₂, h₂, ← e₃, h) er
+
+        pub callOrder-other : (r : Order) → b₃ ≡ false → r ≡ lookOrder s a e v n → r ≡ callOrder s a e v n
+        unfolding callOrder
+        callOrder-other r h er = rw (← e₁, h₁, ← e₂, h₂, ← e₃, h) er
+
+  pub ordered-is : (a e n : ℕ) (v w : List ℕ) (o : Order) → e ≡ wordEnd (length s - a) s a → read n w ≡ numbers 33 s e v → o ≡ callOrder s a e w n
+      → parsed o w ≡ ordered s a v
+  unfolding ordered
+  ordered-is a e n v w o ee en eo = rw (← ee, ← en, ordered, ← eo)
+
+  module _ (v : List ℕ) where
+    pub parse-long : 255 < length s → parsed NotUnderstood v ≡ parse s v
+    unfolding parse
+    parse-long h = rw (lt-ltb 255 (length s) h)
+
+    module _ (a : ℕ) (b : Bool) (l : length s ≤ 255) (ea : a ≡ skip (length s) s 0) (eb : b ≡ ends s a) where
+      pub parse-nothing : b ≡ true → parsed Nothing v ≡ parse s v
+      unfolding parse
+      parse-nothing h = rw (le-ltb 255 (length s) l, ← ea, ← eb, h)
+
+      pub parse-is : (o : Order) (w : List ℕ) → b ≡ false → parsed o w ≡ ordered s a v → parsed o w ≡ parse s v
+      unfolding parse
+      parse-is o w h e = rw (le-ltb 255 (length s) l, ← ea, ← eb, h) e
+
+module _ (v : List ℕ) (n k : ℕ) (e : k ≡ values n) where
+  pub put-none : k ≡ 0 → NotUnderstood ≡ put v n
+  unfolding put
+  put-none z = rw (← e, eq-eqb k 0 z)
+
+  pub put-is : (k ≡ 0 → ⊥) → Put (getD v 0 0) k ≡ put v n
+  unfolding put
+  put-is z = rw (← e, ne-eqb k 0 z)
+
+  pub putAnywhere-none : k ≡ 0 → NotUnderstood ≡ putAnywhere v n
+  unfolding putAnywhere
+  putAnywhere-none z = rw (← e, eq-eqb k 0 z)
+
+  pub putAnywhere-is : (k ≡ 0 → ⊥) → Break (getD v 0 0) k ≡ putAnywhere v n
+  unfolding putAnywhere
+  putAnywhere-is z = rw (← e, ne-eqb k 0 z)
+
+-- How a test in code is answered.
+pub ruleset tests = (lt-ltb, le-ltb, le-leb, lt-leb, eq-eqb, ne-eqb)
+
+-- Blanks, words and numbers.
+pub ruleset reads = (
+  skip-none,
+  skip-on,
+  skip-end,
+  wordEnd-none,
+  wordEnd-here,
+  wordEnd-on,
+  digits-none,
+  digits-end,
+  digits-on,
+  number-none,
+  number-is,
+  numbers-ended,
+  numbers-full,
+  numbers-wrong,
+  numbers-on,
+  same-none,
+  same-on,
+  same-not,
+  isWord-is,
+  isWord-not,
+)
+
+-- Orders and lines.
+pub ruleset orders = (
+  put-none,
+  put-is,
+  putAnywhere-none,
+  putAnywhere-is,
+  hostOrder-words,
+  hostOrder-changes,
+  hostOrder-show,
+  hostOrder-other,
+  storeOrder-put,
+  storeOrder-break,
+  storeOrder-length,
+  storeOrder-other,
+  lookOrder-registers,
+  lookOrder-set,
+  lookOrder-judge,
+  lookOrder-other,
+  callOrder-fresh,
+  callOrder-step,
+  callOrder-interrupt,
+  callOrder-other,
+  ordered-is,
+  parse-long,
+  parse-nothing,
+  parse-is,
+)

@@ -1,0 +1,207 @@
+-- A line of a script: a word and the numbers behind it. s is the line, as its characters; a is a place in it; v are the numbers read so far.
+use Prim.Native.Nat.{ℕ, zero, suc, _+_, _-_, _*_, _%_}
+use mathlib.Core.Bool.{Bool, true, false, cond}
+use mathlib.Core.List.{List, [], _∷_}
+use lib.ListN.{length, getD, set}
+use lib.Dec.{eqb, ltb, leb}
+use Rattle.script.specs.declared.Seven.{Seven}
+use Rattle.script.specs.declared.Figures.{Figures}
+use Rattle.script.specs.declared.Order.{Order}
+use Rattle.script.specs.declared.Order.the-variants.{Nothing, NotUnderstood, Fresh, Step, Interrupt, Registers, Set, Judge}
+use Rattle.script.specs.declared.Order.the-variants.{Put, Break, Length, Words, Changes, Show}
+
+-- "Words in a line are parted by spaces": the place after those from a on, with n characters left
+unfoldable pub skip : ℕ → List ℕ → ℕ → ℕ
+skip zero s a = a
+skip (suc n) s a = elim (eqb (getD s a 0) 32) [ true ↦ skip n s (a + 1) | false ↦ a ]
+
+-- a word ends before a space and before a #
+unfoldable pub parts : ℕ → Bool
+parts b = cond (eqb b 32) true (eqb b 35)
+
+unfoldable pub wordEnd : ℕ → List ℕ → ℕ → ℕ
+wordEnd zero s a = a
+wordEnd (suc n) s a = elim (parts (getD s a 0)) [ true ↦ a | false ↦ wordEnd n s (a + 1) ]
+
+-- "# and what follows it on the line is a comment"
+unfoldable pub ends : List ℕ → ℕ → Bool
+ends s a = cond (eqb a (length s)) true (eqb (getD s a 0) 35)
+
+unfoldable pub ended : List ℕ → ℕ → Bool
+ended s a = ends s (skip (length s - a) s a)
+
+-- "numbers are digits only, 0 to 65535": 65536 stands for all above, and for none
+unfoldable pub isDigit : ℕ → Bool
+isDigit b = cond (ltb b 48) false (leb b 57)
+
+unfoldable pub more : ℕ → ℕ → ℕ
+more v b = cond (ltb (v * 10 + b % 16) 65536) (v * 10 + b % 16) 65536
+
+unfoldable pub digits : ℕ → List ℕ → ℕ → ℕ → Figures
+digits zero s a v = record { value = v; next = a }
+digits (suc n) s a v =
+    elim (isDigit (getD s a 0)) [ true ↦ digits n s (a + 1) (more v (getD s a 0)) | false ↦ record { value = v; next = a } ]
+
+unfoldable pub number : List ℕ → ℕ → Figures
+number s a = from (skip (length s - a) s a)
+  where
+    said : ℕ → Figures → Figures
+    said b d = cond (eqb (d .next) b) (record { value = 65536; next = b }) d
+
+    from : ℕ → Figures
+    from b = said b (digits (length s - b) s b 0)
+
+-- how many numbers there are, and the numbers
+pub data Read : Type 0 where
+  read : ℕ → List ℕ → Read
+
+unfoldable pub keep : List ℕ → ℕ → ℕ → List ℕ
+keep v i x = set v i x
+
+-- the numbers to the end of the line, with room for n more of 33; 34 where one is wrong or one too many
+unfoldable pub numbers : ℕ → List ℕ → ℕ → List ℕ → Read
+numbers zero s a v = cond (ended s a) (read 33 v) (read 34 v)
+numbers (suc n) s a v = elim (ended s a) [
+  | true ↦ read (32 - n) v
+  | false ↦
+      elim (ltb 65535 (number s a .value)) [
+        | true ↦ read 34 v
+        | false ↦
+            numbers n s (number s a .next) (keep v (32 - n) (number s a .value))
+      ]
+]
+
+-- the first n characters of w stand at a
+unfoldable pub same : ℕ → List ℕ → ℕ → List ℕ → Bool
+same zero s a w = true
+same (suc n) s a w = elim (eqb (getD s (a + n) 0) (getD w n 0)) [ true ↦ same n s a w | false ↦ false ]
+
+-- the word from a to e is w
+unfoldable pub isWord : List ℕ → ℕ → ℕ → List ℕ → Bool
+isWord s a e w = cond (eqb (e - a) (length w)) (same (length w) s a w) false
+
+-- ---- the orders, by how many numbers they have: "A line that .. has a number too many, too few .. not understood"
+unfoldable pub alone : Order → ℕ → Order
+alone o n = cond (eqb n 0) o NotUnderstood
+
+unfoldable pub fresh : List ℕ → ℕ → Order
+fresh v n = cond (eqb n 2) (Fresh (getD v 0 0) (getD v 1 0)) NotUnderstood
+
+-- "`interrupt K` is `interrupt K 0`"
+unfoldable pub interrupt : List ℕ → ℕ → Order
+interrupt v n = cond (eqb n 1) (Interrupt (getD v 0 0) 0) (cond (eqb n 2) (Interrupt (getD v 0 0) (getD v 1 0)) NotUnderstood)
+
+unfoldable pub registers : List ℕ → Seven
+registers v = record {
+  a = getD v 0 0;
+  s = getD v 1 0;
+  p = getD v 2 0;
+  z = getD v 3 0;
+  ci = getD v 4 0;
+  lr = getD v 5 0;
+  w = getD v 6 0;
+}
+
+unfoldable pub setting : List ℕ → ℕ → Order
+setting v n = cond (eqb n 7) (Set (registers v)) NotUnderstood
+
+-- "1 to 32 values"; "`put` and `break` with no value, or with more than 32, are not understood"
+unfoldable pub values : ℕ → ℕ
+values n = cond (ltb n 2) 0 (cond (ltb 33 n) 0 (n - 1))
+
+unfoldable pub put : List ℕ → ℕ → Order
+put v n = cond (eqb (values n) 0) NotUnderstood (Put (getD v 0 0) (values n))
+
+unfoldable pub putAnywhere : List ℕ → ℕ → Order
+putAnywhere v n = cond (eqb (values n) 0) NotUnderstood (Break (getD v 0 0) (values n))
+
+unfoldable pub lengthOf : List ℕ → ℕ → Order
+lengthOf v n = cond (eqb n 1) (Length (getD v 0 0)) NotUnderstood
+
+unfoldable pub words : List ℕ → ℕ → Order
+words v n = cond (eqb n 2) (Words (getD v 0 0) (getD v 1 0)) NotUnderstood
+
+-- ---- the words of the orders, each in its letters' numbers
+-- "fresh"
+abbrev pub is-fresh : List ℕ → ℕ → ℕ → Bool
+is-fresh s a e = isWord s a e (102 ∷ 114 ∷ 101 ∷ 115 ∷ 104 ∷ [])
+
+-- "step"
+abbrev pub is-step : List ℕ → ℕ → ℕ → Bool
+is-step s a e = isWord s a e (115 ∷ 116 ∷ 101 ∷ 112 ∷ [])
+
+-- "interrupt"
+abbrev pub is-interrupt : List ℕ → ℕ → ℕ → Bool
+is-interrupt s a e = isWord s a e (105 ∷ 110 ∷ 116 ∷ 101 ∷ 114 ∷ 114 ∷ 117 ∷ 112 ∷ 116 ∷ [])
+
+-- "registers"
+abbrev pub is-registers : List ℕ → ℕ → ℕ → Bool
+is-registers s a e = isWord s a e (114 ∷ 101 ∷ 103 ∷ 105 ∷ 115 ∷ 116 ∷ 101 ∷ 114 ∷ 115 ∷ [])
+
+-- "set"
+abbrev pub is-set : List ℕ → ℕ → ℕ → Bool
+is-set s a e = isWord s a e (115 ∷ 101 ∷ 116 ∷ [])
+
+-- "judge"
+abbrev pub is-judge : List ℕ → ℕ → ℕ → Bool
+is-judge s a e = isWord s a e (106 ∷ 117 ∷ 100 ∷ 103 ∷ 101 ∷ [])
+
+-- "put"
+abbrev pub is-put : List ℕ → ℕ → ℕ → Bool
+is-put s a e = isWord s a e (112 ∷ 117 ∷ 116 ∷ [])
+
+-- "break"
+abbrev pub is-break : List ℕ → ℕ → ℕ → Bool
+is-break s a e = isWord s a e (98 ∷ 114 ∷ 101 ∷ 97 ∷ 107 ∷ [])
+
+-- "length"
+abbrev pub is-length : List ℕ → ℕ → ℕ → Bool
+is-length s a e = isWord s a e (108 ∷ 101 ∷ 110 ∷ 103 ∷ 116 ∷ 104 ∷ [])
+
+-- "words"
+abbrev pub is-words : List ℕ → ℕ → ℕ → Bool
+is-words s a e = isWord s a e (119 ∷ 111 ∷ 114 ∷ 100 ∷ 115 ∷ [])
+
+-- "changes"
+abbrev pub is-changes : List ℕ → ℕ → ℕ → Bool
+is-changes s a e = isWord s a e (99 ∷ 104 ∷ 97 ∷ 110 ∷ 103 ∷ 101 ∷ 115 ∷ [])
+
+-- "show"
+abbrev pub is-show : List ℕ → ℕ → ℕ → Bool
+is-show s a e = isWord s a e (115 ∷ 104 ∷ 111 ∷ 119 ∷ [])
+
+-- ---- the orders: s has a word from a to e, and behind it the n numbers v
+unfoldable pub hostOrder : List ℕ → ℕ → ℕ → List ℕ → ℕ → Order
+hostOrder s a e v n = cond (is-words s a e) (words v n) (cond (is-changes s a e) (alone Changes n) (cond (is-show s a e) (alone Show n) NotUnderstood))
+
+unfoldable pub storeOrder : List ℕ → ℕ → ℕ → List ℕ → ℕ → Order
+storeOrder s a e v n =
+    cond (is-put s a e) (put v n) (cond (is-break s a e) (putAnywhere v n) (cond (is-length s a e) (lengthOf v n) (hostOrder s a e v n)))
+
+unfoldable pub lookOrder : List ℕ → ℕ → ℕ → List ℕ → ℕ → Order
+lookOrder s a e v n =
+    cond (is-registers s a e) (alone Registers n) (cond (is-set s a e) (setting v n) (cond (is-judge s a e) (alone Judge n) (storeOrder s a e v n)))
+
+unfoldable pub callOrder : List ℕ → ℕ → ℕ → List ℕ → ℕ → Order
+callOrder s a e v n =
+    cond (is-fresh s a e) (fresh v n) (cond (is-step s a e) (alone Step n) (cond (is-interrupt s a e) (interrupt v n) (lookOrder s a e v n)))
+
+-- ---- the line
+pub data Parsed : Type 0 where
+  parsed : Order → List ℕ → Parsed
+
+unfoldable pub ordered : List ℕ → ℕ → List ℕ → Parsed
+ordered s a v = from (wordEnd (length s - a) s a)
+  where
+    said : ℕ → Read → Parsed
+    said e (read n w) = parsed (callOrder s a e w n) w
+
+    from : ℕ → Parsed
+    from e = said e (numbers 33 s e v)
+
+-- "A line of over 255 characters is not understood." "An empty line does nothing."
+unfoldable pub parse : List ℕ → List ℕ → Parsed
+parse s v = cond (ltb 255 (length s)) (parsed NotUnderstood v) (from (skip (length s) s 0))
+  where
+    from : ℕ → Parsed
+    from a = cond (ends s a) (parsed Nothing v) (ordered s a v)

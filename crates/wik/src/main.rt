@@ -1,0 +1,4 @@
+// The script program.
+fn main() {
+    console::start();
+}

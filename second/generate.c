@@ -1,0 +1,141 @@
+/*
+ * The generator of scripts: generate SEED COUNT [KIND] writes a script of COUNT orders, the same
+ * for the same arguments, and at its end what it has reached.  KIND is one of calls, broken,
+ * judge, parser and clock; without it the seed decides.
+ */
+#include <errno.h>
+#include <stdio.h>
+#include <stdlib.h>
+#include <string.h>
+
+#include "generate.h"
+
+enum kind kind;
+
+static const char *const kind_names[KINDS] = { "calls", "broken", "judge", "parser", "clock" };
+static uint64_t state;
+
+/* The numbers are those of the known generator splitmix64. */
+static uint64_t next(void)
+{
+    uint64_t z = state += UINT64_C(0x9e3779b97f4a7c15);
+
+    z = (z ^ z >> 30) * UINT64_C(0xbf58476d1ce4e5b9);
+    z = (z ^ z >> 27) * UINT64_C(0x94d049bb133111eb);
+    return z ^ z >> 31;
+}
+
+uint32_t below(uint32_t end)
+{
+    return end == 0 ? 0 : (uint32_t)(next() >> 16) % end;
+}
+
+unsigned from_to(unsigned low, unsigned high)
+{
+    return low >= high ? low : low + below(high - low + 1);
+}
+
+bool chance(unsigned percent)
+{
+    return below(100) < percent;
+}
+
+bool may_break(void)
+{
+    return kind == KIND_BROKEN || kind == KIND_JUDGE;
+}
+
+/* How often a scene comes, by kind: calls, broken, judge, parser, clock. */
+static const struct {
+    void (*play)(void);
+    unsigned weight[KINDS];
+} scenes[] = {
+    { scene_single, { 70, 50, 30, 30, 20 } }, { scene_calls, { 8, 6, 4, 10, 5 } },
+    { scene_interrupts, { 10, 7, 4, 6, 8 } }, { scene_codes, { 6, 5, 2, 4, 3 } },
+    { scene_edges, { 40, 25, 4, 8, 8 } },     { scene_context, { 8, 6, 2, 3, 4 } },
+    { scene_revive, { 6, 5, 5, 3, 3 } },      { scene_faults, { 5, 4, 2, 2, 2 } },
+    { scene_clock, { 2, 3, 1, 1, 20 } },      { scene_gather, { 6, 5, 5, 2, 12 } },
+    { scene_grow, { 3, 2, 3, 2, 4 } },        { scene_hunger, { 7, 5, 6, 3, 3 } },
+    { scene_relieve, { 5, 4, 3, 2, 2 } },     { scene_reap, { 7, 5, 3, 2, 2 } },
+    { scene_notice, { 5, 4, 2, 2, 1 } },      { scene_messages, { 7, 5, 8, 3, 3 } },
+    { scene_mailbox, { 24, 16, 6, 6, 6 } },   { scene_address, { 7, 5, 1, 3, 3 } },
+    { scene_halt, { 5, 4, 3, 2, 3 } },        { scene_ruin, { 16, 12, 2, 4, 4 } },
+    { scene_break, { 0, 110, 500, 0, 0 } },   { scene_harmless_break, { 0, 20, 20, 0, 0 } },
+    { scene_nobody, { 0, 4, 10, 0, 0 } },     { scene_length, { 0, 3, 2, 3, 0 } },
+    { scene_lines, { 0, 2, 1, 60, 1 } }
+};
+enum { SCENES = sizeof scenes / sizeof scenes[0] };
+
+static void play_some(void)
+{
+    unsigned sum = 0, pick, i = 0;
+
+    for (unsigned n = 0; n < SCENES; n++)
+        sum += scenes[n].weight[kind];
+    pick = below(sum);
+    while (pick >= scenes[i].weight[kind])
+        pick -= scenes[i++].weight[kind];
+    scenes[i].play();
+}
+
+/* With nobody beside the runner, waking and starting others comes first. */
+static void keep_going(void)
+{
+    struct look l = look_at(world);
+
+    if (l.count == 0)
+        unstick();
+    else if (is_idle())
+        scene_idle();
+    else if (l.ready < 2 && l.count > 1 && chance(60))
+        scene_revive();
+    else if (l.ready < 2 && chance(40))
+        scene_grow();
+    else if (l.ready < 2 && chance(30))
+        scene_interrupts();
+    else
+        play_some();
+}
+
+static bool read_argument(const char *text, unsigned long *number)
+{
+    char *end;
+
+    errno = 0;
+    *number = strtoul(text, &end, 10);
+    return *text >= '0' && *text <= '9' && *end == '\0' && errno == 0;
+}
+
+static bool read_kind(const char *text)
+{
+    for (unsigned i = 0; i < KINDS; i++)
+        if (strcmp(text, kind_names[i]) == 0) {
+            kind = (enum kind)i;
+            return true;
+        }
+    return false;
+}
+
+int main(int argc, char **argv)
+{
+    static const enum kind by_seed[] = { KIND_BROKEN, KIND_CALLS, KIND_JUDGE, KIND_CALLS, KIND_CLOCK,
+                                         KIND_BROKEN, KIND_CALLS, KIND_JUDGE, KIND_CALLS, KIND_PARSER };
+    unsigned long seed, count;
+
+    if (argc < 3 || argc > 4 || !read_argument(argv[1], &seed) || !read_argument(argv[2], &count)) {
+        fprintf(stderr, "usage: %s SEED COUNT [calls|broken|judge|parser|clock]\n", argv[0]);
+        return 2;
+    }
+    kind = by_seed[seed % 10];
+    if (argc == 4 && !read_kind(argv[3])) {
+        fprintf(stderr, "%s: no such kind\n", argv[3]);
+        return 2;
+    }
+    state = (uint64_t)seed * 2 + 1;
+    start_orders(count);
+    opening();
+    while (!full())
+        keep_going();
+    write_reached();
+    return fflush(stdout) == 0 && !ferror(stdout) ? 0 : 1;
+}

@@ -1,0 +1,152 @@
+/*
+ * The generator of scripts.  It runs its own copy of the machine while it writes, so that it can
+ * look at the state and choose what is worth trying next.
+ */
+#ifndef GENERATE_H
+#define GENERATE_H
+
+#include <stdbool.h>
+#include <stddef.h>
+#include <stdint.h>
+
+#include "kernel.h"
+#include "machine.h"
+
+enum { BUFFER = 8200, LONGEST_PUT = 32, FORMS = 2, DIRECT = 0, BY_EXI = 1, OUTCOMES = 13 };
+
+enum kind { KIND_CALLS, KIND_BROKEN, KIND_JUDGE, KIND_PARSER, KIND_CLOCK, KINDS };
+extern enum kind kind;
+
+/* generate.c: numbers that depend on the seed only */
+uint32_t below(uint32_t end);
+unsigned from_to(unsigned low, unsigned high);
+bool chance(unsigned percent);
+bool may_break(void);  /* the kind of script allows `break` */
+
+/* orders.c: each writes one line and does the same to the copy; past the last order nothing happens */
+extern uint8_t world[BUFFER];
+extern size_t lent;
+extern struct answer last;
+bool full(void);
+bool near_end(void);
+void start_orders(unsigned long limit);
+void order_fresh(unsigned line, unsigned divider);
+void order_step(void);
+void order_interrupt(unsigned number, unsigned class_number);
+void order_registers(void);
+void order_set(const struct registers *registers);
+void order_judge(void);
+void order_put(unsigned address, const uint8_t *values, unsigned count);
+void order_break(unsigned address, const uint8_t *values, unsigned count);
+void order_length(unsigned length);
+void order_words(unsigned address, unsigned count);
+void order_changes(void);
+void order_raw(const char *line);
+void put_allowed(unsigned address, const uint8_t *values, unsigned count);
+void maybe_changes(unsigned percent);
+
+/* look.c: the state, read for choosing; the memory is well-formed */
+enum wait { WAIT_NONE, WAIT_INTERRUPT, WAIT_PAGE, WAIT_MESSAGE };
+struct one {
+    unsigned page, name, priority;
+    bool stopped;
+    enum wait wait;
+    unsigned interrupt;  /* waited for */
+    unsigned reason;
+    unsigned q1, q2;     /* how many messages */
+    unsigned mail;       /* of them, whose sender exists and is another */
+    unsigned notices;    /* of them, notices */
+    unsigned odd;        /* notices whose sender's name exists */
+    unsigned grant;
+};
+struct look {
+    struct one one[PAGES];
+    unsigned count, ready, free, page_waiters;
+    unsigned running;    /* index into one, or count if idle */
+    unsigned lr;
+};
+struct look look_at(const uint8_t *m);
+bool is_idle(void);
+const struct one *runner_of(const struct look *l);
+unsigned absent_name(const struct look *l);
+unsigned existing_name(const struct look *l);
+const struct one *find_one(const struct look *l, unsigned name);
+unsigned pick_code(unsigned wanted_kind, unsigned lowest);
+
+/* reach.c: what was reached */
+enum mark {
+    MARK_GRANT_GIVEN, MARK_GRANT_USED, MARK_GRANT_OTHER, MARK_GRANT_KEPT, MARK_DELETE, MARK_DELETE_MAIL,
+    MARK_DELETE_NOTICE, MARK_DELETE_ODD, MARK_DELETE_GRANT, MARK_DELETE_INTERRUPT, MARK_DELETE_PAGE,
+    MARK_DELETE_MESSAGE, MARK_DELETE_FEEDS, MARK_WAKE_MESSAGE, MARK_WAKE_NOTICE, MARK_NOTICE_SENT, MARK_TME_Q2,
+    MARK_TME_TAIL, MARK_RME_MIDDLE, MARK_HANDED_DIRECT, MARK_HANDED_EXI, MARK_EXI_INDEXED, MARK_PAGE_9_FULL,
+    MARK_FAULT_FULL, MARK_SWITCH, MARK_TO_IDLE, MARK_PREEMPTED, MARK_EQUAL_STAYS, MARK_STOPPED_WOKEN,
+    MARK_BROKEN_JUDGED, MARK_BROKEN_FINE, MARK_WRONG_LENGTH, MARK_NOT_UNDERSTOOD, MARK_NOT_ALLOWED, MARKS
+};
+void mark(enum mark what);
+unsigned long marked(enum mark what);
+unsigned long reached(unsigned code, unsigned form, unsigned outcome);
+void reach_step(const uint8_t *before, const struct answer *answer);
+void reach_interrupt(const uint8_t *before, unsigned number, const struct answer *answer);
+void reach_answer(const struct answer *answer);
+void write_reached(void);
+
+/* plan.c: one instruction, direct or by EXI, put at LR and run */
+struct plan {
+    unsigned code;
+    bool exi;
+    struct arguments g;
+    int bad_word;           /* by EXI: the argument word that goes beyond its field, or -1 */
+    bool protected_words;   /* by EXI: some argument words are protected */
+    bool index;             /* by EXI: with indexing */
+};
+unsigned place(unsigned count);
+unsigned place_protected(unsigned count);
+unsigned before_index(unsigned address, unsigned xn);
+unsigned direct_words(const struct plan *p, uint8_t *words);
+unsigned exi_words(const struct plan *p, uint8_t *words);
+unsigned pick_bad_word(unsigned code);
+void issue(const struct plan *p);
+void issue_batch(const struct plan *plans, unsigned count);
+
+/* build.c: plans for a wanted outcome */
+bool build(struct plan *p, unsigned code, bool exi, unsigned outcome);
+bool try_to(unsigned code, unsigned outcome);
+bool do_name(unsigned code, unsigned name);
+bool do_create(unsigned name, unsigned priority);
+bool do_send(unsigned name, unsigned flag, unsigned length);
+bool do_message(unsigned code, unsigned name, unsigned flag);
+bool do_wait(unsigned interrupt, unsigned count);
+bool others_ready(void);
+
+/* scenes.c, deep.c, broken.c, lines.c: short plays of some orders each */
+void scene_single(void);
+void scene_calls(void);
+void scene_interrupts(void);
+void scene_codes(void);
+void scene_edges(void);
+void scene_context(void);
+void scene_idle(void);
+void scene_revive(void);
+void scene_faults(void);
+void scene_clock(void);
+void scene_grow(void);
+void scene_hunger(void);
+void scene_relieve(void);
+void scene_reap(void);
+void scene_notice(void);
+void scene_messages(void);
+void scene_gather(void);
+void scene_address(void);
+void scene_mailbox(void);
+void scene_halt(void);
+void scene_ruin(void);
+void scene_break(void);
+void scene_harmless_break(void);
+void scene_litter(void);
+void scene_nobody(void);
+void scene_length(void);
+void scene_lines(void);
+void unstick(void);
+void opening(void);
+
+#endif

@@ -1,0 +1,219 @@
+/* Words set by `break` that are not judged, or that stay well-formed: they must be carried along rightly. */
+#include <string.h>
+
+#include "generate.h"
+
+static void scatter(unsigned address, unsigned count)
+{
+    uint8_t bytes[LONGEST_PUT];
+
+    for (unsigned i = 0; i < count; i++)
+        bytes[i] = (uint8_t)below(256);
+    order_break(address, bytes, count);
+}
+
+/* Page 9 nearly full, full, or empty again. */
+static void fill_page_9(void)
+{
+    uint8_t table[PAGE_WORDS] = { 0 };
+    unsigned unused = chance(30) ? 1 : from_to(28, 32);
+
+    table[0] = (uint8_t)unused;
+    for (unsigned word = 1; word < unused; word++)
+        table[word] = (uint8_t)(from_to(1, 15) * 16 + from_to(1, 12));
+    order_break(FAULT_TABLE, table, PAGE_WORDS);
+}
+
+/* All codes built in again, with addresses that nobody reads. */
+static void restore_codes(void)
+{
+    uint8_t table[PAGE_WORDS];
+
+    for (unsigned code = 0; code < CODES; code++) {
+        table[2 * code] = (uint8_t)(code == 15 ? 0 : 32);
+        table[2 * code + 1] = 0;
+        if (chance(30)) {
+            table[2 * code] = (uint8_t)(table[2 * code] + below(32));
+            table[2 * code + 1] = (uint8_t)below(256);
+        }
+    }
+    order_break(CODE_TABLE, table, PAGE_WORDS);
+}
+
+/* The clock just before an end, or another line and divider. */
+static void set_clock(void)
+{
+    uint8_t counters[4] = { 0, (uint8_t)from_to(8, 9), (uint8_t)from_to(58, 59), (uint8_t)from_to(58, 59) };
+    uint8_t divider = (uint8_t)(chance(70) ? from_to(1, 3) : from_to(1, 255)), line = (uint8_t)from_to(16, 47);
+
+    counters[0] = (uint8_t)below(divider);
+    order_break(C0, counters, 4);
+    order_break(DIVIDER, &divider, 1);
+    if (chance(40))
+        order_break(LINE, &line, 1);
+}
+
+/* Contents of a page: of a processor its registers and kept words, of others all behind the link. */
+static void scatter_page(const struct look *l)
+{
+    unsigned page = from_to(FIRST_PAGE, LAST_PAGE);
+    bool is_free = false;
+    struct queue free_list = queue_read(world, FREE_LIST, LINK);
+
+    for (unsigned i = 0; i < free_list.count; i++)
+        is_free = is_free || free_list.page[i] == page;
+    if (is_free) {
+        scatter(at(page, 1), 31);
+        return;
+    }
+    page = l->one[below(l->count)].page;
+    if (chance(30))
+        scatter(at(page, REGISTER_A), 4);
+    else
+        scatter(at(page, SAVED), 19);
+}
+
+static void scatter_small(const struct look *l)
+{
+    const struct one *one = &l->one[below(l->count)];
+    uint8_t reason = (uint8_t)(chance(60) ? from_to(1, 2) : 255);
+
+    switch (below(5)) {
+    case 0: scatter(TABLES, 3); break;
+    case 1: scatter(252, 4); break;
+    case 2: scatter(WORDS, 8); break;
+    case 3:
+        if (one->wait == WAIT_NONE)
+            scatter(at(one->page, LINK), 1);
+        break;
+    default:
+        if (one->wait == WAIT_INTERRUPT)
+            order_break(at(one->page, REASON), &reason, 1);
+        break;
+    }
+}
+
+void scene_harmless_break(void)
+{
+    struct look l = look_at(world);
+
+    if (l.count == 0)
+        return;
+    switch (below(8)) {
+    case 0: fill_page_9(); break;
+    case 1: if (near_end() || chance(20)) restore_codes(); break;
+    case 2: case 3: set_clock(); break;
+    case 4: case 5: scatter_page(&l); break;
+    default: scatter_small(&l); break;
+    }
+    if (chance(30))
+        order_judge();
+}
+
+/* Word 0 of one that doesn't wait is not judged; if it is then deleted, its page may be granted with it. */
+void scene_litter(void)
+{
+    struct look l = look_at(world);
+
+    for (unsigned i = 0; i < l.count && !is_idle(); i++) {
+        const struct one *one = &l.one[i];
+
+        if (i == l.running || one->wait != WAIT_NONE || chance(50))
+            continue;
+        scatter(at(one->page, LINK), 1);
+        do_name(9, one->name);
+        do_name(12, one->name);
+        break;
+    }
+}
+
+/* No processor at all and every page free: nothing in the list of the well-formed forbids it. */
+void scene_nobody(void)
+{
+    static const uint8_t zeros[LONGEST_PUT];
+    uint8_t lists[6] = { FIRST_PAGE, PAGES, 0, 0, 0, 0 };
+
+    if (!near_end())
+        return;
+    for (unsigned k = 0; k < 3; k++)
+        order_break(TABLES + k * LONGEST_PUT, zeros, LONGEST_PUT);
+    order_break(TABLES + 96, zeros, 15);
+    order_break(FREE_LIST, lists, 6);
+    order_break(GRANTS, zeros, LONGEST_PUT);
+    for (unsigned page = FIRST_PAGE; page <= LAST_PAGE; page++) {
+        uint8_t next = (uint8_t)(page < LAST_PAGE ? page + 1 : 0);
+
+        order_break(at(page, LINK), &next, 1);
+    }
+    order_judge();
+    order_step();
+    order_interrupt(world[LINE], 0);
+    order_changes();
+}
+
+static unsigned some_line(void)
+{
+    return chance(20) ? 16 : chance(20) ? 47 : from_to(16, 47);
+}
+
+static unsigned some_divider(void)
+{
+    return chance(80) ? from_to(1, 4) : chance(25) ? 255 : from_to(1, 255);
+}
+
+/*
+ * Nobody is ready and nothing from outside helps: where memories may be broken, one that is stopped
+ * is started by hand, else a fresh start.
+ */
+void unstick(void)
+{
+    struct look l = look_at(world);
+
+    for (unsigned tries = 0; may_break() && l.count > 0 && tries < 30; tries++) {
+        const struct one *one = &l.one[below(l.count)];
+        uint8_t state = world[at(one->page, STATE)] & 127;
+        uint8_t running[2] = { (uint8_t)one->page, world[at(one->page, WHO)] };
+
+        if (!one->stopped || one->wait != WAIT_NONE)
+            continue;
+        order_break(at(one->page, STATE), &state, 1);
+        order_break(RUNNING_PAGE, running, 2);
+        return;
+    }
+    order_fresh(some_line(), some_divider());
+    maybe_changes(50);
+}
+
+/* Lengths that are not 8,192, calls with them, and back. */
+void scene_length(void)
+{
+    static const uint16_t lengths[] = { 0, 1, 8191, 8193, 8200 };
+    struct registers r = { 0, 0, 0, 0, 0, 300, 0 };
+
+    order_length(lengths[below(5)]);
+    for (unsigned left = from_to(1, 4); left > 0; left--) {
+        switch (below(6)) {
+        case 0: order_step(); break;
+        case 1: order_interrupt(below(60), below(3)); break;
+        case 2: order_registers(); break;
+        case 3: order_set(&r); break;
+        case 4: order_fresh(from_to(15, 47), below(3)); break;
+        default: order_judge(); break;
+        }
+    }
+    if (chance(20))
+        order_length(chance(50) ? 8201 : 65535);
+    maybe_changes(50);
+    order_length(WORDS);
+}
+
+/* Before the first fresh start all words are zero, which is not well-formed. */
+void opening(void)
+{
+    if (chance(30))
+        scene_calls();
+    if (chance(15))
+        scene_length();
+    order_fresh(some_line(), kind == KIND_CLOCK ? from_to(1, 2) : some_divider());
+    maybe_changes(70);
+}

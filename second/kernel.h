@@ -1,0 +1,50 @@
+/*
+ * The public calls of the kernel of the virtual computer.
+ *
+ * Every call is lent the first `length` words of a memory, one word a byte.
+ * Any memory, any length and any numbers get an answer, and every call ends.
+ * A call whose answer is a refusal leaves all memory untouched.
+ */
+#ifndef KERNEL_H
+#define KERNEL_H
+
+#include <stddef.h>
+#include <stdint.h>
+
+enum answer_kind {
+    ANSWER_DONE,
+    ANSWER_WAITS,       /* "put to wait (the runner now waits)" */
+    ANSWER_HANDED_OUT,  /* "own code: program address, and the address n+1 or of the arguments" */
+    ANSWER_FAULT,       /* "The answer gives its number and the name" */
+    ANSWER_REFUSED
+};
+
+struct answer {
+    enum answer_kind kind;
+    uint32_t number;     /* of a fault or a refusal */
+    uint32_t name;       /* of the processor that made the fault */
+    uint32_t program;    /* handed out: where the own code's program is */
+    uint32_t arguments;  /* handed out: where its arguments are */
+};
+
+struct registers {
+    uint32_t a, s, p, z, ci, lr, w;
+};
+
+/* The fresh start, with the number of the clock line and the divider. */
+struct answer kernel_fresh(uint8_t *memory, size_t length, uint32_t line, uint32_t divider);
+
+/* One virtual instruction by the running processor. */
+struct answer kernel_instruction(uint8_t *memory, size_t length);
+
+/* Delivery of an interrupt from outside; the class number belongs to 48-50. */
+struct answer kernel_interrupt(uint8_t *memory, size_t length, uint32_t number, uint32_t class_number);
+
+/* The running processor's registers; `registers` is written only if the answer is done. */
+struct answer kernel_read_registers(const uint8_t *memory, size_t length, struct registers *registers);
+struct answer kernel_set_registers(uint8_t *memory, size_t length, const struct registers *registers);
+
+/* Done if the memory is well-formed, else a refusal. */
+struct answer kernel_judge(const uint8_t *memory, size_t length);
+
+#endif

@@ -1,0 +1,116 @@
+/* Lines for the reader of scripts: not understood, not allowed, empty, comments, long ones. */
+#include <stdio.h>
+#include <string.h>
+
+#include "generate.h"
+
+/* Each of these is not understood. */
+static const char *const odd[] = {
+    "fresh", "fresh 16", "fresh 16 1 2", "step 1", "step step", "Step", "STEP", "ste", "steps", "interrupt",
+    "interrupt 16 0 0", "registers 1", "set", "set 1 2 3 4 5 6", "set 1 2 3 4 5 6 7 8", "judge 0", "put", "put 400",
+    "break", "break 400", "length", "length 1 2", "words", "words 5", "words 5 1 1", "changes 1", "show 1", "put 400 65536",
+    "put 65536 1", "break 8000 99999", "length 65536", "words 65536 1", "interrupt 65536", "fresh 65536 1", "put -1 1",
+    "put 400 -1", "put 400 +1", "put 400 1.5", "put 400 0x10", "put 400 1,2", "put 400 1;", "put 4 00 1 x", "interrupt 1 6x",
+    "interrupt 99999999999999999999999999", "set 1 1 1 1 1 1 4294967296", "words 18446744073709551616 1", "step\t", "\tstep",
+    "put\t400 1", "put 400\t1", "step\r", "\t", "'step'", "1", "42 fresh", "step;changes", "fresh16 1", "brake 1 2", "\xc5\xbc",
+    "judge judge", "interrupt #16", "put 400 #1", "set 1 2 3 4 5 6# 7", "fresh 16 #1", "words 400 #", "length #5"
+};
+
+/* Each of these is understood and not allowed, and changes nothing. */
+static const char *const forbidden[] = {
+    "put 128 1", "put 351 1", "put 127 1 2", "put 350 1 2 3", "put 7552 1", "put 7551 1 2", "put 8191 1", "put 8192 1",
+    "put 8199 1", "put 8200 1", "put 65535 1", "put 400 256", "put 400 1 2 65535", "put 31 1 256", "break 8200 1",
+    "break 8199 1 2", "break 65535 1", "break 400 256", "break 8000 1 2 999", "length 8201", "length 65535", "words 8200 1",
+    "words 8199 2", "words 0 0", "words 0 33", "words 65535 32", "words 8169 32", "words 400 65535", "words 8200 0",
+    "put 100 1 1 1 1 1 1 1 1 1 1 1 1 1 1 1 1 1 1 1 1 1 1 1 1 1 1 1 1 1"
+};
+
+/* Each of these does nothing at all. */
+static const char *const nothing[] = { "", " ", "      ", "#", "# step", "   # put 400 1", "####", "#\t\xff" };
+
+static void not_understood(const char *line)
+{
+    if (full())
+        return;
+    order_raw(line);
+    mark(MARK_NOT_UNDERSTOOD);
+}
+
+/* `put` or `break` with so many values; more than 32 are not understood. */
+static void too_many(void)
+{
+    char line[300];
+    unsigned count = from_to(33, 60);
+    int length = snprintf(line, sizeof line, "%s 400", chance(50) ? "put" : "break");
+
+    for (unsigned i = 0; i < count; i++)
+        length += snprintf(line + length, sizeof line - (size_t)length, " %u", (unsigned)below(10));
+    not_understood(line);
+}
+
+/* A line that would be understood if it had not over 255 characters. */
+static void too_long(void)
+{
+    char line[600];
+    size_t length = chance(60) ? 256 : from_to(256, 599);
+    const char *start = chance(50) ? "step" : "changes";
+    char filler = chance(50) ? ' ' : '#';
+
+    memset(line, filler, length);
+    line[length] = '\0';
+    if (chance(80))
+        memcpy(line, start, strlen(start));
+    not_understood(line);
+}
+
+/* A comment of 255 characters or fewer does nothing. */
+static void longest_comment(void)
+{
+    char line[256];
+
+    memset(line, chance(50) ? '#' : ' ', 255);
+    line[chance(70) ? 255 : 254] = '\0';
+    line[0] = '#';
+    order_raw(line);
+}
+
+static void harmless_order(void)
+{
+    uint8_t values[LONGEST_PUT];
+
+    for (unsigned i = 0; i < LONGEST_PUT; i++)
+        values[i] = (uint8_t)below(256);
+    switch (below(6)) {
+    case 0: order_put(352 + below(100), values, LONGEST_PUT); break;
+    case 1: order_put(7520, values, LONGEST_PUT); break;
+    case 2: order_words(chance(50) ? 8168 : 8199, chance(50) ? 32 : 1); break;
+    case 3: order_put(0, values, LONGEST_PUT); break;
+    case 4: order_break(8198, values, 2); break;
+    default: order_put(100, values, chance(50) ? 28 : 29); break;
+    }
+    maybe_changes(50);
+}
+
+void scene_lines(void)
+{
+    for (unsigned left = from_to(1, 6); left > 0 && !full(); left--) {
+        unsigned choice = below(100);
+
+        if (choice < 45) {
+            not_understood(odd[below(sizeof odd / sizeof odd[0])]);
+        } else if (choice < 65) {
+            order_raw(forbidden[below(sizeof forbidden / sizeof forbidden[0])]);
+            mark(MARK_NOT_ALLOWED);
+        } else if (choice < 75) {
+            order_raw(nothing[below(sizeof nothing / sizeof nothing[0])]);
+        } else if (choice < 80) {
+            too_many();
+        } else if (choice < 86) {
+            too_long();
+        } else if (choice < 90) {
+            longest_comment();
+        } else {
+            harmless_order();
+        }
+    }
+}

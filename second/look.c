@@ -1,0 +1,113 @@
+/* Looking at the state to choose what comes next. */
+#include "generate.h"
+
+static enum wait wait_of(const uint8_t *m, unsigned page, unsigned *interrupt)
+{
+    unsigned header = wait_header_of(m, page);
+
+    *interrupt = 0;
+    if (header == 0)
+        return WAIT_NONE;
+    if (header == PAGE_QUEUE)
+        return WAIT_PAGE;
+    if (header == at(page, OWN_WAIT))
+        return WAIT_MESSAGE;
+    *interrupt = (header - TABLES - 2) / 2;
+    return WAIT_INTERRUPT;
+}
+
+static void count_mail(const uint8_t *m, struct one *one, const struct queue *q)
+{
+    for (unsigned i = 0; i < q->count; i++) {
+        unsigned sender = m[at(q->page[i], FROM)] / 16u;
+        bool exists = sender != one->name && find_processor(m, sender) != 0;
+
+        if (m[at(q->page[i], LENGTH)] == NOTICE) {
+            one->notices++;
+            one->odd += exists;
+        } else {
+            one->mail += exists;
+        }
+    }
+}
+
+static struct one look_at_one(const uint8_t *m, unsigned page)
+{
+    struct one one = { .page = page, .name = name_of(m, page), .priority = priority_of(m, page) };
+    struct queue q1 = queue_read(m, at(page, Q1), LINK), q2 = queue_read(m, at(page, Q2), LINK);
+
+    one.stopped = (m[at(page, STATE)] & STOPPED) != 0;
+    one.wait = wait_of(m, page, &one.interrupt);
+    one.reason = m[at(page, REASON)];
+    one.q1 = q1.count;
+    one.q2 = q2.count;
+    count_mail(m, &one, &q1);
+    count_mail(m, &one, &q2);
+    one.grant = m[GRANTS + one.name];
+    return one;
+}
+
+struct look look_at(const uint8_t *m)
+{
+    struct look l = { .free = queue_read(m, FREE_LIST, LINK).count };
+    struct queue list = queue_read(m, PROCESSOR_LIST, LIST_LINK);
+
+    l.count = list.count;
+    l.running = list.count;
+    l.page_waiters = queue_read(m, PAGE_QUEUE, LINK).count;
+    for (unsigned i = 0; i < list.count; i++) {
+        l.one[i] = look_at_one(m, list.page[i]);
+        l.ready += is_ready(m, list.page[i]);
+        if (list.page[i] == m[RUNNING_PAGE]) {
+            l.running = i;
+            l.lr = get_lr(m, list.page[i]);
+        }
+    }
+    return l;
+}
+
+bool is_idle(void)
+{
+    return world[RUNNING_PAGE] == 0;
+}
+
+/* Only to be asked while somebody runs. */
+const struct one *runner_of(const struct look *l)
+{
+    return &l->one[l->running];
+}
+
+const struct one *find_one(const struct look *l, unsigned name)
+{
+    for (unsigned i = 0; i < l->count; i++)
+        if (l->one[i].name == name)
+            return &l->one[i];
+    return NULL;
+}
+
+/* Some name that nobody has, or 0. */
+unsigned absent_name(const struct look *l)
+{
+    unsigned name = from_to(1, HIGHEST_NAME);
+
+    for (unsigned i = 0; i < HIGHEST_NAME; i++, name = name % HIGHEST_NAME + 1)
+        if (find_one(l, name) == NULL)
+            return name;
+    return 0;
+}
+
+unsigned existing_name(const struct look *l)
+{
+    return l->count > 0 ? l->one[below(l->count)].name : 0;
+}
+
+/* Some code of the kind wanted, or 16 if there is none. */
+unsigned pick_code(unsigned wanted_kind, unsigned lowest)
+{
+    unsigned found[CODES], count = 0;
+
+    for (unsigned code = lowest; code < CODES; code++)
+        if (code_kind(world, code) == wanted_kind)
+            found[count++] = code;
+    return count > 0 ? found[below(count)] : CODES;
+}

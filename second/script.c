@@ -1,0 +1,298 @@
+/*
+ * The script program: reads orders, one a line, calls the kernel and prints the answers.
+ * Standard input, or the file named by its one argument.
+ */
+#include <stdbool.h>
+#include <stdio.h>
+#include <stdlib.h>
+#include <string.h>
+
+#include "kernel.h"
+#include "machine.h"
+#include "show.h"
+
+enum { BUFFER = 8200, LONGEST_LINE = 255, LONGEST_LOOK = 32, MOST_NUMBERS = 33 };
+
+static uint8_t memory[BUFFER];
+static uint8_t compared[BUFFER];  /* what the words were at the last `changes` */
+static size_t lent = WORDS;
+
+static void print_answer(const struct answer *answer)
+{
+    switch (answer->kind) {
+    case ANSWER_DONE: puts("done"); break;
+    case ANSWER_WAITS: puts("waits"); break;
+    case ANSWER_HANDED_OUT:
+        printf("handed out %u %u\n", (unsigned)answer->program, (unsigned)answer->arguments);
+        break;
+    case ANSWER_FAULT:
+        printf("fault %u by %u\n", (unsigned)answer->number, (unsigned)answer->name);
+        break;
+    case ANSWER_REFUSED: printf("refused %u\n", (unsigned)answer->number); break;
+    }
+}
+
+static void not_allowed(void)
+{
+    puts("not allowed");
+}
+
+static void do_fresh(const uint32_t *n, unsigned count)
+{
+    struct answer answer = kernel_fresh(memory, lent, n[0], n[1]);
+
+    (void)count;
+    print_answer(&answer);
+}
+
+static void do_step(const uint32_t *n, unsigned count)
+{
+    struct answer answer = kernel_instruction(memory, lent);
+
+    (void)n;
+    (void)count;
+    print_answer(&answer);
+}
+
+static void do_interrupt(const uint32_t *n, unsigned count)
+{
+    struct answer answer = kernel_interrupt(memory, lent, n[0], count == 2 ? n[1] : 0);
+
+    print_answer(&answer);
+}
+
+static void do_registers(const uint32_t *n, unsigned count)
+{
+    struct registers r;
+    struct answer answer = kernel_read_registers(memory, lent, &r);
+
+    (void)n;
+    (void)count;
+    if (answer.kind != ANSWER_DONE) {
+        print_answer(&answer);
+        return;
+    }
+    printf("registers %u %u %u %u %u %u %u\n", (unsigned)r.a, (unsigned)r.s, (unsigned)r.p, (unsigned)r.z,
+           (unsigned)r.ci, (unsigned)r.lr, (unsigned)r.w);
+}
+
+static void do_set(const uint32_t *n, unsigned count)
+{
+    struct registers r = { n[0], n[1], n[2], n[3], n[4], n[5], n[6] };
+    struct answer answer = kernel_set_registers(memory, lent, &r);
+
+    (void)count;
+    print_answer(&answer);
+}
+
+static void do_judge(const uint32_t *n, unsigned count)
+{
+    struct answer answer = kernel_judge(memory, lent);
+
+    (void)n;
+    (void)count;
+    if (answer.kind == ANSWER_DONE)
+        puts("well-formed");
+    else
+        print_answer(&answer);
+}
+
+/* Stores all values or, if one is not allowed, none. */
+static void store_values(const uint32_t *n, unsigned count, bool (*may_store)(uint32_t))
+{
+    for (unsigned i = 1; i < count; i++)
+        if (n[i] > 255 || !may_store(n[0] + i - 1)) {
+            not_allowed();
+            return;
+        }
+    for (unsigned i = 1; i < count; i++)
+        store(memory, n[0] + i - 1, n[i]);
+}
+
+/* "only page 0 and unprotected words" */
+static bool host_may_store(uint32_t address)
+{
+    return address < PAGE_WORDS || (address < WORDS && !is_protected(address));
+}
+
+static bool is_in_buffer(uint32_t address)
+{
+    return address < BUFFER;
+}
+
+static void do_put(const uint32_t *n, unsigned count)
+{
+    store_values(n, count, host_may_store);
+}
+
+static void do_break(const uint32_t *n, unsigned count)
+{
+    store_values(n, count, is_in_buffer);
+}
+
+static void do_length(const uint32_t *n, unsigned count)
+{
+    (void)count;
+    if (n[0] > BUFFER)
+        not_allowed();
+    else
+        lent = n[0];
+}
+
+static void do_words(const uint32_t *n, unsigned count)
+{
+    (void)count;
+    if (n[1] < 1 || n[1] > LONGEST_LOOK || n[0] + n[1] > BUFFER) {
+        not_allowed();
+        return;
+    }
+    for (uint32_t i = 0; i < n[1]; i++)
+        printf("%s%u", i > 0 ? " " : "", (unsigned)memory[n[0] + i]);
+    putchar('\n');
+}
+
+static void do_changes(const uint32_t *n, unsigned count)
+{
+    unsigned changed = 0;
+
+    (void)n;
+    (void)count;
+    for (unsigned i = 0; i < BUFFER; i++) {
+        if (memory[i] == compared[i])
+            continue;
+        printf("%u %u %u\n", i, (unsigned)compared[i], (unsigned)memory[i]);
+        changed++;
+    }
+    printf("changed %u\n", changed);
+    memcpy(compared, memory, BUFFER);
+}
+
+static void do_show(const uint32_t *n, unsigned count)
+{
+    (void)n;
+    (void)count;
+    show_state(memory, lent);
+}
+
+static const struct {
+    const char *name;
+    unsigned fewest, most;  /* numbers after the name */
+    void (*carry_out)(const uint32_t *numbers, unsigned count);
+} orders[] = {
+    { "fresh", 2, 2, do_fresh },         { "step", 0, 0, do_step },
+    { "interrupt", 1, 2, do_interrupt }, { "registers", 0, 0, do_registers },
+    { "set", 7, 7, do_set },             { "judge", 0, 0, do_judge },
+    { "put", 2, 33, do_put },            { "break", 2, 33, do_break },
+    { "length", 1, 1, do_length },       { "words", 2, 2, do_words },
+    { "changes", 0, 0, do_changes },     { "show", 0, 0, do_show },
+};
+
+struct word {
+    const char *start;
+    size_t length;
+};
+
+/* The next word of the text, parted by spaces only; a tab is a letter like any other. */
+static struct word next_word(const char **text, const char *end)
+{
+    struct word word;
+
+    while (*text < end && **text == ' ')
+        (*text)++;
+    word.start = *text;
+    while (*text < end && **text != ' ')
+        (*text)++;
+    word.length = (size_t)(*text - word.start);
+    return word;
+}
+
+/* "numbers are digits only, 0 to 65535"; leading zeros do no harm. */
+static bool read_number(struct word word, uint32_t *number)
+{
+    *number = 0;
+    for (size_t i = 0; i < word.length; i++) {
+        char c = word.start[i];
+
+        if (c < '0' || c > '9')
+            return false;
+        *number = *number * 10 + (uint32_t)(c - '0');
+        if (*number > 65535)
+            return false;
+    }
+    return true;
+}
+
+/* False if there are more numbers than any order has, or one is no number. */
+static bool read_numbers(const char *text, const char *end, uint32_t *numbers, unsigned *count)
+{
+    *count = 0;
+    for (;;) {
+        struct word word = next_word(&text, end);
+
+        if (word.length == 0)
+            return true;
+        if (*count == MOST_NUMBERS || !read_number(word, &numbers[*count]))
+            return false;
+        (*count)++;
+    }
+}
+
+/* Carries out one line; false if it is not understood. */
+static bool understand(const char *text, size_t length)
+{
+    const char *comment = memchr(text, '#', length);
+    const char *end = comment != NULL ? comment : text + length;
+    struct word name = next_word(&text, end);
+    uint32_t numbers[MOST_NUMBERS];
+    unsigned count;
+
+    if (name.length == 0)
+        return true;
+    if (!read_numbers(text, end, numbers, &count))
+        return false;
+    for (size_t i = 0; i < sizeof orders / sizeof orders[0]; i++) {
+        if (strlen(orders[i].name) != name.length || memcmp(orders[i].name, name.start, name.length) != 0)
+            continue;
+        if (count < orders[i].fewest || count > orders[i].most)
+            return false;
+        orders[i].carry_out(numbers, count);
+        return true;
+    }
+    return false;
+}
+
+/* Reads a line without its line feed; only the first 256 characters are kept. */
+static bool read_line(FILE *in, char *line, size_t *length)
+{
+    int c = getc(in);
+
+    *length = 0;
+    if (c == EOF)
+        return false;
+    while (c != EOF && c != '\n') {
+        if (*length <= LONGEST_LINE)
+            line[(*length)++] = (char)c;
+        c = getc(in);
+    }
+    return true;
+}
+
+int main(int argc, char **argv)
+{
+    FILE *in = stdin;
+    char line[LONGEST_LINE + 1];
+    size_t length;
+
+    if (argc > 2) {
+        fprintf(stderr, "usage: %s [script]\n", argv[0]);
+        return 2;
+    }
+    if (argc == 2 && (in = fopen(argv[1], "rb")) == NULL) {
+        perror(argv[1]);
+        return 1;
+    }
+    for (unsigned long number = 1; read_line(in, line, &length); number++)
+        if (length > LONGEST_LINE || !understand(line, length))
+            printf("line %lu: not understood\n", number);
+    return fflush(stdout) == 0 && !ferror(stdout) && !ferror(in) ? 0 : 1;
+}

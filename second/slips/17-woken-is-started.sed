@@ -1,0 +1,3 @@
+# file: wait.c
+# says: waking starts a stopped one
+s/& ~(unsigned)WAITING/\& ~(unsigned)(WAITING | STOPPED)/
