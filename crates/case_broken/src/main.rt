@@ -1,4 +1,4 @@
-// The script of this crate, run.
+// Memories that break each rule of "Well-formed".
 fn main() {
     console::start();
 }

@@ -1,4 +1,4 @@
-// The script of this crate, run.
+// Interrupts with and without waiters, and the clock.
 fn main() {
     console::start();
 }

@@ -1,4 +1,4 @@
-// The script of this crate, run.
+// Memories of a wrong length.
 fn main() {
     console::start();
 }

@@ -1,4 +1,4 @@
-// The script of this crate, run.
+// Lines of every kind, understood and not.
 fn main() {
     console::start();
 }

@@ -1,4 +1,4 @@
-// The script of this crate, run.
+// The state shown whole.
 fn main() {
     console::start();
 }

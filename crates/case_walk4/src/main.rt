@@ -1,4 +1,4 @@
-// The script of this crate, run.
+// A walk of 400 orders, with what a second kernel printed.
 fn main() {
     console::start();
 }
