@@ -52,19 +52,19 @@ module _ {m : List ℕ} {ps : List ℕ} {L : Lists} {W : View} {hs : List ℕ} {
   pg : Page q
   pg = hand-page b q (in-hand b)
 
-  abbrev z : List ℕ
+  abbrev pub z : List ℕ
   z = zeroed 32 m (q * 32 + 0)
 
-  abbrev z11 : List ℕ
+  abbrev pub z11 : List ℕ
   z11 = set (set (set (set (set z (q * 32 + 7) (r * 16 + n)) (q * 32 + 8) 0) (q * 32 + 9) 0) (q * 32 + 10) (0 + a / 256 % 32)) (q * 32 + 11) (a % 256)
 
-  abbrev z12 : List ℕ
+  abbrev pub z12 : List ℕ
   z12 = set z11 (q * 32 + 12) (getD z11 (q * 32 + 12) 0 / 16 * 16 + w % 16)
 
-  abbrev made : List ℕ
+  abbrev pub made : List ℕ
   made = set z12 (q * 32 + 12) (128 + getD z12 (q * 32 + 12) 0 % 128)
 
-  headed-is : headed z q n r w a ≡ made
+  pub headed-is : headed z q n r w a ≡ made
   unfolding Operate.headed Processor.handBack Processor.setRegistersOf Processor.setFlagsLr
   headed-is = refl
 
@@ -75,7 +75,7 @@ module _ {m : List ℕ} {ps : List ℕ} {L : Lists} {W : View} {hs : List ℕ} {
   nought j l = zeroed-in 32 m (q * 32 + 0) (q * 32 + j) (omega (arith, pg)) (omega arith) (omega arith) (omega (arith, pg, b .mem .size))
 
   -- a word that is not written then
-  below : (j : ℕ) → j < 7 → getD made (q * 32 + j) 0 ≡ 0
+  pub below : (j : ℕ) → j < 7 → getD made (q * 32 + j) 0 ≡ 0
   below j l =
       other z12 (q * 32 + 12) (128 + getD z12 (q * 32 + 12) 0 % 128) (q * 32 + j) (omega arith)
       ∙ other z11 (q * 32 + 12) (getD z11 (q * 32 + 12) 0 / 16 * 16 + w % 16) (q * 32 + j) (omega arith) ∙ eleven j (omega arith) (omega arith)
@@ -122,7 +122,7 @@ module _ {m : List ℕ} {ps : List ℕ} {L : Lists} {W : View} {hs : List ℕ} {
       getD-set-same z11 (q * 32 + 12) (getD z11 (q * 32 + 12) 0 / 16 * 16 + w % 16) 0 (omega (arith, pg, size11)) in
       getD-set-same z12 (q * 32 + 12) (128 + getD z12 (q * 32 + 12) 0 % 128) 0 (omega (arith, pg, size12)) ∙ omega (arith, s12, twelve)
 
-  only : Only q m made
+  pub only : Only q m made
   only =
       only-set (q * 32 + 12) (128 + getD z12 (q * 32 + 12) 0 % 128) (omega arith) (omega arith)
       (only-set (q * 32 + 12) (getD z11 (q * 32 + 12) 0 / 16 * 16 + w % 16) (omega arith) (omega arith)

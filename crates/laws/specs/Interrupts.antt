@@ -34,11 +34,11 @@ use Rattle.laws.specs.Ends.{Fine, done-fine, waits-fine, advance-base}
 use Rattle.laws.specs.Simple.{fails}
 
 -- ---- a link along a chain
-abbrev head : List ℕ → ℕ
+abbrev pub head : List ℕ → ℕ
 head [] = 0
 head (x ∷ xs) = x
 
-chain-head : (m : List ℕ) (a : ℕ) (xs : List ℕ) → Chain m 0 a xs → getD m a 0 ≡ head xs
+pub chain-head : (m : List ℕ) (a : ℕ) (xs : List ℕ) → Chain m 0 a xs → getD m a 0 ≡ head xs
 chain-head m a [] c = c
 chain-head m a (x ∷ xs) c = c .0
 
@@ -114,10 +114,10 @@ gave-on : {m : List ℕ} {ps : List ℕ} {hs : List ℕ} {g : ℕ} {W X : View} 
 gave-on e r = record { lists = r .lists; view = r .view; base = r .base; low = r .low ∙ e }
 
 -- after the waiter p between xs and ys
-record Struck (m : List ℕ) (ps : List ℕ) (a : ℕ) (ys : List ℕ) (hs : List ℕ) (g : ℕ) (W : View) : Type 0 where
-  gave : Gave m ps hs g W
-  before : List ℕ
-  now : gave .lists (a + 1) ≡ before ++ ys
+pub record Struck (m : List ℕ) (ps : List ℕ) (a : ℕ) (ys : List ℕ) (hs : List ℕ) (g : ℕ) (W : View) : Type 0 where
+  pub gave : Gave m ps hs g W
+  pub before : List ℕ
+  pub now : gave .lists (a + 1) ≡ before ++ ys
 
 module _ (k c : ℕ) (k1 : 1 ≤ k) (k2 : k ≤ 54) where
   abbrev a : ℕ
@@ -126,10 +126,10 @@ module _ (k c : ℕ) (k1 : 1 ≤ k) (k2 : k ≤ 54) where
   at-head : 132 + 2 * (k - 1) ≡ a + 1
   at-head = omega arith
 
-  seat : (ps : List ℕ) → 1 ≤ count (a + 1) (queues ps)
+  pub seat : (ps : List ℕ) → 1 ≤ count (a + 1) (queues ps)
   seat ps = rw (← at-head) (int-queue ps (k - 1) (omega arith))
 
-  struck-base : {m : List ℕ} {ps : List ℕ} {L : Lists} {W : View} {hs : List ℕ} {g : ℕ} (p : ℕ) (xs ys : List ℕ) → Base m ps L W hs g → L (a + 1) ≡ xs ++ p ∷ ys
+  pub struck-base : {m : List ℕ} {ps : List ℕ} {L : Lists} {W : View} {hs : List ℕ} {g : ℕ} (p : ℕ) (xs ys : List ℕ) → Base m ps L W hs g → L (a + 1) ≡ xs ++ p ∷ ys
       → Struck (struck m k c p) ps a ys hs g W
   unfolding Interrupt.struck
   struck-base {m} {ps} {L} {W} {hs} {g} p xs ys b e = go (eqb (W .reason p) 1) refl
@@ -179,7 +179,7 @@ module _ (k c : ℕ) (k1 : 1 ≤ k) (k2 : k ≤ 54) where
           })
 
   -- ---- all of them, front to back
-  from-end : (n : ℕ) (m : List ℕ) → servedFrom n m k c 0 ≡ m
+  pub from-end : (n : ℕ) (m : List ℕ) → servedFrom n m k c 0 ≡ m
   unfolding Interrupt.servedFrom
   from-end zero m = refl
   from-end (suc n) m = refl
@@ -188,7 +188,7 @@ module _ (k c : ℕ) (k1 : 1 ≤ k) (k2 : k ≤ 54) where
   unfolding Interrupt.servedFrom
   from-next n m p h = rw (ne-eqb p 0 h, Interrupt.servedFrom)
 
-  next : {ps : List ℕ} {hs : List ℕ} {g : ℕ} (n : ℕ) (L : Lists) (W : View) (m : List ℕ) (xs : List ℕ) (p : ℕ) (ys : List ℕ) → Base m ps L W hs g
+  pub next : {ps : List ℕ} {hs : List ℕ} {g : ℕ} (n : ℕ) (L : Lists) (W : View) (m : List ℕ) (xs : List ℕ) (p : ℕ) (ys : List ℕ) → Base m ps L W hs g
       → L (a + 1) ≡ xs ++ p ∷ ys → servedFrom (suc n) m k c p ≡ servedFrom n (struck m k c p) k c (head ys)
   next {ps} n L W m xs p ys b e =
       let s = b .facts .sep in
@@ -230,19 +230,19 @@ module _ (k c : ℕ) (k1 : 1 ≤ k) (k2 : k ≤ 54) where
       rw (← at1, chain-head m (a + 1) (L (a + 1)) ch) (from-base (L (a + 1)) 20 ps hs g (list-short s (a + 1) (in-queues ps (a + 1) (seat ps))) L W m [] b refl)
 
 -- ---- the clock
-clock0 : (l : ℕ → ℕ) (v : ℕ) → suc v ≤ l 251 → Clock l → Clock (put1 l 240 v)
+pub clock0 : (l : ℕ → ℕ) (v : ℕ) → suc v ≤ l 251 → Clock l → Clock (put1 l 240 v)
 unfolding put1
 clock0 l v h c = record { c0 = h; c1 = c .c1; c2 = c .c2; c3 = c .c3; divider = c .divider; line = c .line; nought = c .nought }
 
-clock1 : (l : ℕ → ℕ) (v : ℕ) → suc v ≤ 10 → Clock l → Clock (put1 l 241 v)
+pub clock1 : (l : ℕ → ℕ) (v : ℕ) → suc v ≤ 10 → Clock l → Clock (put1 l 241 v)
 unfolding put1
 clock1 l v h c = record { c0 = c .c0; c1 = h; c2 = c .c2; c3 = c .c3; divider = c .divider; line = c .line; nought = c .nought }
 
-clock2 : (l : ℕ → ℕ) (v : ℕ) → suc v ≤ 60 → Clock l → Clock (put1 l 242 v)
+pub clock2 : (l : ℕ → ℕ) (v : ℕ) → suc v ≤ 60 → Clock l → Clock (put1 l 242 v)
 unfolding put1
 clock2 l v h c = record { c0 = c .c0; c1 = c .c1; c2 = h; c3 = c .c3; divider = c .divider; line = c .line; nought = c .nought }
 
-clock3 : (l : ℕ → ℕ) (v : ℕ) → suc v ≤ 60 → Clock l → Clock (put1 l 243 v)
+pub clock3 : (l : ℕ → ℕ) (v : ℕ) → suc v ≤ 60 → Clock l → Clock (put1 l 243 v)
 unfolding put1
 clock3 l v h c = record { c0 = c .c0; c1 = c .c1; c2 = c .c2; c3 = h; divider = c .divider; line = c .line; nought = c .nought }
 
@@ -259,7 +259,7 @@ module _ {m : List ℕ} {ps : List ℕ} {L : Lists} {W : View} {hs : List ℕ} {
   pub counter-at : (c : ℕ) → 239 ≤ c → c ≤ 243 → getD m c 0 ≡ W .low c
   counter-at c l u = b .mem .reads .fixed .clock c l u
 
-  counter-base : (c v : ℕ) → 240 ≤ c → c ≤ 243 → Clock (put1 (W .low) c v) → Base (set m c v) ps L (withLow W (put1 (W .low) c v)) hs g
+  pub counter-base : (c v : ℕ) → 240 ≤ c → c ≤ 243 → Clock (put1 (W .low) c v) → Base (set m c v) ps L (withLow W (put1 (W .low) c v)) hs g
   counter-base c v l u k =
       let e8 = put1-other (W .low) c v 248 (omega arith) in
       let e9 = put1-other (W .low) c v 249 (omega arith) in

@@ -83,21 +83,21 @@ pub record Proved (t : Tested (List ℕ)) (ps : List ℕ) (W : View) (hs : List 
   pub lists : Lists
   pub base : Base memory ps lists W hs g
 
-test-end : (k : ℕ) (m : List ℕ) (p n f : ℕ) → getD m (p * 32 + 5) 0 ≡ 0 → testQ1 (suc k) m p n f ≡ tested false m
+pub test-end : (k : ℕ) (m : List ℕ) (p n f : ℕ) → getD m (p * 32 + 5) 0 ≡ 0 → testQ1 (suc k) m p n f ≡ tested false m
 unfolding Mail.testQ1
 test-end k m p n f e = rw (eq-eqb (getD m (p * 32 + 5) 0) 0 e, Mail.testQ1)
 
-test-hit : (k : ℕ) (m : List ℕ) (p n f : ℕ) → getD m (p * 32 + 5) 0 ≢ 0 → matches m n f (getD m (p * 32 + 5) 0) ≡ true
+pub test-hit : (k : ℕ) (m : List ℕ) (p n f : ℕ) → getD m (p * 32 + 5) 0 ≢ 0 → matches m n f (getD m (p * 32 + 5) 0) ≡ true
     → testQ1 (suc k) m p n f ≡ tested true (move m p (getD m (p * 32 + 5) 0))
 unfolding Mail.testQ1
 test-hit k m p n f d e = rw (ne-eqb (getD m (p * 32 + 5) 0) 0 d, e, Mail.testQ1)
 
-test-miss : (k : ℕ) (m : List ℕ) (p n f : ℕ) → getD m (p * 32 + 5) 0 ≢ 0 → matches m n f (getD m (p * 32 + 5) 0) ≡ false
+pub test-miss : (k : ℕ) (m : List ℕ) (p n f : ℕ) → getD m (p * 32 + 5) 0 ≢ 0 → matches m n f (getD m (p * 32 + 5) 0) ≡ false
     → testQ1 (suc k) m p n f ≡ testQ1 k (move m p (getD m (p * 32 + 5) 0)) p n f
 unfolding Mail.testQ1
 test-miss k m p n f d e = rw (ne-eqb (getD m (p * 32 + 5) 0) 0 d, e, Mail.testQ1)
 
-test-nought : (m : List ℕ) (p n f : ℕ) → testQ1 0 m p n f ≡ tested false m
+pub test-nought : (m : List ℕ) (p n f : ℕ) → testQ1 0 m p n f ≡ tested false m
 unfolding Mail.testQ1
 test-nought m p n f = refl
 
@@ -126,7 +126,7 @@ test-base {ps} {W} {hs} {g} (suc k) m L p n f h b =
 quiet-high : (a : ℕ) → 8192 ≤ a → Quiet a
 quiet-high a h = record { fixed = λ c i j. omega arith; words = λ p j i k. omega arith; state = λ p i. omega arith }
 
-clear-at : (n a : ℕ) → clear n a ≡ true → (i : ℕ) → i < n → guarded ((a + i) % 8192) ≡ false
+pub clear-at : (n a : ℕ) → clear n a ≡ true → (i : ℕ) → i < n → guarded ((a + i) % 8192) ≡ false
 unfolding Address.clear
 clear-at zero a h i l = absurd (omega arith)
 clear-at (suc n) a h i l = go (guarded ((a + n) % 8192)) refl (hit-or i n) (clear-at n a)

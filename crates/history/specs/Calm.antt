@@ -1,0 +1,272 @@
+-- Which steps leave Q1 and Q2 of every processor alone: stores elsewhere, waking, waiting, taking a page, giving one back, who runs. Assumes nothing.
+use mathlib.Core.Path.{_≡_, refl, sym, ap, _∙_}
+use mathlib.Core.Logic.{_≢_, _⊎_, inl, inr}
+use mathlib.Core.Bool.{Bool, true, false}
+use mathlib.Core.List.{List, [], _∷_, _++_}
+use Prim.Native.Nat.{ℕ, zero, suc, _+_, _-_, _*_, _/_, _%_, _≤_, _<_}
+use native.Mathlib.Omega.{arith}
+use lib.ListN.{length, getD, set}
+use lib.Dec.{eqb, ltb}
+use borrow.Author.Tests.{ne-eqb, ltb-true, ltb-false}
+use Rattle.model.specs.Map.{zeroPlace}
+use Rattle.model.specs.Wait as Wait
+use Rattle.model.specs.Page as Page
+use Rattle.model.specs.Processor as Processor
+use Rattle.model.specs.Bytes.{join, leave, wake, putToWait, takeFree, freePage, grantPage, giveBack, whoRuns, setLr, advance, lr}
+use Rattle.model.specs.Lists.{count, Lists, some, uses, queues}
+use Rattle.laws.specs.Count.{hit-self, hit-other, hit-or, count-ne, count-append}
+use Rattle.laws.specs.Chain.{Page, Chain}
+use Rattle.laws.specs.Queues.{upd, upd-same, upd-other}
+use Rattle.laws.specs.Heads.{Seat, seat-of, sum-two, one-le}
+use Rattle.laws.specs.Heads.Seat.{line, page, own}
+use Rattle.laws.specs.Uses.{Among, Head, Sep, proc-page}
+use Rattle.laws.specs.Places.{in-free, in-asking, in-q, q-free, q-once, free-once, grant-low, wait-page}
+use Rattle.laws.specs.Inv.{View, Mem, Base}
+use Rattle.laws.specs.Frames.{other, Only}
+use Rattle.laws.specs.Frame.{turn-frame}
+use Rattle.laws.specs.Stores.{sem-mem, state-mem, reason-mem}
+use Rattle.laws.specs.Cells.{chain0, join-frame, leave-frame, grant-mem}
+use Rattle.laws.specs.Changes.{hand-page, page-sem}
+use Rattle.laws.specs.Wake.{seat-head, not-procs}
+use Rattle.laws.specs.Waits.{waits-not}
+use Rattle.laws.specs.Hands.{in-hand, hand-new}
+use Rattle.laws.specs.Grants.{waiter-proc, sep-G}
+use Rattle.laws.specs.Still.{Aside, aside-hand}
+use Rattle.laws.specs.Who.{zero-low}
+use Rattle.history.specs.Letter.{Mine, Ours, Same, Agree, same-then, same-on}
+use Rattle.history.specs.Letter.Mine.{head, page}
+use Rattle.history.specs.Letter.Ours.{mail, first, next}
+
+-- ---- where these words do not stand
+module _ {ps : List ℕ} {L : Lists} (s : Sep ps L) {c : ℕ} where
+  pub mine-high : Mine ps L c → (7552 ≤ c) × (c < 8192)
+  mine-high (head p w h u v e) = let g = proc-page s p h in (omega arith, omega arith)
+  mine-high (page p w x j h u v i l e) = let g = q-free s p w x u v h i in (omega arith, omega arith)
+
+  -- a processor's words but 5 and 6
+  pub mine-proc : Mine ps L c → (q j : ℕ) → 1 ≤ count q ps → j < 32 → j ≢ 5 → j ≢ 6 → c ≢ q * 32 + j
+  mine-proc (head p w h u v e) q j i l n5 n6 = omega arith
+  mine-proc (page p w x k h u v i l e) q j iq lj n5 n6 =
+      let g = q-free s p w x u v h i in
+      let d : x ≢ q = λ z. omega (arith, ap (λ (y : ℕ). count y ps) z, g .1) in
+      omega arith
+
+  pub ours-proc : Ours ps L c → (q j : ℕ) → 1 ≤ count q ps → j < 32 → j ≢ 1 → j ≢ 5 → j ≢ 6 → c ≢ q * 32 + j
+  ours-proc (mail h) q j i l n1 n5 n6 = mine-proc h q j i l n5 n6
+  ours-proc (first e) q j i l n1 n5 n6 = let t = proc-page s q i in omega arith
+  ours-proc (next z h e) q j i l n1 n5 n6 = omega arith
+
+  -- what is low, but the header of the processor list
+  pub ours-low : Ours ps L c → (b : ℕ) → b < 7552 → b ≢ 247 → c ≢ b
+  ours-low (mail h) b l n = let t = mine-high h in omega arith
+  ours-low (first e) b l n = omega arith
+  ours-low (next z h e) b l n = let t = proc-page s z h in omega arith
+
+  pub ours-fits : Ours ps L c → c < 8192
+  ours-fits (mail h) = mine-high h .1
+  ours-fits (first e) = omega arith
+  ours-fits (next z h e) = let t = proc-page s z h in omega arith
+
+  -- a page in hand
+  pub mine-hand : Mine ps L c → (q j : ℕ) → Aside ps L q → j < 32 → c ≢ q * 32 + j
+  mine-hand (head p w h u v e) q j o l =
+      let d : p ≢ q = λ z. omega (arith, ap (λ (y : ℕ). count y ps) z, o .out) in
+      omega arith
+  mine-hand (page p w x k h u v i lk e) q j o l =
+      let d : x ≢ q = count-ne x q (L (p * 32 + w)) (o .free (p * 32 + w) (in-q ps p w u v h)) i in
+      omega arith
+
+  pub ours-hand : Ours ps L c → (q j : ℕ) → Aside ps L q → j < 32 → c ≢ q * 32 + j
+  ours-hand (mail h) q j o l = mine-hand h q j o l
+  ours-hand (first e) q j o l = let t = o .page in omega arith
+  ours-hand (next z h e) q j o l =
+      let d : z ≢ q = λ y. omega (arith, ap (λ (x : ℕ). count x ps) y, o .out) in
+      omega arith
+
+  -- the semaphore and the header of a wait queue, and the links of its pages
+  pub ours-seat : Ours ps L c → (a : ℕ) → 1 ≤ count (a + 1) (queues ps) → (c ≢ a) × (c ≢ a + 1)
+  ours-seat m a h = go (seat-of ps a h)
+    where
+      go : Seat ps a → (c ≢ a) × (c ≢ a + 1)
+      go (line k u e) = (ours-low m a (omega arith) (omega arith), ours-low m (a + 1) (omega arith) (omega arith))
+      go (page e) = (ours-low m a (omega arith) (omega arith), ours-low m (a + 1) (omega arith) (omega arith))
+      go (own p u e) =
+          let d3 = ours-proc m p 3 u (omega arith) (omega arith) (omega arith) (omega arith) in
+          let d4 = ours-proc m p 4 u (omega arith) (omega arith) (omega arith) (omega arith) in
+          (omega arith, omega arith)
+
+  pub ours-wait : Ours ps L c → (a z : ℕ) → 1 ≤ count (a + 1) (queues ps) → 1 ≤ count z (L (a + 1)) → c ≢ z * 32 + 0
+  ours-wait m a z h i = ours-proc m z 0 (wait-page s (a + 1) z h i) (omega arith) (omega arith) (omega arith) (omega arith)
+
+  -- the links of the free pages
+  mine-free : Mine ps L c → (z : ℕ) → 1 ≤ count z (L 244) → c ≢ z * 32 + 0
+  mine-free (head p w h u v e) z i = omega arith
+  mine-free (page p w x j h u v ix l e) z i =
+      let pg = proc-page s p h in
+      let d : x ≢ z = λ y. omega (
+        arith,
+        sum-two x L 244 (p * 32 + w) (uses ps) (omega arith) (omega (arith, free-once s .here)) (omega (arith, q-once s p w u v h .here)),
+        s .most x,
+        one-le x,
+        ap (λ (k : ℕ). count k (L 244)) y,
+      ) in
+      omega arith
+
+  pub ours-free : Ours ps L c → (z : ℕ) → 1 ≤ count z (L 244) → c ≢ z * 32 + 0
+  ours-free (mail h) z i = mine-free h z i
+  ours-free (first e) z i = omega arith
+  ours-free (next y h e) z i = omega arith
+
+-- ---- stores
+pub calm-set : {ps : List ℕ} {L : Lists} (m : List ℕ) (b v : ℕ) → ((c : ℕ) → Ours ps L c → c ≢ b) → Same ps L m (set m b v)
+calm-set m b v f = record { at = λ c h. other m b v c (f c h) }
+
+pub calm-refl : {ps : List ℕ} {L : Lists} (m : List ℕ) → Same ps L m m
+calm-refl m = record { at = λ c h. refl }
+
+module _ {ps : List ℕ} {L : Lists} (s : Sep ps L) where
+  pub calm-low : (m : List ℕ) (b v : ℕ) → b < 7552 → b ≢ 247 → Same ps L m (set m b v)
+  calm-low m b v l n = calm-set m b v (λ c h. ours-low s h b l n)
+
+  pub calm-proc : (m : List ℕ) (q j v : ℕ) → 1 ≤ count q ps → j < 32 → j ≢ 1 → j ≢ 5 → j ≢ 6 → Same ps L m (set m (q * 32 + j) v)
+  calm-proc m q j v i l n1 n5 n6 = calm-set m (q * 32 + j) v (λ c h. ours-proc s h q j i l n1 n5 n6)
+
+  pub calm-only : (m m′ : List ℕ) (q : ℕ) → Aside ps L q → Only q m m′ → Same ps L m m′
+  calm-only m m′ q o t = record { at = λ c h. go c h (ltb c (q * 32)) refl (ltb c (q * 32 + 32)) refl }
+    where
+      go : (c : ℕ) → Ours ps L c → (x : Bool) → ltb c (q * 32) ≡ x → (y : Bool) → ltb c (q * 32 + 32) ≡ y → getD m′ c 0 ≡ getD m c 0
+      go c h true e y f = t .below c (ltb-true c (q * 32) e)
+      go c h false e true f =
+          let a = ltb-false c (q * 32) e in
+          let b = ltb-true c (q * 32 + 32) f in
+          absurd (ours-hand s h q (c - q * 32) o (omega arith) (omega arith))
+      go c h false e false f = t .above c (ltb-false c (q * 32 + 32) f)
+
+  -- words of the control page r or of page 0
+  pub calm-run : (m : List ℕ) (r j v : ℕ) → (r ≢ 0 → 1 ≤ count r ps) → 8 ≤ j → j < 32 → Same ps L m (set m (r * 32 + j) v)
+  calm-run m r j v g l u = go (hit-or r 0)
+    where
+      go : (r ≡ 0) ⊎ (r ≢ 0) → Same ps L m (set m (r * 32 + j) v)
+      go (inl e) = calm-low m (r * 32 + j) v (omega arith) (omega arith)
+      go (inr d) = calm-proc m r j v (g d) u (omega arith) (omega arith) (omega arith)
+
+  pub calm-lr : (m : List ℕ) (r a : ℕ) → (r ≢ 0 → 1 ≤ count r ps) → Same ps L m (setLr m r a)
+  unfolding Processor.setLr
+  calm-lr m r a g =
+      let v = getD m (r * 32 + 10) 0 / 32 * 32 + a / 256 % 32 in
+      same-on (calm-run m r 10 v g (omega arith) (omega arith)) (calm-run (set m (r * 32 + 10) v) r 11 (a % 256) g (omega arith) (omega arith))
+
+  -- who runs
+  pub calm-turn : (m : List ℕ) → (getD m 248 0 ≢ 0 → 1 ≤ count (getD m 248 0) ps) → Same ps L m (whoRuns m)
+  calm-turn m g = record {
+    at = λ c h.
+        turn-frame m c (record {
+          page = ours-low s h 248 (omega arith) (omega arith);
+          label = ours-low s h 249 (omega arith) (omega arith);
+          zero = λ i l. (let z = zero-low i l in ours-low s h (zeroPlace i) (omega arith) (omega arith));
+          kept = λ i l. kept c h i l (hit-or (getD m 248 0) 0);
+        });
+  }
+    where
+      kept : (c : ℕ) → Ours ps L c → (i : ℕ) → i < 19 → (getD m 248 0 ≡ 0) ⊎ (getD m 248 0 ≢ 0) → c ≢ getD m 248 0 * 32 + (13 + i)
+      kept c h i l (inl e) = ours-low s h (getD m 248 0 * 32 + (13 + i)) (omega arith) (omega arith)
+      kept c h i l (inr d) = ours-proc s h (getD m 248 0) (13 + i) (g d) (omega arith) (omega arith) (omega arith) (omega arith)
+
+-- ---- wait queues
+module _ {m : List ℕ} {ps : List ℕ} {L : Lists} {W : View} (s : Sep ps L) (x : Mem m ps L W) where
+  pub calm-wake : (a p : ℕ) (xs ys : List ℕ) → 1 ≤ count (a + 1) (queues ps) → 1 ≤ count p ps → L (a + 1) ≡ xs ++ p ∷ ys → Same ps L m (wake m a p)
+  unfolding Wait.wake Wait.unqueue
+  calm-wake a p xs ys h hp e =
+      let v = (getD m a 0 + 1) % 256 in
+      let m1 = set m a v in
+      let x1 = sem-mem s x a v h in
+      let m2 = leave m1 (a + 1) 0 p in
+      let t = getD m2 (p * 32 + 12) 0 / 128 * 128 + getD m2 (p * 32 + 12) 0 % 64 in
+      let m3 = set m2 (p * 32 + 12) t in
+      let c1 : Same ps L m m1 = calm-set m a v (λ c i. ours-seat s i a h .0) in
+      let c2 : Same ps L m1 m2 = record {
+        at = λ c i. leave-frame s x1 (a + 1) (seat-head s a h) (λ d. not-procs s a h (sym d)) p xs ys e c
+            (ours-seat s i a h .1) (λ z j. ours-wait s i a z h j);
+      } in
+      let c3 : Same ps L m2 m3 = calm-proc s m2 p 12 t hp (omega arith) (omega arith) (omega arith) (omega arith) in
+      same-on (same-on (same-on c1 c2) c3) (calm-proc s m3 p 2 0 hp (omega arith) (omega arith) (omega arith) (omega arith))
+
+  pub calm-wait : (a p w : ℕ) → 1 ≤ count (a + 1) (queues ps) → 1 ≤ count p ps → ((c : ℕ) → Head ps c → c ≢ 247 → count p (L c) ≡ 0)
+      → Same ps L m (putToWait m a p w)
+  unfolding Wait.putToWait Wait.enqueue
+  calm-wait a p w h hp new =
+      let pg = proc-page s p hp in
+      let v1 = getD m (p * 32 + 12) 0 / 128 * 128 + 64 + getD m (p * 32 + 12) 0 % 64 in
+      let x1 = state-mem s x p v1 pg in
+      let m1 = set m (p * 32 + 12) v1 in
+      let x2 = reason-mem s x1 p w pg in
+      let m2 = set m1 (p * 32 + 2) w in
+      let v3 = (getD m2 a 0 + 255) % 256 in
+      let x3 = sem-mem s x2 a v3 h in
+      let m3 = set m2 a v3 in
+      let c1 : Same ps L m m1 = calm-proc s m p 12 v1 hp (omega arith) (omega arith) (omega arith) (omega arith) in
+      let c2 : Same ps L m1 m2 = calm-proc s m1 p 2 w hp (omega arith) (omega arith) (omega arith) (omega arith) in
+      let c3 : Same ps L m2 m3 = calm-set m2 a v3 (λ c i. ours-seat s i a h .0) in
+      same-on (same-on (same-on c1 c2) c3) (record {
+        at = λ c i.
+            join-frame s x3 (a + 1) (seat-head s a h) (λ d. not-procs s a h (sym d)) p pg new c (ours-seat s i a h .1) (λ z j. ours-wait s i a z h j)
+            (ours-proc s i p 0 hp (omega arith) (omega arith) (omega arith) (omega arith));
+      })
+
+  -- the first free page
+  pub calm-take : (q : ℕ) (fs : List ℕ) → L 244 ≡ q ∷ fs → Same ps L m (takeFree m q)
+  unfolding Page.takeFree
+  calm-take q fs e =
+      let v = (getD m 245 0 + 255) % 256 in
+      let m1 = set m 245 v in
+      let x1 = sem-mem s x 245 v (page-sem ps) in
+      let c1 : Same ps L m m1 = calm-low s m 245 v (omega arith) (omega arith) in
+      same-on c1 (record {
+        at = λ c i.
+            leave-frame s x1 244 (
+              in-free ps,
+              grant-low 244 (omega arith),
+            ) (omega arith) q [] fs e c (ours-low s i 244 (omega arith) (omega arith)) (λ z j. ours-free s i z j);
+      })
+
+-- ---- a page given back
+module _ {m : List ℕ} {ps : List ℕ} {L : Lists} {W : View} {hs : List ℕ} {g q : ℕ} (b : Base m ps L W (q ∷ hs) g) where
+  sb : Sep ps L
+  sb = b .facts .sep
+
+  o : Aside ps L q
+  o = aside-hand b q (in-hand b)
+
+  calm-free : Same ps L m (freePage m q)
+  unfolding Page.freePage
+  calm-free =
+      let v = (getD m 245 0 + 1) % 256 in
+      let m1 = set m 245 v in
+      let x1 = sem-mem sb (b .mem) 245 v (page-sem ps) in
+      let c1 : Same ps L m m1 = calm-low sb m 245 v (omega arith) (omega arith) in
+      same-on c1 (record {
+        at = λ c i.
+            join-frame sb x1 244 (in-free ps, grant-low 244 (omega arith)) (omega arith) q (hand-page b q (in-hand b)) (hand-new b) c
+            (ours-low sb i 244 (omega arith) (omega arith))
+            (λ z j. ours-free sb i z j) (ours-hand sb i q 0 o (omega arith));
+      })
+
+  calm-grant : (p : ℕ) (ws : List ℕ) → L 246 ≡ p ∷ ws → Same ps L m (grantPage m p q)
+  unfolding Page.grantPage
+  calm-grant p ws e =
+      let n = W .label p % 16 in
+      let hp = waiter-proc b p ws e in
+      let pg = proc-page sb p hp in
+      let x1 = grant-mem n q (omega arith) sb (b .mem) in
+      let e2 = upd-other L (320 + n) 246 (some q) (omega arith) ∙ e in
+      let ag : Agree ps L (upd L (320 + n) (some q)) = λ p2 w h u v. (let t = proc-page sb p2 h in upd-other L (320 + n) (p2 * 32 + w) (some q) (omega arith)) in
+      rw (b .mem .reads .words .label p pg)
+      (same-then ag (calm-low sb m (320 + n) q (omega arith) (omega arith)) (calm-wake (sep-G b p ws e) x1 245 p [] ws (page-sem ps) hp e2))
+
+  pub calm-give : Same ps L m (giveBack m q)
+  unfolding Page.giveBack
+  calm-give = go (L 246) refl (chain0 sb (b .mem) 246 (in-asking ps, grant-low 246 (omega arith)) (omega arith))
+    where
+      go : (xs : List ℕ) → L 246 ≡ xs → Chain m 0 246 (L 246) → Same ps L m (giveBack m q)
+      go [] e c = let z : getD m 246 0 ≡ 0 = rw e at c in rw z calm-free
+      go (p ∷ ws) e c = let t = rw e at c in rw (t .0, ne-eqb p 0 (omega arith)) (calm-grant p ws e)

@@ -1,0 +1,225 @@
+-- A message as a value, read off its page: sender, flag, length and text. It depends on words 1 to 31 of the page alone. What a processor's Q2 and Q1 hold, and
+-- that a step which leaves their headers and pages alone leaves them. Assumes nothing.
+use mathlib.Core.Path.{_≡_, refl, sym, ap, _∙_}
+use mathlib.Core.Logic.{_≢_, _⊎_, inl, inr}
+use mathlib.Core.Bool.{Bool, true, false, _&&_}
+use mathlib.Core.List.{List, [], _∷_, _++_, map}
+use Prim.Native.Nat.{ℕ, zero, suc, _+_, _-_, _*_, _/_, _%_, _≤_, _<_}
+use native.Mathlib.Omega.{arith}
+use lib.ListN.{length, getD, set}
+use lib.Dec.{eqb}
+use borrow.Author.Tests.{eqb-true}
+use Rattle.model.specs.Map.{place, q1, q2, text}
+use Rattle.model.specs.Address.{wrapped}
+use Rattle.model.specs.Mail as Mail
+use Rattle.model.specs.Mail.{asks, fits}
+use Rattle.model.specs.Bytes.{queue, processors, sender, flag, lengthOf}
+use Rattle.model.specs.Lists.{count, Lists}
+use Rattle.laws.specs.Count.{hit-self, hit-or, count-ne}
+use Rattle.laws.specs.Chain.{Page, Chain, chain-move, walk-chain}
+use Rattle.laws.specs.Heads.{sum-two, one-le}
+use Rattle.laws.specs.Queues.{link-procs}
+use Rattle.laws.specs.Uses.{Among, Head, Sep, proc-page, list-short}
+use Rattle.laws.specs.Places.{in-q, in-procs, q-free, q-once, grant-low}
+use Rattle.laws.specs.Inv.{View, Base, Message}
+use Rattle.laws.specs.Mails.{mail-chain, mail-queue}
+use Rattle.history.specs.Order.{only, only-append}
+
+-- ---- a message
+pub record Letter : Type 0 where
+  pub sender : ℕ
+  pub flag : ℕ
+  pub size : ℕ
+  pub text : List ℕ
+
+-- n words from address a on
+unfoldable pub words : List ℕ → ℕ → ℕ → List ℕ
+words m a zero = []
+words m a (suc n) = getD m a 0 ∷ words m (wrapped a 1) n
+
+-- the message of page q; a notice has length 0
+unfoldable pub mailOf : List ℕ → ℕ → Letter
+mailOf m q = record { sender = sender m q; flag = flag m q; size = lengthOf m q; text = words m (place q text) (lengthOf m q) }
+
+-- of sender s with flag f
+unfoldable pub key : ℕ → ℕ → Letter → Bool
+key s f x = eqb s (x .sender) && eqb f (x .flag)
+
+-- what waits for the processor of page p, Q2 then Q1
+unfoldable pub waitingFor : List ℕ → ℕ → List Letter
+waitingFor m p = map (mailOf m) (queue m (place p q2) ++ queue m (place p q1))
+
+-- ---- the test of an instruction does not tell apart what has one key
+and-true : (a b : Bool) → a && b ≡ true → (a ≡ true) × (b ≡ true)
+and-true true b e = (refl, e)
+and-true false b e = (cc, cc)
+
+abbrev pub asked : ℕ → ℕ → Letter → Bool
+asked n f x = fits n f (x .sender * 16 + x .flag)
+
+pub one-key : (n f s g : ℕ) (x y : Letter) → key s g x ≡ true → key s g y ≡ true → asked n f x ≡ asked n f y
+unfolding key
+one-key n f s g x y p q =
+    let a : (eqb s (x .sender) ≡ true) × (eqb g (x .flag) ≡ true) = and-true _ _ p in
+    let b : (eqb s (y .sender) ≡ true) × (eqb g (y .flag) ≡ true) = and-true _ _ q in
+    let u : x .sender ≡ y .sender = cc (eqb-true s (x .sender) (a .0), eqb-true s (y .sender) (b .0)) in
+    let v : x .flag ≡ y .flag = cc (eqb-true g (x .flag) (a .1), eqb-true g (y .flag) (b .1)) in
+    rw (u, v)
+
+pub asked-page : (m : List ℕ) (n f q : ℕ) → asked n f (mailOf m q) ≡ fits n f (getD m (q * 32 + 1) 0)
+unfolding mailOf
+asked-page m n f q = let e : getD m (q * 32 + 1) 0 / 16 * 16 + getD m (q * 32 + 1) 0 % 16 ≡ getD m (q * 32 + 1) 0 = omega arith in rw e
+
+-- ---- words 1 to 31
+pub words-same : (m m′ : List ℕ) (a n : ℕ) → a < 8192 → ((i : ℕ) → i < n → getD m′ ((a + i) % 8192) 0 ≡ getD m ((a + i) % 8192) 0) → words m′ a n ≡ words m a n
+unfolding words
+words-same m m′ a zero l h = refl
+words-same m m′ a (suc n) l h =
+    let e : (a + 0) % 8192 ≡ a = omega arith in
+    let h0 = rw e at (h 0 (omega arith)) in
+    rw (
+      h0,
+      words-same m m′ ((a + 1) % 8192) n (omega arith) (λ i q.
+          let d : ((a + 1) % 8192 + i) % 8192 ≡ (a + suc i) % 8192 = omega arith in rw d (h (suc i) (omega arith))),
+    )
+
+abbrev pub Texts : List ℕ → List ℕ → ℕ → Type 0
+Texts m m′ x = (j : ℕ) → 1 ≤ j → j < 32 → getD m′ (x * 32 + j) 0 ≡ getD m (x * 32 + j) 0
+
+-- "word 2 of a message 0-29 or 128"
+abbrev pub Sized : List ℕ → ℕ → Type 0
+Sized m x = getD m (x * 32 + 2) 0 % 128 ≤ 29
+
+pub mail-same : (m m′ : List ℕ) (x : ℕ) → x < 256 → Sized m x → Texts m m′ x → mailOf m′ x ≡ mailOf m x
+unfolding mailOf
+mail-same m m′ x g l h =
+    let n = getD m (x * 32 + 2) 0 % 128 in
+    let w : words m′ (x * 32 + 3) n ≡ words m (x * 32 + 3) n = words-same m m′ (x * 32 + 3) n (omega arith) (λ i u.
+    let e : (x * 32 + 3 + i) % 8192 ≡ x * 32 + (3 + i) = omega arith in rw e (h (3 + i) (omega arith) (omega arith))) in
+    rw (h 1 (omega arith) (omega arith), h 2 (omega arith) (omega arith), w)
+
+-- a message page whose text stays
+pub record Stays (m m′ : List ℕ) (x : ℕ) : Type 0 where
+  pub page : Page x
+  pub sized : Sized m x
+  pub texts : Texts m m′ x
+
+pub mails-same : (m m′ : List ℕ) (xs : List ℕ) → ((x : ℕ) → 1 ≤ count x xs → Stays m m′ x) → map (mailOf m′) xs ≡ map (mailOf m) xs
+mails-same m m′ [] h = refl
+mails-same m m′ (x ∷ xs) h =
+    let t = h x (omega (arith, hit-self x)) in
+    rw (mail-same m m′ x (t .page .1) (t .sized) (t .texts), mails-same m m′ xs (λ z i. h z (omega arith)))
+
+pub map-append : (g : ℕ → Letter) (xs ys : List ℕ) → map g (xs ++ ys) ≡ map g xs ++ map g ys
+map-append g [] ys = refl
+map-append g (x ∷ xs) ys = rw (map-append g xs ys)
+
+-- ---- the words of Q1 and Q2: their headers, and all words of their pages
+pub data Mine (ps : List ℕ) (L : Lists) (c : ℕ) : Type 0 where
+  head : (p w : ℕ) → 1 ≤ count p ps → 5 ≤ w → w ≤ 6 → c ≡ p * 32 + w → Mine ps L c
+  page : (p w x j : ℕ) → 1 ≤ count p ps → 5 ≤ w → w ≤ 6 → 1 ≤ count x (L (p * 32 + w)) → j < 32 → c ≡ x * 32 + j → Mine ps L c
+
+-- with them the words of the processor list
+pub data Ours (ps : List ℕ) (L : Lists) (c : ℕ) : Type 0 where
+  mail : Mine ps L c → Ours ps L c
+  first : c ≡ 247 → Ours ps L c
+  next : (z : ℕ) → 1 ≤ count z ps → c ≡ z * 32 + 1 → Ours ps L c
+
+-- a step leaves them alone; the words of Q1 and Q2 alone
+pub record Same (ps : List ℕ) (L : Lists) (m m′ : List ℕ) : Type 0 where
+  pub at : (c : ℕ) → Ours ps L c → getD m′ c 0 ≡ getD m c 0
+
+pub record Posts (ps : List ℕ) (L : Lists) (m m′ : List ℕ) : Type 0 where
+  pub at : (c : ℕ) → Mine ps L c → getD m′ c 0 ≡ getD m c 0
+
+pub posts : {ps : List ℕ} {L : Lists} {m m′ : List ℕ} → Same ps L m m′ → Posts ps L m m′
+posts s = record { at = λ c h. s .at c (mail h) }
+
+pub posts-on : {ps : List ℕ} {L : Lists} {m m1 m2 : List ℕ} → Posts ps L m m1 → Posts ps L m1 m2 → Posts ps L m m2
+posts-on f g = record { at = λ c h. g .at c h ∙ f .at c h }
+
+-- two families of lists agree on Q1 and Q2
+abbrev pub Agree : List ℕ → Lists → Lists → Type 0
+Agree ps L K = (p w : ℕ) → 1 ≤ count p ps → 5 ≤ w → w ≤ 6 → K (p * 32 + w) ≡ L (p * 32 + w)
+
+pub mine-agree : {ps : List ℕ} {L K : Lists} {c : ℕ} → Agree ps L K → Mine ps L c → Mine ps K c
+mine-agree a (head p w h u v e) = head p w h u v e
+mine-agree a (page p w x j h u v i l e) = page p w x j h u v (rw (a p w h u v) i) l e
+
+pub posts-then : {ps : List ℕ} {L K : Lists} {m m1 m2 : List ℕ} → Agree ps L K → Posts ps L m m1 → Posts ps K m1 m2 → Posts ps L m m2
+posts-then a f g = record { at = λ c h. g .at c (mine-agree a h) ∙ f .at c h }
+
+ours-agree : {ps : List ℕ} {L K : Lists} {c : ℕ} → Agree ps L K → Ours ps L c → Ours ps K c
+ours-agree a (mail h) = mail (mine-agree a h)
+ours-agree a (first e) = first e
+ours-agree a (next z h e) = next z h e
+
+pub same-then : {ps : List ℕ} {L K : Lists} {m m1 m2 : List ℕ} → Agree ps L K → Same ps L m m1 → Same ps K m1 m2 → Same ps L m m2
+same-then a f g = record { at = λ c h. g .at c (ours-agree a h) ∙ f .at c h }
+
+pub same-on : {ps : List ℕ} {L : Lists} {m m1 m2 : List ℕ} → Same ps L m m1 → Same ps L m1 m2 → Same ps L m m2
+same-on f g = record { at = λ c h. g .at c h ∙ f .at c h }
+
+-- ---- then the lists stay
+module _ {m : List ℕ} {ps : List ℕ} {L : Lists} {W : View} {hs : List ℕ} {g : ℕ} (b : Base m ps L W hs g) where
+  pub letter-sized : (p w x : ℕ) → 1 ≤ count p ps → 5 ≤ w → w ≤ 6 → 1 ≤ count x (L (p * 32 + w)) → Sized m x
+  letter-sized p w x h u v i =
+      let t = b .facts .mail p w h u v x i in
+      let pg = q-free (b .facts .sep) p w x u v h i .0 in
+      let e = b .mem .reads .words .reason x pg in
+      go (hit-or (getD m (x * 32 + 2) 0) 128) t e
+    where
+      go : (getD m (x * 32 + 2) 0 ≡ 128) ⊎ (getD m (x * 32 + 2) 0 ≢ 128) → Message (W .note x) (W .reason x) → getD m (x * 32 + 2) 0 ≡ W .reason x → Sized m x
+      go (inl z) t e = omega arith
+      go (inr z) t e = let y = t .long (λ f. z (e ∙ f)) in omega arith
+
+  module _ {m′ : List ℕ} (s : Posts ps L m m′) where
+    pub chain-same : (p w : ℕ) → 1 ≤ count p ps → 5 ≤ w → w ≤ 6 → Chain m′ 0 (p * 32 + w) (L (p * 32 + w))
+    chain-same p w h u v =
+        chain-move m m′ 0 (p * 32 + w) (p * 32 + w) (L (p * 32 + w)) (s .at (p * 32 + w) (head p w h u v refl))
+        (λ x i. s .at (x * 32 + 0) (page p w x 0 h u v i (omega arith) refl)) (mail-chain b p w h u v)
+
+    pub queue-same : (p w : ℕ) → 1 ≤ count p ps → 5 ≤ w → w ≤ 6 → queue m′ (p * 32 + w) ≡ L (p * 32 + w)
+    queue-same p w h u v = walk-chain 20 m′ 0 (p * 32 + w) (L (p * 32 + w)) (chain-same p w h u v) (list-short (b .facts .sep) (p * 32 + w) (in-q ps p w u v h))
+
+    pub agrees : {K : Lists} {X : View} {hs2 : List ℕ} {g2 : ℕ} → Base m′ ps K X hs2 g2 → Agree ps L K
+    agrees b2 p w h u v = sym (mail-queue b2 p w h u v) ∙ queue-same p w h u v
+
+    pub texts-same : (p w x : ℕ) → 1 ≤ count p ps → 5 ≤ w → w ≤ 6 → 1 ≤ count x (L (p * 32 + w)) → Stays m m′ x
+    texts-same p w x h u v i = record {
+      page = q-free (b .facts .sep) p w x u v h i .0;
+      sized = letter-sized p w x h u v i;
+      texts = λ j k l. s .at (x * 32 + j) (page p w x j h u v i l refl);
+    }
+
+  -- what waits, by the lists
+  pub waits-by : (p : ℕ) → 1 ≤ count p ps → waitingFor m p ≡ map (mailOf m) (L (p * 32 + 6)) ++ map (mailOf m) (L (p * 32 + 5))
+  unfolding waitingFor
+  waits-by p h =
+      rw (
+        mail-queue b p 6 h (omega arith) (omega arith),
+        mail-queue b p 5 h (omega arith) (omega arith),
+      ) (map-append (mailOf m) (L (p * 32 + 6)) (L (p * 32 + 5)))
+
+  pub waits-same : {m′ : List ℕ} → Posts ps L m m′ → (p : ℕ) → 1 ≤ count p ps → waitingFor m′ p ≡ waitingFor m p
+  unfolding waitingFor
+  waits-same {m′} s p h =
+      rw (
+        queue-same s p 6 h (omega arith) (omega arith),
+        queue-same s p 5 h (omega arith) (omega arith),
+        mail-queue b p 6 h (omega arith) (omega arith),
+        mail-queue b p 5 h (omega arith) (omega arith),
+        map-append (mailOf m′) (L (p * 32 + 6)) (L (p * 32 + 5)),
+        map-append (mailOf m) (L (p * 32 + 6)) (L (p * 32 + 5)),
+        mails-same m m′ (L (p * 32 + 6)) (λ x i. texts-same s p 6 x h (omega arith) (omega arith) i),
+        mails-same m m′ (L (p * 32 + 5)) (λ x i. texts-same s p 5 x h (omega arith) (omega arith) i),
+      )
+
+  -- and who lives
+  pub procs-same : {m′ : List ℕ} → Same ps L m m′ → processors m′ ≡ ps
+  procs-same {m′} t =
+      let s = b .facts .sep in
+      let h : Head ps 247 = (in-procs ps, grant-low 247 (omega arith)) in
+      let c = rw (link-procs, s .procs) at (b .mem .holds .rep 247 h) in
+      walk-chain 20 m′ 1 247 ps (chain-move m m′ 1 247 247 ps (t .at 247 (first refl)) (λ x i. t .at (x * 32 + 1) (next x i refl)) c)
+      (rw (s .procs) at (list-short s 247 (in-procs ps)))

@@ -1,0 +1,12 @@
+-- What is put to a processor and what it reads, over any run of calls.
+pub mod Order
+pub mod Letter
+pub mod Put
+pub mod Calm
+pub mod Told
+pub mod Clocks
+pub mod Quiet
+pub mod Making
+pub mod Moving
+pub mod Tests
+pub mod Reading

@@ -1,0 +1,217 @@
+-- A page taken for SME or CRP, and CRP: Q1 and Q2 of every processor stay, and the new one has nothing. Assumes nothing.
+use mathlib.Core.Path.{_≡_, refl, sym, ap, _∙_}
+use mathlib.Core.Logic.{_≢_, _⊎_, inl, inr}
+use mathlib.Core.Bool.{Bool, true, false, cond}
+use mathlib.Core.List.{List, [], _∷_, _++_, append-nil, map}
+use Prim.Native.Nat.{ℕ, zero, suc, _+_, _-_, _*_, _/_, _%_, _≤_, _<_}
+use native.Mathlib.Omega.{arith}
+use lib.ListN.{length, getD, set}
+use lib.Dec.{eqb}
+use borrow.Author.Tests.{eqb-true, eqb-false, ne-eqb, eq-eqb}
+use Rattle.model.specs.Page as Page
+use Rattle.model.specs.Page.{Taken}
+use Rattle.model.specs.Page.Taken.{took}
+use Rattle.model.specs.Operate as Operate
+use Rattle.model.specs.Answer.{memoryOf}
+use Rattle.model.specs.Bytes as Model
+use Rattle.model.specs.Bytes.{lists, join, takePage, takeFree, processors, pageOf, queue, created, waitsForPage}
+use Rattle.model.specs.Lists.{count, Lists, some}
+use Rattle.laws.specs.Count.{hit-self, hit-other, hit-or, count-append}
+use Rattle.laws.specs.Chain.{Page, Chain, last, last-in, join-is, chain-join, walk-chain, off-page}
+use Rattle.laws.specs.Queues.{link-procs}
+use Rattle.laws.specs.Heads.{one-le, short}
+use Rattle.laws.specs.Uses.{Head, Sep, proc-page, list-short, good}
+use Rattle.laws.specs.Places.{in-free, in-procs, grant-low, all-pages}
+use Rattle.laws.specs.Inv.{View, view, Base, Inv, bearers}
+use Rattle.laws.specs.Judged.{WellFormed, invariant, walked}
+use Rattle.laws.specs.Frames.{other}
+use Rattle.laws.specs.Cells.{chain0, leave-frame}
+use Rattle.laws.specs.Changes.{page-sem, hand-page, hand-out}
+use Rattle.laws.specs.Stores.{sem-mem}
+use Rattle.laws.specs.Hands.{in-hand, hand-base}
+use Rattle.laws.specs.Grants.{Gave, Takes, take-page}
+use Rattle.laws.specs.Grants.Takes.{gets, lacks}
+use Rattle.laws.specs.Still.{Aside, aside-hand}
+use Rattle.laws.specs.Who.{running-at, running-in, listed}
+use Rattle.laws.specs.Create.{made, z12, z11, z, headed-is, only, below, created-base, nobody}
+use Rattle.history.specs.Letter.{Mine, Same, Posts, Agree, same-then, same-on, posts, posts-on, posts-then, agrees, waitingFor, waits-same}
+use Rattle.history.specs.Letter.{procs-same}
+use Rattle.history.specs.Letter.Mine.{head, page}
+use Rattle.history.specs.Letter.Ours.{mail, first, next}
+use Rattle.history.specs.Put.{nothing}
+use Rattle.history.specs.Calm.{calm-refl, calm-low, calm-take, calm-only, mine-high, mine-hand, mine-proc}
+use Rattle.history.specs.Told.{Told, of-none, told-same, calm-done, calm-waits, runs-in}
+use Rattle.history.specs.Quiet.{fails}
+
+-- ---- a page taken
+unfoldable pub left : Taken (List ℕ) → List ℕ
+left (took q m) = m
+
+module _ {m : List ℕ} {ps : List ℕ} {L : Lists} {W : View} {hs : List ℕ} {g : ℕ} (b : Base m ps L W hs g) (p : ℕ) (h : 1 ≤ count p ps) where
+  s : Sep ps L
+  s = b .facts .sep
+
+  abbrev n : ℕ
+  n = getD m (p * 32 + 7) 0 % 16
+
+  calm-taken : Same ps L m (left (takePage m p))
+  unfolding Page.takePage Page.firstFree left
+  calm-taken = go (eqb (getD m (320 + n) 0) 0) refl (L 244) refl (chain0 s (b .mem) 244 (in-free ps, grant-low 244 (omega arith)) (omega arith))
+    where
+      go : (c : Bool) → eqb (getD m (320 + n) 0) 0 ≡ c → (xs : List ℕ) → L 244 ≡ xs → Chain m 0 244 (L 244) → Same ps L m (left (takePage m p))
+      go false e xs f c = rw e (calm-low s m (320 + n) 0 (omega arith) (omega arith))
+      go true e [] f c = let z : getD m 244 0 ≡ 0 = rw f at c in rw (e, z) (calm-refl m)
+      go true e (q ∷ fs) f c =
+          let z = rw f at c in
+          rw (e, z .0, ne-eqb q 0 (omega arith)) (calm-take s (b .mem) q fs f)
+
+  -- an unprotected word stays
+  free-word : (q : ℕ) (fs : List ℕ) → L 244 ≡ q ∷ fs → (c : ℕ) → 352 ≤ c → c < 7552 → getD (takeFree m q) c 0 ≡ getD m c 0
+  unfolding Page.takeFree
+  free-word q fs e c l u =
+      let v = (getD m 245 0 + 255) % 256 in
+      leave-frame s (sem-mem s (b .mem) 245 v (page-sem ps)) 244 (in-free ps, grant-low 244 (omega arith)) (omega arith) q [] fs e c (omega arith)
+      (λ y j. let t = good-page y j in omega arith)
+      ∙ other m 245 v c (omega arith)
+    where
+      good-page : (y : ℕ) → 1 ≤ count y (L 244) → Page y
+      good-page y j = all-pages s 244 y (in-free ps) j
+
+  pub calm-takes : (q : ℕ) (m1 : List ℕ) → takePage m p ≡ took q m1 → Same ps L m m1
+  unfolding left
+  calm-takes q m1 e = let k : left (takePage m p) ≡ m1 = rw e in rw k at calm-taken
+
+-- ---- CRP: page q in hand becomes a processor
+module _ {m : List ℕ} {ps : List ℕ} {L : Lists} {W : View} {hs : List ℕ} {g q : ℕ} (b : Base m ps L W (q ∷ hs) g) (n r v a : ℕ) where
+  abbrev x : List ℕ
+  x = made b n r v a
+
+  bx : (X : View) × Base x ps L X (q ∷ hs) g
+  bx = (_, hand-base q (in-hand b) (only b n r v a) b)
+
+  sx : Sep ps L
+  sx = b .facts .sep
+
+  pg : Page q
+  pg = hand-page b q (in-hand b)
+
+  out : count q ps ≡ 0
+  out = hand-out b q (in-hand b)
+
+  chain-x : Chain x 1 247 ps
+  chain-x = rw (link-procs, sx .procs) at (bx .1 .mem .holds .rep 247 (in-procs ps, grant-low 247 (omega arith)))
+
+  short-x : length ps ≤ 20
+  short-x = rw (sx .procs) at (list-short sx 247 (in-procs ps))
+
+  abbrev m2 : List ℕ
+  m2 = created m q n r v a
+
+  created-is : created m q n r v a ≡ set (set x (q * 32 + 1) 0) (last 1 247 ps) q
+  unfolding Operate.created
+  created-is = rw (headed-is b n r v a) (join-is x 1 247 q ps chain-x short-x (omega (arith, pg)) (off-page q 1 1 ps (omega arith) (omega arith) out))
+
+  -- a word that is neither 247, nor word 1 of q or of a processor
+  created-word : (c : ℕ) → c ≢ 247 → c ≢ q * 32 + 1 → ((z : ℕ) → 1 ≤ count z ps → c ≢ z * 32 + 1) → getD m2 c 0 ≡ getD x c 0
+  created-word c n7 n1 nz = rw created-is (other (set x (q * 32 + 1) 0) (last 1 247 ps) q c (go ps (λ z i. nz z i)) ∙ other x (q * 32 + 1) 0 c n1)
+    where
+      go : (xs : List ℕ) → ((z : ℕ) → 1 ≤ count z xs → c ≢ z * 32 + 1) → c ≢ last 1 247 xs
+      go [] f = n7
+      go (y ∷ ys) f = let t = last-in 1 247 y ys in rw (t .2) (f (t .0) (t .1))
+
+  created-posts : Posts ps L m m2
+  created-posts =
+      posts-on (posts (calm-only sx m x q (aside-hand b q (in-hand b)) (only b n r v a))) (record {
+        at = λ c h.
+            let t = mine-high sx h in
+            created-word c (omega arith) (mine-hand sx h q 1 (aside-hand b q (in-hand b)) (omega arith))
+            (λ z i. mine-proc sx h z 1 i (omega arith) (omega arith) (omega arith));
+      })
+
+  created-run : getD m2 248 0 ≡ getD m 248 0
+  created-run =
+      created-word 248 (omega arith) (omega (arith, pg)) (λ z i. let t = proc-page sx z i in omega arith) ∙ only b n r v a .below 248 (omega (arith, pg))
+
+  created-procs : processors m2 ≡ ps ++ q ∷ []
+  created-procs =
+      rw created-is (walk-chain 20 (set (set x (q * 32 + 1) 0) (last 1 247 ps) q) 1 247 (ps ++ q ∷ [])
+      (chain-join x 1 247 q ps (bx .1 .mem .size) (omega arith) (omega arith) pg (omega (arith, pg)) (λ z i. let t = proc-page sx z i in omega arith)
+      (λ z. omega (arith, b .all z, one-le z, ap (count z) (sx .procs))) chain-x)
+      (short (ps ++ q ∷ []) (λ z. omega (arith, b .all z, count-append z ps (q ∷ []), ap (count z) (sx .procs)))))
+
+  empty-queue : (k : ℕ) → 5 ≤ k → k ≤ 6 → queue m2 (q * 32 + k) ≡ []
+  empty-queue k l u =
+      walk-chain 20 m2 0 (q * 32 + k) [] (created-word (q * 32 + k) (omega (arith, pg)) (omega arith) (λ z i. omega arith) ∙ below b n r v a k (omega arith))
+      (omega arith)
+
+  created-empty : waitingFor m2 q ≡ []
+  unfolding waitingFor
+  created-empty = rw (empty-queue 5 (omega arith) (omega arith), empty-queue 6 (omega arith) (omega arith))
+
+module _ {m : List ℕ} (w : WellFormed m) (d : getD m 248 0 ≢ 0) where
+  iv : Inv m (lists m 247) (lists m) (view m)
+  iv = invariant w
+
+  b : Base m (lists m 247) (lists m) (view m) [] 32
+  b = iv .base
+
+  -- "with none, they wait in the page queue, LR staying"
+  pub page-waits : lists m 244 ≡ [] → length (lists m (320 + getD m (getD m 248 0 * 32 + 7) 0 % 16)) ≡ 0
+      → Same (lists m 247) (lists m) m (memoryOf (waitsForPage m))
+  unfolding Operate.waitsForPage
+  page-waits f g = calm-waits b 245 0 d (page-sem (lists m 247)) (omega (arith, iv .best .ready d)) (record {
+    line = λ k h e. absurd (omega arith);
+    page = λ e. (refl, ap length f, g);
+    own = λ y h e. let t = proc-page (b .facts .sep) y h in absurd (omega arith);
+  })
+
+  fault-told : (f : ℕ) → Told m (memoryOf (Model.fault m f)) nothing
+  fault-told f = told-same b (memoryOf (Model.fault m f)) (fails w d f)
+
+  crp-page : (n r v a len : ℕ) → 1 ≤ n → n ≤ 15 → 1 ≤ r → r ≤ 15 → pageOf m n ≡ 0 → Told m (memoryOf (Model.crpPage m n r v a len)) nothing
+  unfolding Operate.crpPage
+  crp-page n r v a len n1 n2 r1 r2 free = go (take-page (getD m 248 0) (running-in b d) b)
+    where
+      go : Takes m (getD m 248 0) (lists m 247) (lists m) (view m) [] 32 → Told m (memoryOf (Model.crpPage m n r v a len)) nothing
+      go (lacks e f2 g2) = rw e (told-same b (memoryOf (waitsForPage m)) (page-waits f2 g2))
+      go (gets q m1 e z t k) =
+          let c = created-base (t .base) n r v a n1 n2 r1 r2 (rw k (nobody b n free)) in
+          let s1 = calm-takes b (getD m 248 0) (running-in b d) q m1 e in
+          let ag = agrees b (posts s1) (t .base) in
+          let m2 = created m1 q n r v a in
+          let m3 = memoryOf (Model.done m2 len) in
+          let d2 : Same (c .procs) (c .lists) m2 (memoryOf (Model.done m2 len)) = calm-done (c .base .facts .sep) m2 (runs-in (c .base)) len in
+          let pr : processors (memoryOf (Model.done m2 len)) ≡ lists m 247 ++ q ∷ [] =
+          procs-same (c .base) d2 ∙ sym (listed (c .base)) ∙ created-procs (t .base) n r v a in
+          let pc : c .procs ≡ lists m 247 ++ q ∷ [] = sym (listed (c .base)) ∙ created-procs (t .base) n r v a in
+          let lm : processors m ≡ lists m 247 = listed b in
+          let ps1 : Posts (lists m 247) (lists m) m m2 = posts-then ag (posts s1) (created-posts (t .base) n r v a) in
+          let keep : (p : ℕ) → 1 ≤ count p (lists m 247) → waitingFor (memoryOf (Model.done m2 len)) p ≡ waitingFor m p = λ p h.
+          waits-same (c .base) (posts d2) p (rw pc (omega (arith, count-append p (lists m 247) (q ∷ [])))) ∙ waits-same b ps1 p h in
+          let qc : 1 ≤ count q (c .procs) = rw pc (omega (arith, count-append q (lists m 247) (q ∷ []), hit-self q)) in
+          rw (e, ne-eqb q 0 z) (record {
+            at = λ p h i y f. rw (of-none p, keep p (rw lm at h), append-nil (waitingFor m p));
+            born = λ p h i.
+                let pq : p ≡ q = new p q (omega (arith, ap (count p) pr, count-append p (lists m 247) (q ∷ []), ap (count p) lm)) in
+                rw pq (waits-same (c .base) (posts d2) q qc ∙ created-empty (t .base) n r v a);
+          })
+        where
+          new : (p q : ℕ) → 1 ≤ count p (q ∷ []) → p ≡ q
+          new p q h = cases (hit-or p q)
+            where
+              cases : (p ≡ q) ⊎ (p ≢ q) → p ≡ q
+              cases (inl y) = y
+              cases (inr y) = absurd (omega (arith, hit-other p q y))
+
+  pub crp-told : (n r v a len : ℕ) → n < 16 → r < 16 → Told m (memoryOf (Model.crp m n r v a len)) nothing
+  unfolding Operate.crp
+  crp-told n r v a len hn hr = go (eqb n 0) (eqb r 0) (eqb (pageOf m n) 0) refl refl refl
+    where
+      go : (x1 x2 x3 : Bool) → eqb n 0 ≡ x1 → eqb r 0 ≡ x2 → eqb (pageOf m n) 0 ≡ x3 → Told m (memoryOf (Model.crp m n r v a len)) nothing
+      go true x2 x3 e1 e2 e3 = rw e1 (fault-told 12)
+      go false true x3 e1 e2 e3 = rw (e1, e2) (fault-told 12)
+      go false false false e1 e2 e3 = rw (e1, e2, e3) (fault-told 9)
+      go false false true e1 e2 e3 =
+          let n1 = eqb-false n 0 e1 in
+          let r1 = eqb-false r 0 e2 in
+          rw (e1, e2, e3) (crp-page n r v a len (omega arith) (omega arith) (omega arith) (omega arith) (eqb-true (pageOf m n) 0 e3))

@@ -1,0 +1,139 @@
+-- Instructions: WNM and TME move messages from Q1 to Q2 of the one that runs. They put and read nothing, and of any sender and flag what waits stays in its
+-- order. Assumes nothing.
+use mathlib.Core.Path.{_≡_, refl, sym, ap, _∙_}
+use mathlib.Core.Logic.{_≢_, _⊎_, inl, inr}
+use mathlib.Core.Bool.{Bool, true, false, cond}
+use mathlib.Core.List.{List, [], _∷_, _++_, append-assoc}
+use mathlib.Core.List.{map}
+use Prim.Native.Nat.{ℕ, zero, suc, _+_, _-_, _*_, _/_, _%_, _≤_, _<_}
+use native.Mathlib.Omega.{arith}
+use lib.ListN.{length, getD, set}
+use Rattle.model.specs.Mail as Mail
+use Rattle.model.specs.Bytes.{leave, join, move, matches}
+use Rattle.model.specs.Lists.{count, Lists}
+use Rattle.laws.specs.Count.{hit-self, hit-or, count-append}
+use Rattle.laws.specs.Chain.{Page}
+use Rattle.laws.specs.Queues.{upd, upd-same, upd-other}
+use Rattle.laws.specs.Uses.{Head, Sep, proc-page}
+use Rattle.laws.specs.Places.{in-q, q-free, grant-high}
+use Rattle.laws.specs.Members.{head-off}
+use Rattle.laws.specs.Inv.{View, Base}
+use Rattle.laws.specs.Cells.{join-frame, leave-frame}
+use Rattle.laws.specs.Changes.{hand-page}
+use Rattle.laws.specs.Hands.{in-hand, hand-new, take-mail, give-mail}
+use Rattle.history.specs.Order.{only, only-append, Fails, overtakes-none}
+use Rattle.history.specs.Letter.{Letter, mailOf, key, asked, one-key, Texts, Stays, letter-sized, mails-same, map-append, waitingFor, waits-by}
+
+-- words 1 to 31 of every page that is no processor's stay
+pub record Texted (ps : List ℕ) (m m′ : List ℕ) : Type 0 where
+  pub at : (x : ℕ) → Page x → count x ps ≡ 0 → Texts m m′ x
+
+pub texted-on : {ps : List ℕ} {m m1 m2 : List ℕ} → Texted ps m m1 → Texted ps m1 m2 → Texted ps m m2
+texted-on f g = record { at = λ x p o j k l. g .at x p o j k l ∙ f .at x p o j k l }
+
+-- then what waits is what the lists say, with the messages of before
+pub waits-through : {m m2 : List ℕ} {ps : List ℕ} {K : Lists} {X : View} {hs : List ℕ} {g : ℕ} (b2 : Base m2 ps K X hs g) → Texted ps m m2 → (p : ℕ)
+    → 1 ≤ count p ps → waitingFor m2 p ≡ map (mailOf m) (K (p * 32 + 6)) ++ map (mailOf m) (K (p * 32 + 5))
+waits-through {m} {m2} {ps} {K} b2 t p h = rw (waits-by b2 p h, part 6 (omega arith) (omega arith), part 5 (omega arith) (omega arith))
+  where
+    part : (w : ℕ) → 5 ≤ w → w ≤ 6 → map (mailOf m2) (K (p * 32 + w)) ≡ map (mailOf m) (K (p * 32 + w))
+    part w u v = sym (mails-same m2 m (K (p * 32 + w)) (λ x i.
+        let f = q-free (b2 .facts .sep) p w x u v h i in
+        record { page = f .0; sized = letter-sized b2 p w x h u v i; texts = λ j k l. sym (t .at x (f .0) (f .1) j k l) }))
+
+module _ {m : List ℕ} {ps : List ℕ} {L : Lists} {W : View} {hs : List ℕ} {g : ℕ} (b : Base m ps L W hs g) (p q : ℕ) (xs ys : List ℕ) (h : 1 ≤ count p ps)
+    (e : L (p * 32 + 5) ≡ xs ++ q ∷ ys) where
+  s : Sep ps L
+  s = b .facts .sep
+
+  pg : Page p
+  pg = proc-page s p h
+
+  abbrev J : Lists
+  J = upd L (p * 32 + 5) (xs ++ ys)
+
+  abbrev m1 : List ℕ
+  m1 = leave m (p * 32 + 5) 0 q
+
+  b1 : Base m1 ps J W (q ∷ hs) g
+  b1 = take-mail b p 5 q xs ys h (omega arith) (omega arith) e
+
+  in5 : 1 ≤ count q (L (p * 32 + 5))
+  in5 = rw e (omega (arith, count-append q xs (q ∷ ys), hit-self q))
+
+  pub moved : Lists
+  moved = upd J (p * 32 + 6) (J (p * 32 + 6) ++ q ∷ [])
+
+  pub move-lists : Base (move m p q) ps moved W hs g
+  unfolding Mail.move moved
+  move-lists = give-mail b1 p 6 h (omega arith) (omega arith) (b .facts .mail p 5 h (omega arith) (omega arith) q in5) (λ x j k. absurd (omega arith))
+
+  pub moved-q1 : moved (p * 32 + 5) ≡ xs ++ ys
+  unfolding moved
+  moved-q1 = upd-other J (p * 32 + 6) (p * 32 + 5) (J (p * 32 + 6) ++ q ∷ []) (omega arith) ∙ upd-same L (p * 32 + 5) (xs ++ ys)
+
+  pub moved-q2 : moved (p * 32 + 6) ≡ L (p * 32 + 6) ++ q ∷ []
+  unfolding moved
+  moved-q2 = upd-same J (p * 32 + 6) (J (p * 32 + 6) ++ q ∷ []) ∙ ap (λ (l : List ℕ). l ++ q
+      ∷ []) (upd-other L (p * 32 + 5) (p * 32 + 6) (xs ++ ys) (omega arith))
+
+  pub moved-other : (a : ℕ) → a ≢ p * 32 + 5 → a ≢ p * 32 + 6 → moved a ≡ L a
+  unfolding moved
+  moved-other a n5 n6 = upd-other J (p * 32 + 6) a (J (p * 32 + 6) ++ q ∷ []) n6 ∙ upd-other L (p * 32 + 5) a (xs ++ ys) n5
+
+  pub move-texts : Texted ps m (move m p q)
+  unfolding Mail.move
+  move-texts = record {
+    at = λ x px o j k l.
+        let i5 = in-q ps p 5 (omega arith) (omega arith) h in
+        let i6 = in-q ps p 6 (omega arith) (omega arith) h in
+        join-frame (b1 .facts .sep) (b1 .mem) (p * 32 + 6) (i6, grant-high (p * 32 + 6) (omega (arith, pg))) (omega (arith, pg)) q
+        (hand-page b1 q (in-hand b1)) (hand-new b1) (x * 32 + j) (λ z. head-off s x j (p * 32 + 6) px l o i6 (sym z)) (λ z i. omega arith) (omega arith)
+        ∙ leave-frame s (b .mem) (p * 32 + 5) (i5, grant-high (p * 32 + 5) (omega (arith, pg))) (omega (arith, pg)) q xs ys e (x * 32 + j)
+        (λ z. head-off s x j (p * 32 + 5) px l o i5 (sym z)) (λ z i. omega arith);
+  }
+
+  -- what waits for p, and for any other
+  abbrev M : List ℕ → List Letter
+  M l = map (mailOf m) l
+
+  pub moved-here : waitingFor (move m p q) p ≡ M (L (p * 32 + 6)) ++ (mailOf m q ∷ (M xs ++ M ys))
+  moved-here =
+      waits-through move-lists move-texts p h
+      ∙ rw (
+        moved-q1,
+        moved-q2,
+        map-append (mailOf m) (L (p * 32 + 6)) (q
+            ∷ []),
+        map-append (mailOf m) xs ys,
+      ) (append-assoc (M (L (p * 32 + 6))) (mailOf m q ∷ []) (M xs ++ M ys))
+
+  pub was-here : waitingFor m p ≡ M (L (p * 32 + 6)) ++ (M xs ++ (mailOf m q ∷ M ys))
+  was-here = waits-by b p h ∙ rw (e, map-append (mailOf m) xs (q ∷ ys))
+
+  pub moved-away : (y : ℕ) → 1 ≤ count y ps → y ≢ p → waitingFor (move m p q) y ≡ waitingFor m y
+  moved-away y i n =
+      waits-through move-lists move-texts y i
+      ∙ rw (moved-other (y * 32 + 5) (omega arith) (omega arith), moved-other (y * 32 + 6) (omega arith) (omega arith)) (sym (waits-by b y i))
+
+  -- the first match overtakes none of its sender and flag
+  pub moved-order : (n f : ℕ) → asked n f (mailOf m q) ≡ true → Fails (asked n f) (M xs) → (k l : ℕ)
+      → only (key k l) (waitingFor (move m p q) p) ≡ only (key k l) (waitingFor m p)
+  moved-order n f is not k l =
+      rw (
+        moved-here,
+        was-here,
+        only-append (key k l) (M (L (p * 32 + 6))) (mailOf m q ∷ (M xs ++ M ys)),
+        only-append (key k l) (M (L (p * 32 + 6))) (M xs ++ (mailOf m q ∷ M ys)),
+        overtakes-none (key k l) (asked n f) (one-key n f k l) (mailOf m q) is (M xs) (M ys) not,
+      )
+
+-- the first of Q1, moved, changes nothing of what waits
+pub moved-first : {m : List ℕ} {ps : List ℕ} {L : Lists} {W : View} {hs : List ℕ} {g : ℕ} (b : Base m ps L W hs g) (p q : ℕ) (ys : List ℕ)
+    → (h : 1 ≤ count p ps)
+    → L (p * 32 + 5) ≡ q ∷ ys → (y : ℕ) → 1 ≤ count y ps → waitingFor (move m p q) y ≡ waitingFor m y
+moved-first {m} b p q ys h e y i = go (hit-or y p)
+  where
+    go : (y ≡ p) ⊎ (y ≢ p) → waitingFor (move m p q) y ≡ waitingFor m y
+    go (inl z) = rw z (moved-here b p q [] ys h e ∙ sym (was-here b p q [] ys h e))
+    go (inr n) = moved-away b p q [] ys h e y i n

@@ -1,0 +1,122 @@
+-- What an instruction puts to which processor and what it reads, as functions of the memory before it: decoded and tested as the model decodes and tests, direct
+-- and by EXI. A processor is named by its page. Assumes nothing.
+use Prim.Native.Nat.{ℕ, zero, suc, _+_, _-_, _*_, _/_, _%_}
+use mathlib.Core.Bool.{Bool, true, false, cond}
+use mathlib.Core.List.{List, [], _∷_, _++_}
+use lib.Dec.{eqb, ltb}
+use lib.ListN.{length, getD}
+use Rattle.model.specs.declared.Arguments.{Arguments}
+use Rattle.model.specs.Map.{memorySize, place, longest, headWords, q1, q2}
+use Rattle.model.specs.Address.{unless, wrapped, guarded, clear}
+use Rattle.model.specs.Page.{Taken}
+use Rattle.model.specs.Page.Taken.{took}
+use Rattle.model.specs.Instruction.{firstWord, lengthFor, shapeFor, builtIn}
+use Rattle.model.specs.Bytes.{at, queue, running, name, pageOf, takePage, inQ2, lengthOf, sender, flag, isNotice, stopped, kind, isForeign}
+use Rattle.model.specs.Bytes.{argumentFault}
+use Rattle.model.specs.Bytes.{pointed, direct, indexed, codeAt, judged, lr}
+use Rattle.history.specs.Letter.{Letter, words, mailOf}
+
+-- messages, each with the page of a processor
+abbrev pub Log : Type 0
+Log = List (ℕ × Letter)
+
+pub record Mailed : Type 0 where
+  pub puts : Log
+  pub reads : Log
+
+abbrev pub nothing : Mailed
+nothing = record { puts = []; reads = [] }
+
+-- those of page p
+unfoldable pub of : ℕ → Log → List Letter
+of p [] = []
+of p (x ∷ xs) = elim (eqb p (x .0)) [ true ↦ x .1 ∷ of p xs | false ↦ of p xs ]
+
+-- a notice from the name n with flag f
+abbrev pub noticeFrom : ℕ → ℕ → Letter
+noticeFrom n f = record { sender = n; flag = f; size = 0; text = [] }
+
+-- ---- SME: to NI, or a notice to the sender
+unfoldable pub posting : List ℕ → ℕ → ℕ → ℕ → ℕ × Letter
+posting m n f a =
+    cond (eqb (pageOf m n) 0) (running m, noticeFrom n f)
+    (pageOf m n, record { sender = name m (running m); flag = f; size = at m a; text = words m (wrapped a 1) (at m a) })
+
+unfoldable pub hasPage : Taken (List ℕ) → Bool
+hasPage (took q m) = cond (eqb q 0) false true
+
+unfoldable pub smeMail : List ℕ → ℕ → ℕ → ℕ → Mailed
+smeMail m n f a =
+    cond (eqb n 0) nothing
+    (cond (eqb f 0) nothing
+    (cond (guarded a) nothing
+    (cond (ltb longest (at m a)) nothing
+    (unless (clear (at m a) (wrapped a 1)) nothing
+    (cond (hasPage (takePage m (running m))) (record { puts = posting m n f a ∷ []; reads = [] }) nothing)))))
+
+-- ---- RME: the first match in Q2
+unfoldable pub rmeMail : List ℕ → ℕ → ℕ → ℕ → Mailed
+rmeMail m n f a =
+    cond (eqb (inQ2 m n f) 0) nothing
+    (unless (clear (headWords + lengthOf m (inQ2 m n f)) a) nothing
+    (record { puts = []; reads = (running m, mailOf m (inQ2 m n f)) ∷ [] }))
+
+-- ---- DEP: notices to the senders that exist, Q2 then Q1; the deleted one, of page p, is no longer one of them
+unfoldable pub returnsTo : List ℕ → ℕ → ℕ → ℕ
+returnsTo m p q = cond (isNotice m q) 0 (cond (eqb (sender m q) (name m p)) 0 (pageOf m (sender m q)))
+
+unfoldable pub notices : List ℕ → ℕ → List ℕ → Log
+notices m p [] = []
+notices m p (q ∷ qs) = elim (eqb (returnsTo m p q) 0) [
+  | true ↦ notices m p qs
+  | false ↦ (returnsTo m p q, noticeFrom (name m p) (flag m q)) ∷ notices m p qs
+]
+
+unfoldable pub depMail : List ℕ → ℕ → Mailed
+depMail m n =
+    cond (eqb n 0) nothing
+    (cond (eqb (pageOf m n) 0) nothing
+    (unless (stopped m (pageOf m n)) nothing
+    (record { puts = notices m (pageOf m n) (queue m (place (pageOf m n) q2) ++ queue m (place (pageOf m n) q1)); reads = [] })))
+
+-- ---- any instruction, in the order of the codes; e is what EXI does
+unfoldable pub runMail : (List ℕ → Arguments → Mailed) → List ℕ → ℕ → Arguments → Mailed
+runMail e m c x =
+    getD
+    (nothing ∷ nothing ∷ nothing ∷ nothing ∷ smeMail m (x .field) (x .second) (x .address) ∷ nothing ∷ rmeMail m (x .field) (x .second) (x .address)
+    ∷ nothing ∷ nothing ∷ nothing ∷ nothing ∷ nothing ∷ depMail m (x .field) ∷ nothing ∷ e m x ∷ [])
+    c
+    nothing
+
+unfoldable pub arguedMail : (List ℕ → ℕ → Arguments → Mailed) → List ℕ → ℕ → ℕ → Mailed
+arguedMail r m c e =
+    cond (isForeign m c) nothing
+    (unless (eqb (argumentFault m c e) 0) nothing
+    (r m c (pointed m e (shapeFor c))))
+
+unfoldable pub exiMail : ℕ → List ℕ → Arguments → Mailed
+exiMail zero m x = nothing
+exiMail (suc d) m x = arguedMail (runMail (exiMail d)) m (x .field) (indexed m (x .second) (x .address))
+
+unfoldable pub fetchedMail : List ℕ → ℕ → Mailed
+fetchedMail m n =
+    cond (guarded n) nothing
+    (unless (eqb (at m n) firstWord) nothing
+    (cond (guarded (wrapped n 1)) nothing
+    (unless (eqb (kind m (codeAt m n)) builtIn) nothing
+    (unless (clear (lengthFor (codeAt m n) - 2) (wrapped n 2)) nothing
+    (runMail (exiMail 1) m (codeAt m n) (direct m n (shapeFor (codeAt m n))))))))
+
+-- ---- the call
+unfoldable pub mailed : List ℕ → Mailed
+mailed m =
+    unless (eqb (length m) memorySize) nothing
+    (unless (judged m) nothing
+    (cond (eqb (running m) 0) nothing
+    (fetchedMail m (lr m))))
+
+abbrev pub puts : List ℕ → Log
+puts m = mailed m .puts
+
+abbrev pub reads : List ℕ → Log
+reads m = mailed m .reads

@@ -1,0 +1,249 @@
+-- The instructions that put and read nothing and leave Q1 and Q2 of every processor alone: CVI, DVI, GIN, WIN, ST1, STP, ST2 and code
+-- 13; and setting registers. Assumes nothing.
+use mathlib.Core.Path.{_≡_, refl, sym, ap, _∙_}
+use mathlib.Core.Logic.{_≢_, _⊎_, inl, inr}
+use mathlib.Core.Bool.{Bool, true, false, cond}
+use mathlib.Core.List.{List, [], _∷_, _++_}
+use Prim.Native.Nat.{ℕ, zero, suc, _+_, _-_, _*_, _/_, _%_, _≤_, _<_}
+use native.Mathlib.Omega.{arith}
+use lib.ListN.{length, getD, set}
+use lib.Dec.{eqb, ltb, leb}
+use borrow.Author.Tests.{eqb-false, ltb-true, ltb-false, leb-false}
+use Rattle.model.specs.declared.Registers.{Registers}
+use Rattle.model.specs.Map.{threeFlags}
+use Rattle.model.specs.Address as Address
+use Rattle.model.specs.Address.{guarded, clear}
+use Rattle.model.specs.Interrupt as Interrupt
+use Rattle.model.specs.Instruction as Instruction
+use Rattle.model.specs.Processor as Processor
+use Rattle.model.specs.Operate as Operate
+use Rattle.model.specs.Answer.{memoryOf}
+use Rattle.model.specs.Bytes as Model
+use Rattle.model.specs.Bytes.{lists, struck, classed, servedFrom, serve, counts, turns, ends, delivered, whoRuns, setCode, pageOf, start, stop, setLr}
+use Rattle.model.specs.Bytes.{setRegistersOf}
+use Rattle.model.specs.Lists.{count, Lists, queues}
+use Rattle.laws.specs.Count.{hit-self, hit-or, count-append}
+use Rattle.laws.specs.Uses.{Sep, proc-page, list-short}
+use Rattle.laws.specs.Places.{in-queues, wait-page}
+use Rattle.laws.specs.Inv.{View, view, Clock, Base, Inv}
+use Rattle.laws.specs.Judged.{WellFormed, invariant}
+use Rattle.laws.specs.Frames.{other}
+use Rattle.laws.specs.Views.{put1, withLow}
+use Rattle.laws.specs.Cells.{chain0}
+use Rattle.laws.specs.Changes.{int-sem}
+use Rattle.laws.specs.Wake.{seat-head, not-procs}
+use Rattle.laws.specs.Grants.{Gave}
+use Rattle.laws.specs.Who.{running-at, running-in}
+use Rattle.laws.specs.Ends.{advance-base}
+use Rattle.laws.specs.Words.{either}
+use Rattle.laws.specs.Simple.{pick, named-in}
+use Rattle.laws.specs.Interrupts.{head, chain-head, Struck, struck-base, from-end, next, seat, clock0, clock1, clock2, clock3, counter-base}
+use Rattle.laws.specs.Interrupts.{counter-at}
+use Rattle.laws.specs.Interrupts.{serve-base}
+use Rattle.history.specs.Letter.{Same, same-then, same-on, posts, agrees}
+use Rattle.history.specs.Calm.{calm-refl, calm-set, calm-low, calm-proc, calm-run, calm-lr, calm-turn, calm-wake, ours-fits, ours-low}
+use Rattle.history.specs.Told.{calm-done, calm-jumps, calm-fault, calm-waits, runs-in}
+use Rattle.history.specs.Clocks.{calm-serve}
+
+-- ---- instructions, of a well-formed memory where someone runs
+pub clear-far : (a : ℕ) → guarded a ≡ false → (a < 7552) × (a ≢ 247)
+unfolding Address.guarded
+clear-far a h = go (ltb a 16) (ltb a 128) (ltb a 352) (leb 7552 a) refl refl refl refl
+  where
+    go : (x y z t : Bool) → ltb a 16 ≡ x → ltb a 128 ≡ y → ltb a 352 ≡ z → leb 7552 a ≡ t → (a < 7552) × (a ≢ 247)
+    go true y z t e f i j = let c = rw e at h in let k : _≡_ {A = ℕ} 0 1 = cc in absurd (omega arith)
+    go false true z t e f i j = let l = ltb-true a 128 f in (omega arith, omega arith)
+    go false false true t e f i j = let c = rw (e, f, i) at h in let k : _≡_ {A = ℕ} 0 1 = cc in absurd (omega arith)
+    go false false false true e f i j = let c = rw (e, f, i, j) at h in let k : _≡_ {A = ℕ} 0 1 = cc in absurd (omega arith)
+    go false false false false e f i j =
+        let l = ltb-false a 352 i in
+        let u = leb-false 7552 a j in
+        (omega arith, omega arith)
+
+module _ {m : List ℕ} (w : WellFormed m) (d : getD m 248 0 ≢ 0) where
+  iv : Inv m (lists m 247) (lists m) (view m)
+  iv = invariant w
+
+  b : Base m (lists m 247) (lists m) (view m) [] 32
+  b = iv .base
+
+  abbrev Calm : List ℕ → Type 0
+  Calm x = Same (lists m 247) (lists m) m x
+
+  s : Sep (lists m 247) (lists m)
+  s = b .facts .sep
+
+  abbrev r : ℕ
+  r = getD m 248 0
+
+  pub fails : (f : ℕ) → Calm (memoryOf (Model.fault m f))
+  fails f = calm-fault s m (runs-in b) f
+
+  -- then done, then a jump; the same one runs
+  pub then-done : (x : List ℕ) (len : ℕ) → Calm x → getD x 248 0 ≡ getD m 248 0 → Calm (memoryOf (Model.done x len))
+  then-done x len f e = same-on f (calm-done s x (rw e (runs-in b)) len)
+
+  pub then-jumps : (x : List ℕ) (a : ℕ) → Calm x → getD x 248 0 ≡ getD m 248 0 → Calm (memoryOf (Model.jumps x a))
+  then-jumps x a f e = same-on f (calm-jumps s x (rw e (runs-in b)) a)
+
+  calm-code : (c k a : ℕ) → c < 16 → Calm (setCode m c k a)
+  unfolding Instruction.setCode
+  calm-code c k a l =
+      let v = k * 32 + a / 256 % 32 in
+      let c1 : Calm (set m (256 + 2 * c) v) = calm-low s m (256 + 2 * c) v (omega arith) (omega arith) in
+      same-on c1 (calm-low s (set m (256 + 2 * c) v) (257 + 2 * c) (a % 256) (omega arith) (omega arith))
+
+  code-run : (c k a : ℕ) → getD (setCode m c k a) 248 0 ≡ getD m 248 0
+  unfolding Instruction.setCode
+  code-run c k a =
+      let v = k * 32 + a / 256 % 32 in
+      other (set m (256 + 2 * c) v) (257 + 2 * c) (a % 256) 248 (omega arith) ∙ other m (256 + 2 * c) v 248 (omega arith)
+
+  pub cvi-calm : (c a n : ℕ) → c < 16 → Calm (memoryOf (Model.cvi m c a n))
+  unfolding Operate.cvi
+  cvi-calm c a n l =
+      either (λ (o : Model.Step). Calm (memoryOf o)) (eqb (getD m (256 + 2 * c) 0 / 32) 0)
+      (then-done (setCode m c 2 a) n (calm-code c 2 a l) (code-run c 2 a)) (fails 3)
+
+  pub dvi-calm : (c n : ℕ) → c < 16 → Calm (memoryOf (Model.dvi m c n))
+  unfolding Operate.dvi
+  dvi-calm c n l =
+      either (λ (o : Model.Step). Calm (memoryOf o)) (ltb c 2) (fails 4) (either (λ (o : Model.Step). Calm (memoryOf o)) (eqb (getD m (256 + 2 * c) 0 / 32) 0) (fails 1)
+      (then-done (setCode m c 0 0) n (calm-code c 0 0 l) (code-run c 0 0)))
+
+  pub gin-calm : (len : ℕ) → Calm (memoryOf (Model.gin m len))
+  unfolding Operate.gin
+  gin-calm len =
+      let n = b .facts .names .range r (running-in b d) in
+      let k = getD m (r * 32 + 7) 0 % 16 in
+      let t = serve-base k 0 (n .name) (omega arith) b in
+      then-done (serve m k 0) len (calm-serve k 0 (n .name) (omega arith) b) (running-at (t .base) ∙ ap (λ (z : ℕ → ℕ). z 248) (t .low))
+
+  pub win-calm : (k c len : ℕ) → c ≤ 255 → Calm (memoryOf (Model.win m k c len))
+  unfolding Operate.win Processor.advance
+  win-calm k c len u = go (eqb k 0) (ltb 54 k) (eqb c 0) refl refl refl
+    where
+      go : (x y z : Bool) → eqb k 0 ≡ x → ltb 54 k ≡ y → eqb c 0 ≡ z → Calm (memoryOf (Model.win m k c len))
+      go true y z e f g = rw e (fails 5)
+      go false true z e f g = rw (e, f) (fails 5)
+      go false false true e f g = rw (e, f, g) (fails 5)
+      go false false false e f g =
+          let k1 = eqb-false k 0 e in
+          let k2 = ltb-false 54 k f in
+          let c1 = eqb-false c 0 g in
+          let at1 : 131 + 2 * (k - 1) ≡ 129 + 2 * k = omega arith in
+          rw (e, f, g) (same-on (calm-lr s m r ((Model.lr m + len) % 8192) (runs-in b))
+          (calm-waits (advance-base b len) (129 + 2 * k) c d (rw at1 at (int-sem (lists m 247) (k - 1) (omega arith)))
+          (omega (arith, iv .best .ready d)) (record {
+            line = λ j h q. (omega arith, omega arith);
+            page = λ q. absurd (omega arith);
+            own = λ y h q. let t = proc-page (b .facts .sep) y h in absurd (omega arith);
+          })))
+
+  state-calm : (p v len : ℕ) → 1 ≤ count p (lists m 247) → Calm (memoryOf (Model.done (set m (p * 32 + 12) v) len))
+  state-calm p v len h =
+      let g = proc-page s p h in
+      then-done (set m (p * 32 + 12) v) len (calm-proc s m p 12 v h (omega arith) (omega arith) (omega arith) (omega arith)) (other m (p * 32 + 12) v 248 (omega arith))
+
+  pub st1-calm : (p len : ℕ) → 1 ≤ count p (lists m 247) → Calm (memoryOf (Model.st1 m p len))
+  unfolding Operate.st1 Processor.start
+  st1-calm p len h = state-calm p (getD m (p * 32 + 12) 0 % 128) len h
+
+  pub stp-calm : (p len : ℕ) → 1 ≤ count p (lists m 247) → Calm (memoryOf (Model.stp m p len))
+  unfolding Operate.stp Processor.stop
+  stp-calm p len h = state-calm p (getD m (p * 32 + 12) 0 % 128 + 128) len h
+
+  -- ST1 and STP; DEP is not among them
+  pub named-calm : (c n len : ℕ) → (c ≡ 8) ⊎ (c ≡ 9) → Calm (memoryOf (Model.named m c n len))
+  unfolding Operate.named Operate.onPage
+  named-calm c n len o = go (eqb n 0) (eqb (pageOf m n) 0) refl refl o
+    where
+      go : (x y : Bool) → eqb n 0 ≡ x → eqb (pageOf m n) 0 ≡ y → (c ≡ 8) ⊎ (c ≡ 9) → Calm (memoryOf (Model.named m c n len))
+      go true y e f o = rw e (fails 12)
+      go false true e f o = rw (e, f) (fails 7)
+      go false false e f (inl z) = rw (e, f, z) (st1-calm (pageOf m n) len (named-in b n (eqb-false (pageOf m n) 0 f)))
+      go false false e f (inr z) = rw (e, f, z) (stp-calm (pageOf m n) len (named-in b n (eqb-false (pageOf m n) 0 f)))
+
+  st2-found : (p a len : ℕ) → 1 ≤ count p (lists m 247) → Calm (memoryOf (Model.st2Found m p a len))
+  unfolding Operate.st2Found Processor.start Processor.setLr
+  st2-found p a len h =
+      let g = proc-page s p h in
+      let v = getD m (p * 32 + 10) 0 / 32 * 32 + a / 256 % 32 in
+      let m1 = set m (p * 32 + 10) v in
+      let m2 = set m1 (p * 32 + 11) (a % 256) in
+      let t = getD m2 (p * 32 + 12) 0 % 128 in
+      let c1 : Calm m1 = calm-proc s m p 10 v h (omega arith) (omega arith) (omega arith) (omega arith) in
+      let c2 : Calm m2 = same-on c1 (calm-proc s m1 p 11 (a % 256) h (omega arith) (omega arith) (omega arith) (omega arith)) in
+      let c3 : Calm (set m2 (p * 32 + 12) t) = same-on c2 (calm-proc s m2 p 12 t h (omega arith) (omega arith) (omega arith) (omega arith)) in
+      let e : getD (set m2 (p * 32 + 12) t) 248 0 ≡ getD m 248 0 = other m2 (p * 32 + 12) t 248 (omega arith) ∙ other m1 (p * 32 + 11) (a % 256) 248 (omega arith)
+      ∙ other m (p * 32 + 10) v 248 (omega arith) in
+      either (λ (o : Model.Step). Calm (memoryOf o)) (leb 128 (getD m (p * 32 + 12) 0)) (either (λ (o : Model.Step). Calm (memoryOf o))
+      (eqb (getD m (p * 32 + 12) 0 % 128 / 64) 0)
+      (then-done (set m2 (p * 32 + 12) t) len c3 e) (fails 8)) (fails 8)
+
+  pub st2-calm : (n a len : ℕ) → Calm (memoryOf (Model.st2 m n a len))
+  unfolding Operate.st2
+  st2-calm n a len = go (eqb n 0) (eqb (pageOf m n) 0) refl refl
+    where
+      go : (x y : Bool) → eqb n 0 ≡ x → eqb (pageOf m n) 0 ≡ y → Calm (memoryOf (Model.st2 m n a len))
+      go true y e f = rw e (fails 12)
+      go false true e f = rw (e, f) (fails 7)
+      go false false e f = rw (e, f) (st2-found (pageOf m n) a len (named-in b n (eqb-false (pageOf m n) 0 f)))
+
+  -- ---- code 13: what it writes, and that the same one runs
+  abbrev Both : List ℕ → Type 0
+  Both x = Calm x × (getD x 248 0 ≡ getD m 248 0)
+
+  reg : (k v : ℕ) (x : List ℕ) → 8 ≤ k → k < 13 → Both x → Both (set x (r * 32 + k) v)
+  reg k v x l u h = (same-on (h .0) (calm-run s x r k v (runs-in b) l (omega arith)), other x (r * 32 + k) v 248 (omega arith) ∙ h .1)
+
+  free : (a v : ℕ) (x : List ℕ) → guarded a ≡ false → a ≢ 248 → Both x → Both (set x a v)
+  free a v x g n h = let t = clear-far a g in (same-on (h .0) (calm-low s x a v (t .0) (t .1)), other x a v 248 (λ e. n (sym e)) ∙ h .1)
+
+  not-running : (a : ℕ) → guarded a ≡ false → a ≢ 248
+  unfolding Address.guarded
+  not-running a h e = let c : guarded 248 ≡ false = rw e at h in let k : _≡_ {A = ℕ} 0 1 = cc in omega arith
+
+  worked-both : (o a : ℕ) → guarded a ≡ false → Both (Model.worked m o a)
+  unfolding Operate.worked Operate.adds Operate.storesA Operate.ands Operate.increments
+  worked-both o a h =
+      let n = not-running a h in
+      let k : Both m = (calm-refl m, refl) in
+      pick Both (Model.adds m a ∷ Model.storesA m a ∷ Model.ands m a ∷ Model.increments m a ∷ []) m o o 0 (omega arith) (
+        (λ e. reg 10 _ _ (omega arith) (omega arith) (reg 8 _ m (omega arith) (omega arith) k)),
+        (
+          (λ e. reg 8 0 _ (omega arith) (omega arith) (free a _ m h n k)),
+          ((λ e. reg 8 _ m (omega arith) (omega arith) k), ((λ e. free a _ m h n k), tt)),
+        ),
+      ) k
+
+  reaches-calm : (o a len : ℕ) → Calm (memoryOf (Model.reaches m o a len))
+  unfolding Operate.reaches Operate.returnTo
+  reaches-calm o a len = go (eqb o 5) (eqb o 4) (guarded a) refl refl refl
+    where
+      go : (x y z : Bool) → eqb o 5 ≡ x → eqb o 4 ≡ y → guarded a ≡ z → Calm (memoryOf (Model.reaches m o a len))
+      go true y z e f g =
+          let n = (Model.lr m + len) % 8192 in
+          let m1 = set m 5 (n / 256 % 32) in
+          let c1 : Calm m1 = calm-low s m 5 (n / 256 % 32) (omega arith) (omega arith) in
+          let c2 : Calm (set m1 6 (n % 256)) = same-on c1 (calm-low s m1 6 (n % 256) (omega arith) (omega arith)) in
+          rw e (then-jumps (set m1 6 (n % 256)) a c2 (other m1 6 (n % 256) 248 (omega arith) ∙ other m 5 (n / 256 % 32) 248 (omega arith)))
+      go false true z e f g = rw (e, f) (then-jumps m a (calm-refl m) refl)
+      go false false true e f g = rw (e, f, g) (fails 11)
+      go false false false e f g = let t = worked-both o a g in rw (e, f, g) (then-done (Model.worked m o a) len (t .0) (t .1))
+
+  pub thirteen-calm : (x o a len : ℕ) → Calm (memoryOf (Model.thirteen m x o a len))
+  unfolding Operate.thirteen Operate.follows
+  thirteen-calm x o a len =
+      let P : Model.Step → Type 0 = λ (o : Model.Step). Calm (memoryOf o) in
+      let e = Model.indexed m (x % 8) a in
+      either (λ (o : Model.Step). Calm (memoryOf o)) (ltb 5 o) (fails 12) (either (λ (o : Model.Step). Calm (memoryOf o)) (eqb (x / 8) 0) (reaches-calm o e len)
+      (either (λ (o : Model.Step). Calm (memoryOf o)) (clear 2 e) (reaches-calm o (Model.addressAt m e) len) (fails 11)))
+
+  -- ---- setting registers
+  pub registers-calm : (x : Registers) → Calm (setRegistersOf m r x)
+  unfolding Processor.setRegistersOf Processor.setFlagsLr
+  registers-calm x =
+      let k : Both m = (calm-refl m, refl) in
+      reg 12 _ _ (omega arith) (omega arith) (reg 11 _ _ (omega arith) (omega arith) (reg 10 _ _ (omega arith) (omega arith) (reg 9 _ _ (omega arith) (omega arith)
+      (reg 8 _ m (omega arith) (omega arith) k)))) .0

@@ -1,0 +1,1 @@
+// What is put to a processor and what it reads: no code.
