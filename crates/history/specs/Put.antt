@@ -20,12 +20,20 @@ use Rattle.history.specs.Letter.{Letter, words, mailOf}
 abbrev pub Log : Type 0
 Log = List (ℕ × Letter)
 
+-- what is put, what is read, and where the first word that was read is written
 pub record Mailed : Type 0 where
   pub puts : Log
   pub reads : Log
+  pub target : ℕ
+
+abbrev pub putting : Log → Mailed
+putting l = record { puts = l; reads = []; target = 0 }
 
 abbrev pub nothing : Mailed
-nothing = record { puts = []; reads = [] }
+nothing = putting []
+
+abbrev pub reading : ℕ → Letter → ℕ → Mailed
+reading p x a = record { puts = []; reads = (p, x) ∷ []; target = a }
 
 -- those of page p
 unfoldable pub of : ℕ → Log → List Letter
@@ -52,14 +60,14 @@ smeMail m n f a =
     (cond (guarded a) nothing
     (cond (ltb longest (at m a)) nothing
     (unless (clear (at m a) (wrapped a 1)) nothing
-    (cond (hasPage (takePage m (running m))) (record { puts = posting m n f a ∷ []; reads = [] }) nothing)))))
+    (cond (hasPage (takePage m (running m))) (putting (posting m n f a ∷ [])) nothing)))))
 
 -- ---- RME: the first match in Q2
 unfoldable pub rmeMail : List ℕ → ℕ → ℕ → ℕ → Mailed
 rmeMail m n f a =
     cond (eqb (inQ2 m n f) 0) nothing
     (unless (clear (headWords + lengthOf m (inQ2 m n f)) a) nothing
-    (record { puts = []; reads = (running m, mailOf m (inQ2 m n f)) ∷ [] }))
+    (reading (running m) (mailOf m (inQ2 m n f)) a))
 
 -- ---- DEP: notices to the senders that exist, Q2 then Q1; the deleted one, of page p, is no longer one of them
 unfoldable pub returnsTo : List ℕ → ℕ → ℕ → ℕ
@@ -77,7 +85,7 @@ depMail m n =
     cond (eqb n 0) nothing
     (cond (eqb (pageOf m n) 0) nothing
     (unless (stopped m (pageOf m n)) nothing
-    (record { puts = notices m (pageOf m n) (queue m (place (pageOf m n) q2) ++ queue m (place (pageOf m n) q1)); reads = [] })))
+    (putting (notices m (pageOf m n) (queue m (place (pageOf m n) q2) ++ queue m (place (pageOf m n) q1))))))
 
 -- ---- any instruction, in the order of the codes; e is what EXI does
 unfoldable pub runMail : (List ℕ → Arguments → Mailed) → List ℕ → ℕ → Arguments → Mailed

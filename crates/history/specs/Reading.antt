@@ -34,7 +34,7 @@ use Rattle.history.specs.Order.{only, only-append, Fails, overtakes-none
 use Rattle.history.specs.Letter.{Letter, mailOf, key, asked, one-key, map-append, waitingFor, waits-by, Ours, Same, same-then, same-on, posts}
 use Rattle.history.specs.Letter.{agrees}
 use Rattle.history.specs.Letter.{waits-same, procs-same, mail-same, mails-same, texts-same}
-use Rattle.history.specs.Put.{Mailed, of, nothing, rmeMail}
+use Rattle.history.specs.Put.{Mailed, of, nothing, reading, rmeMail}
 use Rattle.history.specs.Calm.{ours-low, ours-fits, calm-give}
 use Rattle.history.specs.Told.{Told, of-none, of-here, of-other, told-same, calm-done, runs-in}
 use Rattle.history.specs.Quiet.{fails, clear-far}
@@ -139,7 +139,7 @@ module _ {m : List ℕ} (w : WellFormed m) (d : getD m 248 0 ≢ 0) where
   hr = running-in b d
 
   received-told : (n f q a len : ℕ) → Found m n f q (lists m (r * 32 + 6)) → clear (3 + getD m (q * 32 + 2) 0 % 128) a ≡ true
-      → Told m (memoryOf (Model.done (Model.received m q a) len)) (record { puts = []; reads = (r, mailOf m q) ∷ [] })
+      → Told m (memoryOf (Model.done (Model.received m q a) len)) (reading r (mailOf m q) a)
   unfolding Operate.received
   received-told n f q a len t cl =
       let x = copyOut m q a in
