@@ -120,6 +120,22 @@ impl Registers {
         }
     }
 
+    // A record that is zero but for LR and W.
+    pub fn starting_at(lr: u16, w: u16) -> Self
+        ensures { λ r. ⌜ r ≡ Processor.startingAt lr w ⌝ }
+    {
+        Self {
+            a: 0,
+            s: 0,
+            p: 0,
+            z: 0,
+            ci: 0,
+            lr,
+            w,
+            stopped: 0,
+        }
+    }
+
     // LR grows by n, modulo 8,192.
     pub fn advance(mut self, n: u16) -> Self
         requires { ⌜ (self .lr < 8192) × (n < 8192) ⌝ }

@@ -1,4 +1,0 @@
-// Memories that break each rule of "Well-formed".
-fn main() {
-    console::start();
-}

@@ -1,4 +1,0 @@
-// Interrupts with and without waiters, and the clock.
-fn main() {
-    console::start();
-}

@@ -1,4 +1,0 @@
-// Memories of a wrong length.
-fn main() {
-    console::start();
-}

@@ -1,4 +1,0 @@
-// Lines of every kind, understood and not.
-fn main() {
-    console::start();
-}

@@ -1,4 +1,0 @@
-// The state shown whole.
-fn main() {
-    console::start();
-}

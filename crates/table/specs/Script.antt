@@ -1,0 +1,152 @@
+-- A row of the table is a script of calls on a whole memory of 8,192 words, with the numbers of each answer and the words to be found
+-- afterwards. Every call but fresh judges the memory first.
+use Prim.Native.Nat.{ℕ, zero, suc, _+_, _*_}
+use mathlib.Core.Bool.{Bool, true, false}
+use mathlib.Core.List.{List, [], _∷_, _++_}
+use lib.Dec.{eqb}
+use Rattle.model.specs.Store as Store
+use Rattle.model.specs.Address as Address
+use Rattle.model.specs.Queue as Queue
+use Rattle.model.specs.Processor as Processor
+use Rattle.model.specs.Instruction as Instruction
+use Rattle.model.specs.Operate as Operate
+use Rattle.model.specs.Wait as Wait
+use Rattle.model.specs.Page as Page
+use Rattle.model.specs.Mail as Mail
+use Rattle.model.specs.Delete as Delete
+use Rattle.model.specs.Interrupt as Interrupt
+use Rattle.model.specs.Turn as Turn
+use Rattle.model.specs.Fresh as Fresh
+use Rattle.model.specs.Rule as Rule
+use Rattle.model.specs.Lists as Lists
+use Rattle.model.specs.Judge as Judge
+use Rattle.model.specs.Answer as Answer
+use Rattle.model.specs.Fault as Fault
+use Rattle.model.specs.Execute as Execute
+use Rattle.model.specs.Call as Call
+use Rattle.model.specs.declared.Registers.{Registers}
+use Rattle.model.specs.Store.{Store}
+use Rattle.model.specs.Map.{place, link, firstUnused}
+use Rattle.model.specs.Address.{at, write}
+use Rattle.model.specs.Answer.{answerOf, memoryOf, numbers, heldNumbers, verdictNumbers, doneNumber, waitsNumber, illFormed}
+use Rattle.model.specs.Call.{fresh, instruction, interrupt, readRegisters, setRegisters, judge}
+
+-- the six calls with the numbers of their answers; `host` writes page 0 and unprotected words, `made` any; `has` looks at words
+pub data Line : Type 0 where
+  fresh-start : ℕ → ℕ → List ℕ → Line
+  step : List ℕ → Line
+  signal : ℕ → ℕ → List ℕ → Line
+  reads : List ℕ → Line
+  sets : Registers → List ℕ → Line
+  judges : List ℕ → Line
+  host made : ℕ → List ℕ → Line
+  has : ℕ → List ℕ → Line
+
+abbrev pub Script : Type 0
+Script = List Line
+
+unfoldable pub sameWords : List ℕ → List ℕ → Bool
+sameWords [] [] = true
+sameWords [] (y ∷ ys) = false
+sameWords (x ∷ xs) [] = false
+sameWords (x ∷ xs) (y ∷ ys) = elim (eqb x y) [ true ↦ sameWords xs ys | false ↦ false ]
+
+module _ (S : Store) where
+  unfoldable pub writes : S .M → ℕ → List ℕ → S .M
+  writes m a [] = m
+  writes m a (v ∷ vs) = writes (write S m a v) (a + 1) vs
+
+  unfoldable pub looks : S .M → ℕ → List ℕ → Bool
+  looks m a [] = true
+  looks m a (v ∷ vs) = elim (eqb (at S m a) v) [ true ↦ looks m (a + 1) vs | false ↦ false ]
+
+  -- whether a script runs as it says. To open it opens the whole machine
+  unfoldable pub plays : Script → S .M → Bool
+  unfolding
+      Call.isOuter Call.isClass Call.fresh Call.instruction Call.interruptJudged Call.interrupt Call.readRegisters Call.setJudged
+      Call.setRegisters Call.judge Address.guarded Address.clear Address.copy Address.zeroed Queue.first Queue.walk Queue.cellOf Queue.join
+      Queue.leave Processor.isNamed Processor.stop Processor.start Processor.setLr Processor.advance Processor.registersOf
+      Processor.setFlagsLr Processor.setRegistersOf Processor.handBack Processor.inRange Instruction.directCounted Instruction.directCreating
+      Instruction.direct Instruction.pointedCreating Instruction.pointed Instruction.within Instruction.indexed Instruction.setCode Operate.cvi
+      Operate.dvi Operate.gin
+      Operate.win Operate.posted Operate.waitsForPage Operate.sent Operate.smeText Operate.sme Operate.wnm Operate.received Operate.rme
+      Operate.tmeQ1 Operate.tme Operate.st1 Operate.stp Operate.dep Operate.onPage Operate.named Operate.st2Found Operate.st2 Operate.headed
+      Operate.created Operate.crpPage Operate.crp Operate.adds Operate.storesA Operate.ands Operate.increments Operate.worked Operate.returnTo
+      Operate.reaches Operate.follows Operate.thirteen Wait.enqueue Wait.unqueue Wait.putToWait Wait.wake Wait.queued Wait.seat Wait.leaveWait
+      Page.takeFree Page.firstFree Page.takePage Page.freePage Page.grantPage Page.giveBack Mail.asks Mail.fits Mail.matches Mail.awaits
+      Mail.heard Mail.deliver Mail.writeMessage Mail.makeNotice Mail.move Mail.testQ1 Mail.copyOut Delete.unlisted Delete.noticed
+      Delete.returned Delete.emptied Delete.mailReturned Delete.grantReturned Delete.delete Interrupt.classed Interrupt.struck
+      Interrupt.servedFrom Interrupt.serve Interrupt.counts Interrupt.ends Interrupt.turns Interrupt.c3Counts Interrupt.c2Counts
+      Interrupt.c1Counts Interrupt.c0Counts Interrupt.delivered Turn.fold Turn.stays Turn.above Turn.better Turn.chosen Turn.onPage0
+      Turn.keptOn Turn.contextOf Turn.savedOf Turn.kept Turn.restored Turn.save Turn.load Turn.runs Turn.switch Turn.whoRuns Fresh.startable
+      Fresh.cleared Fresh.timed Fresh.firstProcessor Fresh.chained Fresh.freed Fresh.allBuiltIn Fresh.started Lists.range Lists.linkOf
+      Lists.isGrant Lists.lists Judge.page Judge.list Judge.listed Judge.once Judge.usedOnce Judge.label Judge.names Judge.bit Judge.waiter
+      Judge.waitingBits Judge.reasoned Judge.reasonless Judge.served Judge.quiet Judge.reasons Judge.unasked Judge.owner Judge.messageWait
+      Judge.messageWaits Judge.interruptSemaphore Judge.messageSemaphore Judge.pageSemaphore Judge.semaphores Judge.pageWait Judge.pageWaits
+      Judge.grant Judge.granted Judge.sized Judge.message Judge.mail Judge.messages Judge.runner Judge.notHigher Judge.running Judge.kind
+      Judge.codes Judge.counters Judge.clock Judge.used Judge.entry Judge.faults Judge.zeroBits Judge.zeros Judge.wellFormed Judge.judged
+      Answer.answerOf Answer.memoryOf Answer.numbers Answer.heldNumbers Answer.verdictNumbers Answer.done Answer.jumps Answer.waits
+      Fault.entered Fault.fault Execute.run Execute.foreign Execute.isForeign Execute.argumentFault Execute.argued Execute.exi Execute.taken
+      Execute.decoded Execute.coded Execute.fetched Store.tget Store.tput Store.tzero Store.getT Store.putT Store.sizeT Store.trees Rule.all
+      Rule.every Rule.holds sameWords writes looks
+  plays [] m = true
+  plays (fresh-start l d ns ∷ cs) m =
+      let o = fresh S m l d in elim (sameWords (numbers (answerOf o)) ns) [ true ↦ plays cs (memoryOf o) | false ↦ false ]
+  plays (step ns ∷ cs) m =
+      let o = instruction S m in elim (sameWords (numbers (answerOf o)) ns) [ true ↦ plays cs (memoryOf o) | false ↦ false ]
+  plays (signal k c ns ∷ cs) m =
+      let o = interrupt S m k c in elim (sameWords (numbers (answerOf o)) ns) [ true ↦ plays cs (memoryOf o) | false ↦ false ]
+  plays (reads ns ∷ cs) m =
+      let o = readRegisters S m in elim (sameWords (heldNumbers (answerOf o)) ns) [ true ↦ plays cs (memoryOf o) | false ↦ false ]
+  plays (sets r ns ∷ cs) m =
+      let o = setRegisters S m r in elim (sameWords (numbers (answerOf o)) ns) [ true ↦ plays cs (memoryOf o) | false ↦ false ]
+  plays (judges ns ∷ cs) m =
+      let o = judge S m in elim (sameWords (verdictNumbers (answerOf o)) ns) [ true ↦ plays cs (memoryOf o) | false ↦ false ]
+  plays (host a vs ∷ cs) m = plays cs (writes m a vs)
+  plays (made a vs ∷ cs) m = plays cs (writes m a vs)
+  plays (has a vs ∷ cs) m = elim (looks m a vs) [ true ↦ plays cs m | false ↦ false ]
+
+  -- each row starts on a memory of zeros
+  unfoldable pub playsAll : List Script → Bool
+  unfolding plays
+  playsAll [] = true
+  playsAll (r ∷ rs) = elim (plays r (S .zeros)) [ true ↦ playsAll rs | false ↦ false ]
+
+-- ---- what rows are made of
+abbrev pub ok : List ℕ
+ok = doneNumber ∷ []
+
+abbrev pub put-to-wait : List ℕ
+put-to-wait = waitsNumber ∷ []
+
+abbrev pub registers : ℕ → ℕ → ℕ → ℕ → ℕ → ℕ → ℕ → Registers
+registers a s p z c l w = record { a = a; s = s; p = p; z = z; ci = c; lr = l; w = w; stopped = 0 }
+
+-- fresh, line 16, divider 5, with these words from 2752 on
+abbrev pub begins : List ℕ → Script → Script
+begins ws s = fresh-start 16 5 ok ∷ host 2752 ws ∷ s
+
+-- the same n times
+unfoldable pub times : ℕ → Script → Script
+times zero cs = []
+times (suc n) cs = cs ++ times n cs
+
+unfoldable pub repeated : ℕ → List ℕ → List ℕ
+repeated zero vs = []
+repeated (suc n) vs = vs ++ repeated n vs
+
+-- n messages from 2 with flag 1 and no text, on pages p, p + 1 ..; the last of them on page p + n ends the list
+unfoldable pub mailed : ℕ → ℕ → Script → Script
+mailed zero p s = made (place p link) (0 ∷ 33 ∷ 0 ∷ []) ∷ s
+mailed (suc n) p s = made (place p link) ((p + 1) ∷ 33 ∷ 0 ∷ []) ∷ mailed n (p + 1) s
+
+-- the first instruction is fault f of processor 1, entered on page 9
+abbrev pub faulty : List ℕ → ℕ → Script
+faulty ws f = begins ws (step (f ∷ 1 ∷ []) ∷ has firstUnused (2 ∷ (16 + f) ∷ 0 ∷ []) ∷ [])
+
+-- the memory as fresh leaves it, changed, is refused with 21; is well-formed
+abbrev pub refuses : Script → Script
+refuses s = fresh-start 16 5 ok ∷ s ++ judges (illFormed ∷ []) ∷ []
+
+abbrev pub accepts : Script → Script
+accepts s = fresh-start 16 5 ok ∷ s ++ judges ok ∷ []

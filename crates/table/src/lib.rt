@@ -1,0 +1,1 @@
+// The table of worked sums: no code.
