@@ -110,20 +110,11 @@ pub fn st2(m: &mut [u8], n: Name, a: u16, len: u16) -> Answer
     st2_found(m, p, a, len)
 }
 
-// A record that is zero but for LR and W, stopped.
+// The registers of a new processor: it is stopped.
 fn new_registers(a: u16, w: u8) -> Registers
     ensures { λ r. ⌜ r ≡ Processor.stoppedOnce (Processor.startingAt a w) ⌝ }
 {
-    let r = Registers {
-        a: 0,
-        s: 0,
-        p: 0,
-        z: 0,
-        ci: 0,
-        lr: a,
-        w: wide(w),
-        stopped: 0,
-    };
+    let r = Registers::starting_at(a, wide(w));
     r.set_stopped()
 }
 

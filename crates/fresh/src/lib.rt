@@ -49,22 +49,6 @@ fn set_clock(m: &mut [u8], line: u8, d: u8)
     write(m, 251, d);
 }
 
-// A record that is zero but for LR.
-fn starting_at(a: u16) -> Registers
-    ensures { λ r. ⌜ r ≡ Processor.startingAt a 0 ⌝ }
-{
-    Registers {
-        a: 0,
-        s: 0,
-        p: 0,
-        z: 0,
-        ci: 0,
-        lr: a,
-        w: 0,
-        stopped: 0,
-    }
-}
-
 // Processor 1, priority 1, on page 236, running.
 fn first_processor(m: &mut [u8])
     requires { ⌜ length (now m) ≡ 8192 ⌝ }
@@ -72,7 +56,7 @@ fn first_processor(m: &mut [u8])
 {
     let p = ControlPage(236);
     p.store(m, 7, 17);
-    let r = starting_at(2752);
+    let r = Registers::starting_at(2752, 0);
     r.hand_back(m, p);
     write(m, 247, 236);
     runs(m, p);

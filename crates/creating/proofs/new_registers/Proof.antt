@@ -9,4 +9,5 @@ pub new-registers-spec : {M : Type 1} → statement M
 new-registers-spec = tie.close (tie.spec
     (λ c κs. search needs)
     (λ c κs. search needs)
+    (λ c κs. search needs)
     returns)
