@@ -1,0 +1,51 @@
+-- A call that gives this answer and this memory, the answer encoded: one law for every kind of answer.
+use Prim.Native.Nat.{ℕ, _+_, _*_, _<_}
+use native.Mathlib.Omega.{arith}
+use mathlib.Core.Path.{_≡_, ap, _∙_}
+use Rattle.model.specs.declared.Registers.{Registers}
+use Rattle.model.specs.declared.Answer.{Answer}
+use Rattle.model.specs.declared.Held.{Held}
+use Rattle.model.specs.declared.Verdict.{Verdict}
+use Rattle.model.specs.Answer as Answer
+use Rattle.model.specs.Answer.{Outcome, answerOf, memoryOf}
+use Rattle.model.specs.Answer.Outcome.{gives}
+use Rattle.model.specs.Bytes.{Memory}
+use Rattle.host.specs.Encoded as Encoded
+use Rattle.host.specs.Encoded.{encoded, encodedHeld, encodedVerdict, lowPart, packed}
+
+module _ {A : Type 0} (code : A → ℕ) where
+  answers : (o : Outcome A Memory) (a : A) (m : Memory) (r : ℕ) → gives a m ≡ o → r ≡ code a → r ≡ code (answerOf o)
+  unfolding Answer.answerOf
+  answers o a m r g e = e ∙ ap (λ (x : Outcome A Memory). code (answerOf x)) g
+
+pub step-encoded : (o : Outcome Answer Memory) (a : Answer) (m : Memory) (r : ℕ) → gives a m ≡ o → r ≡ encoded a → r ≡ encoded (answerOf o)
+step-encoded = answers encoded
+
+pub step-leaves : (o : Outcome Answer Memory) (a : Answer) (m : Memory) → gives a m ≡ o → m ≡ memoryOf o
+unfolding Answer.memoryOf
+step-leaves o a m g = ap (λ (x : Outcome Answer Memory). memoryOf x) g
+
+pub held-encoded : (o : Outcome Held Memory) (a : Held) (m : Memory) (r : ℕ) → gives a m ≡ o → r ≡ encodedHeld a → r ≡ encodedHeld (answerOf o)
+held-encoded = answers encodedHeld
+
+pub verdict-encoded : (o : Outcome Verdict Memory) (a : Verdict) (m : Memory) (r : ℕ) → gives a m ≡ o → r ≡ encodedVerdict a → r ≡ encodedVerdict (answerOf o)
+verdict-encoded = answers encodedVerdict
+
+pub ruleset encodings = (step-encoded, step-leaves, held-encoded, verdict-encoded)
+
+-- ---- registers, from their values widened
+pub low-is : (r : Registers) (a s p z c : ℕ) → a ≡ r .a → s ≡ r .s → p ≡ r .p → z ≡ r .z → c ≡ r .ci
+    → a * 256 + s * 65536 + p * 16777216 + z * 33554432 + c * 67108864 ≡ lowPart r
+unfolding Encoded.lowPart
+low-is r a s p z c ea es ep ez ec = rw (ea, es, ep, ez, ec)
+
+pub low-below : (a s p z c : ℕ) → a < 65536 → s < 65536 → p < 65536 → z < 65536 → c < 65536
+    → a * 256 + s * 65536 + p * 16777216 + z * 33554432 + c * 67108864 < 8796093022208
+low-below a s p z c ha hs hp hz hc = omega arith
+
+pub packed-is : (r : Registers) (x l w t : ℕ) → x ≡ lowPart r → l ≡ r .lr → w ≡ r .w → t ≡ r .stopped
+    → x + l * 134217728 + w * 1099511627776 + t * 17592186044416 ≡ packed r
+unfolding Encoded.packed
+packed-is r x l w t ex el ew et = rw (ex, el, ew, et)
+
+pub ruleset packing = (low-is, low-below, packed-is)
