@@ -1,0 +1,126 @@
+/* A small weighbridge house: a ledger, a scale reader and a barrier as three virtual processors on one memory. The host loads their program, delivers
+ * the interrupts of a night and prints what the ledger was sent. The program in words is that of examples/harvest-night.script, without its twelve desks.
+ * Build and run: ./host examples/host.c */
+#include <stdio.h>
+#include <stdlib.h>
+#include <string.h>
+
+#include "wik.h"
+
+enum {
+    LEDGER = 1, SCALE = 2, BARRIER = 3,                     /* names; the priorities are 1, 3 and 2 */
+    ON_SCALE = 17, BARRIER_OPEN = 18,                       /* interrupts */
+    LEDGER_AT = 2752, SCALE_AT = 3000, BARRIER_AT = 3200,   /* programs */
+    READING = 3500, OPEN = 3530,                            /* messages that wait to be sent: a length, then the text */
+    ORDER = 3600, ENTRY = 3700                              /* messages as read: sender, flag, length, text */
+};
+
+static uint8_t memory[WIK_WORDS];
+
+/* ---- instructions, written one after the other */
+static unsigned at;
+
+static void word(unsigned value) { memory[at++] = (uint8_t)value; }
+static void code(unsigned number, unsigned field) { word(224); word(number * 16 + field); }
+static void address(unsigned above, unsigned a) { word(above * 32 + a / 256); word(a % 256); }
+
+static void create(unsigned name, unsigned priority, unsigned program) { code(11, name); word(priority * 16); address(0, program); }
+static void start(unsigned name) { code(8, name); }
+static void wait_for_interrupt(unsigned number) { code(3, 0); word(number); word(1); }
+static void send_to(unsigned name, unsigned flag, unsigned message) { code(4, name); address(flag, message); }
+static void wait_for_mail(unsigned name) { code(5, name); word(0); }
+static void read_mail(unsigned name, unsigned to) { code(6, name); address(0, to); }
+static void jump(unsigned to) { code(13, 0); address(4, to); }
+
+static void load(void) {
+    at = LEDGER_AT;
+    create(SCALE, 3, SCALE_AT);
+    create(BARRIER, 2, BARRIER_AT);
+    start(SCALE);
+    start(BARRIER);
+    unsigned books = at;
+    wait_for_mail(SCALE);
+    read_mail(SCALE, ENTRY);
+    jump(books);
+
+    at = SCALE_AT;
+    wait_for_interrupt(ON_SCALE);
+    send_to(LEDGER, 1, READING);
+    send_to(BARRIER, 1, OPEN);
+    jump(SCALE_AT);
+
+    at = BARRIER_AT;
+    wait_for_mail(SCALE);
+    read_mail(SCALE, ORDER);
+    wait_for_interrupt(BARRIER_OPEN);
+    jump(BARRIER_AT);
+}
+
+/* ---- between calls the host writes only page 0 and words that are not protected */
+static void message(unsigned to, const char *text) {
+    size_t n = strlen(text);
+    memory[to] = (uint8_t)n;
+    memcpy(memory + to + 1, text, n);
+}
+
+static void expect(const char *call, uint64_t answer) {
+    if (wik_number(answer) == WIK_DONE) return;
+    fprintf(stderr, "%s: answer %u\n", call, wik_number(answer));
+    exit(1);
+}
+
+static unsigned runner(void) {
+    uint64_t registers = wik_read_registers(memory, sizeof memory);
+    return wik_number(registers) == WIK_DONE ? wik_lr(registers) : 0;
+}
+
+static void print_entry(void) {
+    printf("ledger: from %u, flag %u: %.*s\n", memory[ENTRY], memory[ENTRY + 1], memory[ENTRY + 2], (const char *)memory + ENTRY + 3);
+}
+
+/* Runs until nobody is ready, at most so many instructions; the ledger has read an entry when its jump comes next. */
+static void run(unsigned most) {
+    for (unsigned i = 0; i < most; i++) {
+        uint64_t answer = wik_instruction(memory, sizeof memory);
+        unsigned number = wik_number(answer);
+        if (number == WIK_IDLE) { puts("all wait"); return; }
+        if (number == WIK_WAITS) continue;
+        if (number != WIK_DONE) { printf("answer %u, %u\n", number, wik_first(answer)); exit(1); }
+        if (runner() == LEDGER_AT + 21) print_entry();
+    }
+}
+
+static void truck(const char *reading) {
+    message(READING, reading);
+    printf("scale: %s\n", reading);
+    expect("interrupt", wik_interrupt(memory, sizeof memory, ON_SCALE, 0));
+}
+
+int main(void) {
+    expect("fresh", wik_fresh(memory, sizeof memory, 16, 5));
+    load();
+    message(OPEN, "open");
+    run(100);
+
+    /* a quiet hour: one truck at a time */
+    truck("B-117 18240 kg");
+    run(100);
+    expect("interrupt", wik_interrupt(memory, sizeof memory, BARRIER_OPEN, 0));
+    run(100);
+
+    /* the rush: three trucks before the ledger has read the first; the barrier's motor is slow */
+    truck("K-204 21980 kg");
+    run(6);
+    truck("M-330 17460 kg");
+    run(6);
+    truck("B-118 20115 kg");
+    run(100);
+    expect("interrupt", wik_interrupt(memory, sizeof memory, BARRIER_OPEN, 0));
+    run(100);
+
+    /* a memory that was spoiled from outside is refused, and comes back untouched */
+    memory[243] = 99;
+    printf("a counter out of range: answer %u, judge %u\n", wik_number(wik_instruction(memory, sizeof memory)),
+           wik_number(wik_judge(memory, sizeof memory)));
+    return 0;
+}

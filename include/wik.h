@@ -1,0 +1,100 @@
+/* The kernel for hosts in C: six calls on one memory of 8,192 words, proved in crates/kernel and exported by crates/host.
+ *
+ * Build the archive with `rt staticlib host`; link target/staticlib/libhost.a (x86-64 Linux). `./host FILE.c` does both and runs the program.
+ *
+ * Every call takes any memory of any length and any numbers, answers, and ends. It reads and writes only the words lent to it and keeps nothing
+ * between calls. docs/HOSTS.md says what a host may do between calls.
+ *
+ * ANSWERS. Every call answers with one number of 64 bits (crates/host/specs/Encoded.antt):
+ *   bits 0-7    the number of the answer: WIK_DONE, WIK_WAITS, WIK_HANDED_OUT, a fault 1-12 or a refusal 20-26
+ *   bits 8-23   of WIK_HANDED_OUT the address of the program; of a fault the name of the processor that it stopped
+ *   bits 24-39  of WIK_HANDED_OUT the address of word n+1, or of the arguments
+ * wik_read_registers puts the registers into these bits instead: see there.
+ *
+ * PROMISES, of every call:
+ *   - A refusal leaves every word as it was.
+ *   - A memory whose length is not 8,192 is refused with 20, by every call.
+ *   - A memory that is not well-formed is refused with 21, by every call but wik_fresh. From an accepted wik_fresh on, 21 never comes, as long as the
+ *     host writes only page 0 (words 0-31) and words that are not protected (all but 0-15, 128-351 and 7552-8191).
+ *   - Answer and memory are exactly those of the definitions in crates/model/specs.
+ */
+#ifndef WIK_H
+#define WIK_H
+
+#include <stddef.h>
+#include <stdint.h>
+
+#ifdef __cplusplus
+extern "C" {
+#endif
+
+enum { WIK_WORDS = 8192 };
+
+enum wik_number {
+    WIK_DONE = 0,
+    WIK_WAITS = 60,             /* the processor that ran now waits */
+    WIK_HANDED_OUT = 61,        /* an own code: the host runs its program */
+
+    WIK_ABSENT_CODE = 1,        /* faults: they stop the processor that ran, and enter page 9 while it has room */
+    WIK_EXI_OF_EXI = 2,
+    WIK_CODE_EXISTS = 3,
+    WIK_KEPT_CODE = 4,
+    WIK_BAD_WAIT = 5,
+    WIK_NO_MATCH = 6,
+    WIK_NO_NAME = 7,
+    WIK_NOT_STARTABLE = 8,
+    WIK_NAME_EXISTS = 9,
+    WIK_NOT_STOPPED = 10,
+    WIK_PROTECTED = 11,
+    WIK_BAD_ARGUMENT = 12,
+
+    WIK_WRONG_LENGTH = 20,      /* refusals: nothing has changed */
+    WIK_ILL_FORMED = 21,
+    WIK_IDLE = 22,              /* nobody runs: deliver an interrupt */
+    WIK_NATIVE = 23,            /* the word at LR is not 224: a native instruction, which this kernel does not run */
+    WIK_NO_INTERRUPT = 24,
+    WIK_WRONG_CLASS = 25,
+    WIK_OUT_OF_RANGE = 26
+};
+
+/* The number of an answer, and its two values. */
+static inline unsigned wik_number(uint64_t answer) { return (unsigned)(answer & 255); }
+static inline unsigned wik_first(uint64_t answer) { return (unsigned)(answer >> 8 & 65535); }
+static inline unsigned wik_second(uint64_t answer) { return (unsigned)(answer >> 24 & 65535); }
+
+/* The fresh start, on any memory of 8,192 words: processor 1 runs at 2752, nineteen pages are free. line is the clock's line, 16-47; divider is 1-255.
+ * Answers WIK_DONE; 20; 26 where line or divider is out of range. */
+uint64_t wik_fresh(uint8_t *memory, size_t length, uint16_t line, uint16_t divider);
+
+/* One virtual instruction by the running processor.
+ * Answers WIK_DONE, WIK_WAITS, WIK_HANDED_OUT or a fault; 20; 21; 22; 23. A fault changes nothing but the stopped bit, page 9 and who runs. */
+uint64_t wik_instruction(uint8_t *memory, size_t length);
+
+/* Delivers interrupt number, 16-50, with a class number, which is 0 but for 48-50, where it is 0-31.
+ * Answers WIK_DONE; 20; 21; 24; 25. */
+uint64_t wik_interrupt(uint8_t *memory, size_t length, uint16_t number, uint16_t class_number);
+
+/* The registers of the running processor: bits 8-15 A, 16-23 S, 24 P, 25 Z, 26 CI, 27-39 LR, 40-43 W, 44 the stopped bit.
+ * Answers WIK_DONE in bits 0-7; 20; 21; 22. Changes nothing. */
+uint64_t wik_read_registers(const uint8_t *memory, size_t length);
+
+static inline unsigned wik_a(uint64_t registers) { return (unsigned)(registers >> 8 & 255); }
+static inline unsigned wik_s(uint64_t registers) { return (unsigned)(registers >> 16 & 255); }
+static inline unsigned wik_p(uint64_t registers) { return (unsigned)(registers >> 24 & 1); }
+static inline unsigned wik_z(uint64_t registers) { return (unsigned)(registers >> 25 & 1); }
+static inline unsigned wik_ci(uint64_t registers) { return (unsigned)(registers >> 26 & 1); }
+static inline unsigned wik_lr(uint64_t registers) { return (unsigned)(registers >> 27 & 8191); }
+static inline unsigned wik_w(uint64_t registers) { return (unsigned)(registers >> 40 & 15); }
+
+/* The running processor's registers become these: A and S 0-255, P, Z and CI 0-1, LR 0-8191, W 0-15.
+ * Answers WIK_DONE; 20; 21; 22; 26 where a value is out of range. */
+uint64_t wik_set_registers(uint8_t *memory, size_t length, uint16_t a, uint16_t s, uint16_t p, uint16_t z, uint16_t ci, uint16_t lr, uint16_t w);
+
+/* The judge of well-formed memory. Answers WIK_DONE; 20; 21. Changes nothing. */
+uint64_t wik_judge(const uint8_t *memory, size_t length);
+
+#ifdef __cplusplus
+}
+#endif
+
+#endif
