@@ -10,3 +10,4 @@ pub mod Making
 pub mod Moving
 pub mod Tests
 pub mod Reading
+pub mod Delivering
