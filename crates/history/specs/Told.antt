@@ -3,17 +3,18 @@
 use mathlib.Core.Path.{_≡_, refl, sym, ap, _∙_}
 use mathlib.Core.Logic.{_≢_, _⊎_, inl, inr}
 use mathlib.Core.Bool.{Bool, true, false, cond}
-use mathlib.Core.List.{List, [], _∷_, _++_, append-nil}
+use mathlib.Core.List.{List, [], _∷_, _++_, append-nil, map}
 use Prim.Native.Nat.{ℕ, zero, suc, _+_, _-_, _*_, _/_, _%_, _≤_, _<_}
 use native.Mathlib.Omega.{arith}
 use lib.ListN.{length, getD, set}
 use lib.Dec.{eqb, ltb}
 use borrow.Author.Tests.{ltb-true, eqb-true, eqb-false, eq-eqb, ne-eqb}
+use Rattle.model.specs.Map.{place, q1}
 use Rattle.model.specs.Fault as Fault
 use Rattle.model.specs.Answer as Answer
 use Rattle.model.specs.Answer.{memoryOf}
 use Rattle.model.specs.Processor as Processor
-use Rattle.model.specs.Bytes.{Step, processors, fault, done, jumps, waits, setLr, advance, lr, putToWait, entered, stop, name, running}
+use Rattle.model.specs.Bytes.{Step, processors, queue, fault, done, jumps, waits, setLr, advance, lr, putToWait, entered, stop, name, running}
 use Rattle.model.specs.Lists.{count, Lists, queues}
 use Rattle.laws.specs.Uses.{Sep}
 use Rattle.laws.specs.Inv.{View, Base}
@@ -22,7 +23,7 @@ use Rattle.laws.specs.Words.{either}
 use Rattle.laws.specs.Who.{running-at, running-in, listed}
 use Rattle.laws.specs.Waits.{Fit, wait-base, waits-not}
 use Rattle.history.specs.Order.{only}
-use Rattle.history.specs.Letter.{Letter, key, waitingFor, Same, same-on, posts, waits-same, procs-same}
+use Rattle.history.specs.Letter.{Letter, mailOf, key, waitingFor, Same, same-on, posts, waits-same, procs-same}
 use Rattle.history.specs.Put.{Log, of, Mailed, nothing}
 use Rattle.history.specs.Calm.{calm-low, calm-run, calm-lr, calm-turn, calm-wait, calm-refl}
 
@@ -32,6 +33,10 @@ pub record Told (m m′ : List ℕ) (e : Mailed) : Type 0 where
       → only (key s f) (of p (e .reads) ++ waitingFor m′ p) ≡ only (key s f) (waitingFor m p ++ of p (e .puts))
   -- who is new has nothing
   pub born : (p : ℕ) → count p (processors m) ≡ 0 → 1 ≤ count p (processors m′) → waitingFor m′ p ≡ []
+
+-- what was put stands at the end of Q1, word for word
+pub record Stands (m′ : List ℕ) (e : Mailed) : Type 0 where
+  pub at : (p : ℕ) → 1 ≤ count p (processors m′) → (zs : List Letter) × (map (mailOf m′) (queue m′ (place p q1)) ≡ zs ++ of p (e .puts))
 
 pub of-none : (p : ℕ) → of p [] ≡ []
 unfolding of
@@ -44,6 +49,16 @@ of-here p x = rw (eq-eqb p p refl, of)
 pub of-other : (p r : ℕ) (x : Letter) → p ≢ r → of p ((r, x) ∷ []) ≡ []
 unfolding of
 of-other p r x n = rw (ne-eqb p r n, of)
+
+-- nothing was put
+pub stands-empty : (m′ : List ℕ) (e : Mailed) → e .puts ≡ [] → Stands m′ e
+stands-empty m′ e n = record {
+  at = λ p h.
+      (map (mailOf m′) (queue m′ (place p q1)), rw (n, of-none p) (sym (append-nil (map (mailOf m′) (queue m′ (place p q1))))));
+}
+
+pub stands-none : (m′ : List ℕ) → Stands m′ nothing
+stands-none m′ = stands-empty m′ nothing refl
 
 pub told-same : {m : List ℕ} {ps : List ℕ} {L : Lists} {W : View} {hs : List ℕ} {g : ℕ} → Base m ps L W hs g → (m′ : List ℕ) → Same ps L m m′
     → Told m m′ nothing
