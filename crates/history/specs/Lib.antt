@@ -11,3 +11,4 @@ pub mod Moving
 pub mod Tests
 pub mod Reading
 pub mod Delivering
+pub mod Copied

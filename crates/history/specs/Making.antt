@@ -41,7 +41,7 @@ use Rattle.history.specs.Letter.Ours.{mail, first, next}
 use Rattle.history.specs.Put.{nothing}
 use Rattle.history.specs.Calm.{calm-refl, calm-low, calm-take, calm-only, mine-high, mine-hand, mine-proc}
 use Rattle.history.specs.Told.{Told, of-none, told-same, calm-done, calm-waits, runs-in}
-use Rattle.history.specs.Quiet.{fails}
+use Rattle.history.specs.Quiet.{fails, Open}
 
 -- ---- a page taken
 unfoldable pub left : Taken (List ℕ) → List ℕ
@@ -66,16 +66,29 @@ module _ {m : List ℕ} {ps : List ℕ} {L : Lists} {W : View} {hs : List ℕ} {
           rw (e, z .0, ne-eqb q 0 (omega arith)) (calm-take s (b .mem) q fs f)
 
   -- an unprotected word stays
-  free-word : (q : ℕ) (fs : List ℕ) → L 244 ≡ q ∷ fs → (c : ℕ) → 352 ≤ c → c < 7552 → getD (takeFree m q) c 0 ≡ getD m c 0
+  free-word : (q : ℕ) (fs : List ℕ) → L 244 ≡ q ∷ fs → (c : ℕ) → Open c → getD (takeFree m q) c 0 ≡ getD m c 0
   unfolding Page.takeFree
-  free-word q fs e c l u =
+  free-word q fs e c o =
       let v = (getD m 245 0 + 255) % 256 in
-      leave-frame s (sem-mem s (b .mem) 245 v (page-sem ps)) 244 (in-free ps, grant-low 244 (omega arith)) (omega arith) q [] fs e c (omega arith)
-      (λ y j. let t = good-page y j in omega arith)
-      ∙ other m 245 v c (omega arith)
+      let u = o .below in
+      leave-frame s (sem-mem s (b .mem) 245 v (page-sem ps)) 244 (in-free ps, grant-low 244 (omega arith)) (omega arith) q [] fs e c
+      (o .between 244 (omega arith) (omega arith)) (λ y j. let t = all-pages s 244 y (in-free ps) j in omega arith)
+      ∙ other m 245 v c (o .between 245 (omega arith) (omega arith))
+
+  taken-word : (c : ℕ) → Open c → getD (left (takePage m p)) c 0 ≡ getD m c 0
+  unfolding Page.takePage Page.firstFree left
+  taken-word c o = go (eqb (getD m (320 + n) 0) 0) refl (L 244) refl (chain0 s (b .mem) 244 (in-free ps, grant-low 244 (omega arith)) (omega arith))
     where
-      good-page : (y : ℕ) → 1 ≤ count y (L 244) → Page y
-      good-page y j = all-pages s 244 y (in-free ps) j
+      go : (x : Bool) → eqb (getD m (320 + n) 0) 0 ≡ x → (xs : List ℕ) → L 244 ≡ xs → Chain m 0 244 (L 244) → getD (left (takePage m p)) c 0 ≡ getD m c 0
+      go false e xs f k = rw e (other m (320 + n) 0 c (o .between (320 + n) (omega arith) (omega arith)))
+      go true e [] f k = let z : getD m 244 0 ≡ 0 = rw f at k in rw (e, z)
+      go true e (q ∷ fs) f k =
+          let z = rw f at k in
+          rw (e, z .0, ne-eqb q 0 (omega arith)) (free-word q fs f c o)
+
+  pub takes-word : (q : ℕ) (m1 : List ℕ) → takePage m p ≡ took q m1 → (c : ℕ) → Open c → getD m1 c 0 ≡ getD m c 0
+  unfolding left
+  takes-word q m1 e c o = let k : left (takePage m p) ≡ m1 = rw e in rw k at (taken-word c o)
 
   pub calm-takes : (q : ℕ) (m1 : List ℕ) → takePage m p ≡ took q m1 → Same ps L m m1
   unfolding left

@@ -60,6 +60,29 @@ clear-far a h = go (ltb a 16) (ltb a 128) (ltb a 352) (leb 7552 a) refl refl ref
         let u = leb-false 7552 a j in
         (omega arith, omega arith)
 
+-- where an unprotected word stands
+pub record Open (a : ℕ) : Type 0 where
+  pub above : 16 ≤ a
+  pub below : a < 7552
+  pub between : (b : ℕ) → 128 ≤ b → b < 352 → a ≢ b
+
+pub clear-open : (a : ℕ) → guarded a ≡ false → Open a
+unfolding Address.guarded
+clear-open a h = go (ltb a 16) (ltb a 128) (ltb a 352) (leb 7552 a) refl refl refl refl
+  where
+    go : (x y z t : Bool) → ltb a 16 ≡ x → ltb a 128 ≡ y → ltb a 352 ≡ z → leb 7552 a ≡ t → Open a
+    go true y z t e f i j = let c = rw e at h in let k : _≡_ {A = ℕ} 0 1 = cc in absurd (omega arith)
+    go false true z t e f i j =
+        let l = ltb-false a 16 e in
+        let u = ltb-true a 128 f in
+        record { above = omega arith; below = omega arith; between = λ b c d. omega arith }
+    go false false true t e f i j = let c = rw (e, f, i) at h in let k : _≡_ {A = ℕ} 0 1 = cc in absurd (omega arith)
+    go false false false true e f i j = let c = rw (e, f, i, j) at h in let k : _≡_ {A = ℕ} 0 1 = cc in absurd (omega arith)
+    go false false false false e f i j =
+        let l = ltb-false a 352 i in
+        let u = leb-false 7552 a j in
+        record { above = omega arith; below = omega arith; between = λ b c d. omega arith }
+
 module _ {m : List ℕ} (w : WellFormed m) (d : getD m 248 0 ≢ 0) where
   iv : Inv m (lists m 247) (lists m) (view m)
   iv = invariant w
