@@ -32,7 +32,7 @@ use Rattle.laws.specs.Hands.{in-hand, hand-new, mail-sep}
 use Rattle.laws.specs.Post.{x1, reason-at, note-at, Delivered, deliver-all}
 use Rattle.laws.specs.Mails.{mail-queue}
 use Rattle.laws.specs.Who.{listed}
-use Rattle.history.specs.Letter.{Letter, mailOf, mails-same, letter-sized, map-append, waitingFor}
+use Rattle.history.specs.Letter.{Letter, mailOf, mails-same, letter-sized, map-append, waitingFor, Posts, queue-same, texts-same}
 use Rattle.history.specs.Moving.{Texted, texted-on}
 
 -- Q1 or Q2 as a list of messages
@@ -50,6 +50,12 @@ held-through {m} {m2} {ps} {K} b2 t p w h u v =
     rw (mail-queue b2 p w h u v) (sym (mails-same m2 m (K (p * 32 + w)) (λ x i.
     let f = q-free (b2 .facts .sep) p w x u v h i in
     record { page = f .0; sized = letter-sized b2 p w x h u v i; texts = λ j k l. sym (t .at x (f .0) (f .1) j k l) })))
+
+-- a step that leaves Q1 and Q2 alone leaves them
+pub held-same : {m m′ : List ℕ} {ps : List ℕ} {L : Lists} {W : View} {hs : List ℕ} {g : ℕ} (b : Base m ps L W hs g) → Posts ps L m m′ → (p w : ℕ)
+    → 1 ≤ count p ps → 5 ≤ w → w ≤ 6 → held m′ p w ≡ held m p w
+held-same {m} {m′} {ps} {L} b s p w h u v =
+    rw (queue-same b s p w h u v, mail-queue b p w h u v) (mails-same m m′ (L (p * 32 + w)) (λ x i. texts-same b s p w x h u v i))
 
 -- ---- who wakes leaves the text of every page that is no processor's
 wake-texts : {m : List ℕ} {ps : List ℕ} {L : Lists} {W : View} (s : Sep ps L) → Mem m ps L W → (a p : ℕ) (xs ys : List ℕ) → 1 ≤ count (a + 1) (queues ps)

@@ -12,3 +12,4 @@ pub mod Tests
 pub mod Reading
 pub mod Delivering
 pub mod Copied
+pub mod Sending

@@ -1,0 +1,183 @@
+-- Instructions: SME puts one message, to NI or, if NI doesn't exist, a notice to the sender itself; it stands at the end of Q1 with sender, flag, length and text.
+-- Assumes nothing.
+use mathlib.Core.Path.{_≡_, refl, sym, ap, _∙_}
+use mathlib.Core.Logic.{_≢_, _⊎_, inl, inr}
+use mathlib.Core.Bool.{Bool, true, false, cond}
+use mathlib.Core.List.{List, [], _∷_, _++_, append-nil, map}
+use Prim.Native.Nat.{ℕ, zero, suc, _+_, _-_, _*_, _/_, _%_, _≤_, _<_}
+use native.Mathlib.Omega.{arith}
+use lib.ListN.{length, getD, set}
+use lib.Dec.{eqb, ltb}
+use borrow.Author.Tests.{eqb-true, eqb-false, ne-eqb, ltb-false}
+use Rattle.model.specs.Map.{place, q1}
+use Rattle.model.specs.Address as Address
+use Rattle.model.specs.Address.{guarded, clear}
+use Rattle.model.specs.Queue as Queue
+use Rattle.model.specs.Queue.{first}
+use Rattle.model.specs.Processor as Processor
+use Rattle.model.specs.Mail as Mail
+use Rattle.model.specs.Page.{Taken}
+use Rattle.model.specs.Page.Taken.{took}
+use Rattle.model.specs.Operate as Operate
+use Rattle.model.specs.Answer.{memoryOf}
+use Rattle.model.specs.Bytes as Model
+use Rattle.model.specs.Bytes.{lists, queue, processors, deliver, copy, writeMessage, makeNotice, posted, pageOf, isNamed, takePage, waitsForPage, name, running}
+use Rattle.model.specs.Lists.{count, Lists}
+use Rattle.laws.specs.Count.{hit-self, hit-or}
+use Rattle.laws.specs.Chain.{Page}
+use Rattle.laws.specs.Inv.{View, view, Label, Message, Base, Inv}
+use Rattle.laws.specs.Judged.{WellFormed, invariant}
+use Rattle.laws.specs.Frames.{other, Only, only-copy}
+use Rattle.laws.specs.Views.{put1, put1-same, retold}
+use Rattle.laws.specs.Changes.{hand-page}
+use Rattle.laws.specs.Hands.{in-hand, hand-base}
+use Rattle.laws.specs.Grants.{Gave, Takes, take-page}
+use Rattle.laws.specs.Grants.Takes.{gets, lacks}
+use Rattle.laws.specs.Still.{aside-hand}
+use Rattle.laws.specs.Post.{deliver-all, two, word1, word2, copy-below}
+use Rattle.laws.specs.Who.{running-at, running-in, listed, label-at}
+use Rattle.laws.specs.Mails.{clear-at}
+use Rattle.laws.specs.Simple.{named-in}
+use Rattle.history.specs.Order.{only}
+use Rattle.history.specs.Letter.{Letter, mailOf, words, key, waitingFor, Same, Posts, posts, posts-then, agrees, waits-same, procs-same}
+use Rattle.history.specs.Put.{Mailed, of, nothing, putting, noticeFrom, posting, hasPage, smeMail}
+use Rattle.history.specs.Calm.{calm-only}
+use Rattle.history.specs.Told.{Told, Stands, of-none, of-here, of-other, stands-none, told-same, calm-done, runs-in}
+use Rattle.history.specs.Quiet.{fails, Open, clear-open}
+use Rattle.history.specs.Making.{calm-takes, takes-word, page-waits}
+use Rattle.history.specs.Delivering.{held, held-same, delivered-last, delivered-here, delivered-away, delivered-procs}
+use Rattle.history.specs.Copied.{copy-at, words-moved}
+
+-- the two laws of one call
+pub record Sent (m m′ : List ℕ) (e : Mailed) : Type 0 where
+  pub told : Told m m′ e
+  pub stands : Stands m′ e
+
+-- ---- a page taken from m, then written, then delivered
+module _ {m : List ℕ} {ps : List ℕ} {L : Lists} {W : View} (b : Base m ps L W [] 32) {q : ℕ} {m1 m2 : List ℕ} {K : Lists} {X : View} (s1 : Same ps L m m1)
+    (b1 : Base m1 ps K X (q ∷ []) 32) (o : Only q m1 m2) (p : ℕ) (hp : 1 ≤ count p ps) (letter : Message (getD m2 (q * 32 + 1) 0) (getD m2 (q * 32 + 2) 0))
+    (len : ℕ) where
+  b2 : Base m2 ps K (retold m2 X q) (q ∷ []) 32
+  b2 = hand-base q (in-hand b1) o b1
+
+  t2 : Message (retold m2 X q .note q) (retold m2 X q .reason q)
+  t2 = rw (put1-same (X .note) q (getD m2 (q * 32 + 1) 0) q refl, put1-same (X .reason) q (getD m2 (q * 32 + 2) 0) q refl) letter
+
+  abbrev m3 : List ℕ
+  m3 = deliver m2 p q
+
+  abbrev m4 : List ℕ
+  m4 = memoryOf (Model.done m3 len)
+
+  g3 : Gave m3 ps [] 32 (retold m2 X q)
+  g3 = deliver-all b2 p hp t2 .gave
+
+  d3 : Same ps (g3 .lists) m3 m4
+  d3 = calm-done (g3 .base .facts .sep) m3 (runs-in (g3 .base)) len
+
+  early : (y : ℕ) → 1 ≤ count y ps → waitingFor m2 y ≡ waitingFor m y
+  early y h =
+      waits-same b (posts-then (agrees b (posts s1) b1) (posts s1) (posts (calm-only (b1 .facts .sep) m1 m2 q (aside-hand b1 q (in-hand b1)) o))) y h
+
+  late : (y : ℕ) → 1 ≤ count y ps → waitingFor m4 y ≡ waitingFor m3 y
+  late y h = waits-same (g3 .base) (posts d3) y h
+
+  procs4 : processors m4 ≡ ps
+  procs4 = procs-same (g3 .base) d3
+
+  abbrev x : Letter
+  x = mailOf m2 q
+
+  put-told : Told m m4 (putting ((p, x) ∷ []))
+  put-told = record {
+    at = λ y h i k f. ap (only (key k f)) (rw (of-none y) (cases y (rw (listed b) at h) (hit-or y p)));
+    born = λ y h i. absurd (omega (arith, ap (count y) procs4, ap (count y) (listed b)));
+  }
+    where
+      cases : (y : ℕ) → 1 ≤ count y ps → (y ≡ p) ⊎ (y ≢ p) → waitingFor m4 y ≡ waitingFor m y ++ of y ((p, x) ∷ [])
+      cases y h (inl e) = rw (e, of-here p x) (late p hp ∙ delivered-here b2 p hp t2 ∙ ap (λ (l : List Letter). l ++ x ∷ []) (early p hp))
+      cases y h (inr n) = rw (of-other y p x n, append-nil (waitingFor m y)) (late y h ∙ delivered-away b2 p hp t2 y h n ∙ early y h)
+
+  put-stands : Stands m4 (putting ((p, x) ∷ []))
+  put-stands = record { at = λ y h. cases y (rw procs4 at h) (hit-or y p) }
+    where
+      cases : (y : ℕ) → 1 ≤ count y ps → (y ≡ p) ⊎ (y ≢ p) → (zs : List Letter) × (held m4 y 5 ≡ zs ++ of y ((p, x) ∷ []))
+      cases y h (inl e) =
+          (held m2 p 5, rw (e, of-here p x) (held-same (g3 .base) (posts d3) p 5 hp (omega arith) (omega arith) ∙ delivered-last b2 p hp t2))
+      cases y h (inr n) = (held m4 y 5, rw (of-other y p x n) (sym (append-nil (held m4 y 5))))
+
+  pub put-sent : Sent m m4 (putting ((p, x) ∷ []))
+  put-sent = record { told = put-told; stands = put-stands }
+
+-- ---- what is written
+module _ {m : List ℕ} {ps : List ℕ} {L : Lists} {W : View} {hs : List ℕ} {g q : ℕ} (b : Base m ps L W (q ∷ hs) g) where
+  hq : Page q
+  hq = hand-page b q (in-hand b)
+
+  notice-only : (n f : ℕ) → Only q m (makeNotice m q n f)
+  unfolding Mail.makeNotice
+  notice-only n f = two b (n * 16 + f) 128
+
+  notice-words : (n f : ℕ) → (getD (makeNotice m q n f) (q * 32 + 1) 0 ≡ n * 16 + f) × (getD (makeNotice m q n f) (q * 32 + 2) 0 ≡ 128)
+  unfolding Mail.makeNotice
+  notice-words n f = (word1 b (n * 16 + f) 128, word2 b (n * 16 + f) 128)
+
+  notice-mail : (n f : ℕ) → f ≤ 7 → mailOf (makeNotice m q n f) q ≡ noticeFrom n f
+  unfolding mailOf words
+  notice-mail n f u =
+      let e1 : (n * 16 + f) / 16 ≡ n = omega arith in
+      let e2 : (n * 16 + f) % 16 ≡ f = omega arith in
+      rw (notice-words n f .0, notice-words n f .1, e1, e2)
+
+  notice-letter : (n f : ℕ) → 1 ≤ n → n ≤ 15 → 1 ≤ f → f ≤ 7
+      → Message (getD (makeNotice m q n f) (q * 32 + 1) 0) (getD (makeNotice m q n f) (q * 32 + 2) 0)
+  notice-letter n f i j k l =
+      rw (notice-words n f .0, notice-words n f .1)
+      (record { sender = omega arith; known = omega arith; flag = omega arith; small = omega arith; long = λ z. absurd (z refl) })
+
+  module _ (f a l : ℕ) (f1 : 1 ≤ f) (f2 : f ≤ 7) (l2 : l ≤ 29) (la : a < 8192) where
+    abbrev v : ℕ
+    v = getD m (getD m 248 0 * 32 + 7) 0 % 16 * 16 + f
+
+    abbrev mw : List ℕ
+    mw = set (set m (q * 32 + 1) v) (q * 32 + 2) l
+
+    abbrev mc : List ℕ
+    mc = writeMessage m q f a l
+
+    written-only : Only q m mc
+    unfolding Mail.writeMessage
+    written-only = only-copy l mw a (q * 32 + 3) (omega (arith, hq)) (omega arith) (omega arith) (two b v l)
+
+    written-words : (getD mc (q * 32 + 1) 0 ≡ v) × (getD mc (q * 32 + 2) 0 ≡ l)
+    unfolding Mail.writeMessage
+    written-words = (
+      copy-below l mw a (q * 32 + 3) (q * 32 + 1) (omega arith) (omega (arith, hq)) ∙ word1 b v l,
+      copy-below l mw a (q * 32 + 3) (q * 32 + 2) (omega arith) (omega (arith, hq)) ∙ word2 b v l,
+    )
+
+    written-letter : Label (getD m (getD m 248 0 * 32 + 7) 0) → Message (getD mc (q * 32 + 1) 0) (getD mc (q * 32 + 2) 0)
+    written-letter n =
+        rw (written-words .0, written-words .1)
+        (record { sender = omega (arith, n .name); known = omega arith; flag = omega arith; small = omega arith; long = λ z. l2 })
+
+    -- the text, from words that are on no control page
+    written-text : ((i : ℕ) → i < l → (a + i) % 8192 < 7552) → words mc (q * 32 + 3) l ≡ words m a l
+    unfolding Mail.writeMessage
+    written-text far = words-moved m mc a (q * 32 + 3) l la (omega (arith, hq)) (λ i h.
+        copy-at l mw a (q * 32 + 3) (two b v l .size ∙ b .mem .size) (omega arith) la (omega (arith, hq)) (λ x y hx hy. apart x y hx hy) i h
+        ∙ other (set m (q * 32 + 1) v) (q * 32 + 2) l ((a + i) % 8192) (omega (arith, hq, far i h))
+        ∙ other m (q * 32 + 1) v ((a + i) % 8192) (omega (arith, hq, far i h)))
+      where
+        apart : (x y : ℕ) → x < l → y < l → (a + x) % 8192 ≢ (q * 32 + 3 + y) % 8192
+        apart x y hx hy = let e : (q * 32 + 3 + y) % 8192 ≡ q * 32 + 3 + y = omega (arith, hq) in rw e (omega (arith, hq, far x hx))
+
+    written-mail : ((i : ℕ) → i < l → (a + i) % 8192 < 7552)
+        → mailOf mc q ≡ record { sender = getD m (getD m 248 0 * 32 + 7) 0 % 16; flag = f; size = l; text = words m a l }
+    unfolding mailOf
+    written-mail far =
+        let c = getD m (getD m 248 0 * 32 + 7) 0 % 16 in
+        let e1 : (getD m (getD m 248 0 * 32 + 7) 0 % 16 * 16 + f) / 16 ≡ getD m (getD m 248 0 * 32 + 7) 0 % 16 = omega arith in
+        let e2 : (getD m (getD m 248 0 * 32 + 7) 0 % 16 * 16 + f) % 16 ≡ f = omega arith in
+        let e3 : l % 128 ≡ l = omega arith in
+        rw (written-words .0, written-words .1, e1, e2, e3, written-text far)
