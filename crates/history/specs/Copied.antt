@@ -44,9 +44,9 @@ copy-at (suc n) m a b z l la lb f (suc i) h =
     let d : (a + suc i) % 8192 ≢ b = rw e0 at (f (suc i) 0 h (omega arith)) in
     let ih = copy-at n (set m b (getD m a 0)) ((a + 1) % 8192) ((b + 1) % 8192) (simp length-set z) (omega arith) (sum-below a) (sum-below b)
     (λ x y hx hy.
-        let ex : ((a + 1) % 8192 + x) % 8192 ≡ (a + suc x) % 8192 = next-sum a x in
-        let ey : ((b + 1) % 8192 + y) % 8192 ≡ (b + suc y) % 8192 = next-sum b y in
-        rw (ex, ey) (f (suc x) (suc y) (omega arith) (omega arith))) i (omega arith) in
+    let ex : ((a + 1) % 8192 + x) % 8192 ≡ (a + suc x) % 8192 = next-sum a x in
+    let ey : ((b + 1) % 8192 + y) % 8192 ≡ (b + suc y) % 8192 = next-sum b y in
+    rw (ex, ey) (f (suc x) (suc y) (omega arith) (omega arith))) i (omega arith) in
     rw (ea, eb) at ih ∙ other m b (getD m a 0) ((a + suc i) % 8192) d
 
 -- texts that are equal word for word

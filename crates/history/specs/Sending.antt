@@ -181,3 +181,116 @@ module _ {m : List ℕ} {ps : List ℕ} {L : Lists} {W : View} {hs : List ℕ} {
         let e2 : (getD m (getD m 248 0 * 32 + 7) 0 % 16 * 16 + f) % 16 ≡ f = omega arith in
         let e3 : l % 128 ≡ l = omega arith in
         rw (written-words .0, written-words .1, e1, e2, e3, written-text far)
+
+-- ---- the instruction
+first-same : (f g : ℕ → Bool) (xs : List ℕ) → ((x : ℕ) → 1 ≤ count x xs → f x ≡ g x) → first f xs ≡ first g xs
+unfolding Queue.first
+first-same f g [] h = refl
+first-same f g (z ∷ zs) h = go (g z) refl (h z (omega (arith, hit-self z))) (first-same f g zs (λ y i. h y (omega arith)))
+  where
+    go : (c : Bool) → g z ≡ c → f z ≡ g z → first f zs ≡ first g zs → first f (z ∷ zs) ≡ first g (z ∷ zs)
+    go true e k ih = let e2 = k ∙ e in rw (e, e2, Queue.first)
+    go false e k ih = let e2 = k ∙ e in rw (e, e2, Queue.first) ih
+
+module _ {m : List ℕ} (w : WellFormed m) (d : getD m 248 0 ≢ 0) where
+  iv : Inv m (lists m 247) (lists m) (view m)
+  iv = invariant w
+
+  b : Base m (lists m 247) (lists m) (view m) [] 32
+  b = iv .base
+
+  abbrev r : ℕ
+  r = getD m 248 0
+
+  hr : 1 ≤ count r (lists m 247)
+  hr = running-in b d
+
+  quiet-sent : (m′ : List ℕ) → Same (lists m 247) (lists m) m m′ → Sent m m′ nothing
+  quiet-sent m′ s = record { told = told-same b m′ s; stands = stands-none m′ }
+
+  fault-sent : (f : ℕ) → Sent m (memoryOf (Model.fault m f)) nothing
+  fault-sent f = quiet-sent (memoryOf (Model.fault m f)) (fails w d f)
+
+  -- page q is taken
+  module _ (q : ℕ) (m1 : List ℕ) (e : takePage m r ≡ took q m1) (t : Gave m1 (lists m 247) (q ∷ []) 32 (view m)) (k : t .view .label ≡ view m .label) where
+    s1 : Same (lists m 247) (lists m) m m1
+    s1 = calm-takes b r hr q m1 e
+
+    run1 : getD m1 248 0 ≡ getD m 248 0
+    run1 = running-at (t .base) ∙ ap (λ (z : ℕ → ℕ). z 248) (t .low)
+
+    in1 : 1 ≤ count (getD m1 248 0) (lists m 247)
+    in1 = rw run1 hr
+
+    label1 : (p : ℕ) → 1 ≤ count p (lists m 247) → getD m1 (p * 32 + 7) 0 ≡ getD m (p * 32 + 7) 0
+    label1 p h = label-at (t .base) p h ∙ ap (λ (z : ℕ → ℕ). z p) k
+
+    page1 : (n : ℕ) → pageOf m1 n ≡ pageOf m n
+    unfolding Processor.isNamed
+    page1 n =
+        rw (listed (t .base), listed b) (first-same (isNamed m1 n) (isNamed m n) (lists m 247) (λ p h. rw (label1 p h)))
+
+    named : Label (getD m1 (getD m1 248 0 * 32 + 7) 0)
+    named = rw (label-at (t .base) (getD m1 248 0) in1) (t .base .facts .names .range (getD m1 248 0) in1)
+
+    notice-sent : (n f len : ℕ) → 1 ≤ n → n ≤ 15 → 1 ≤ f → f ≤ 7
+        → Sent m (memoryOf (Model.done (deliver (makeNotice m1 q n f) (getD m1 248 0) q) len)) (putting ((getD m 248 0, noticeFrom n f) ∷ []))
+    notice-sent n f len n1 n2 f1 f2 =
+        let h = put-sent b s1 (t .base) (notice-only (t .base) n f) (getD m1 248 0) in1 (notice-letter (t .base) n f n1 n2 f1 f2) len in
+        rw run1 (rw (run1, notice-mail (t .base) n f f2) at h)
+
+    message-sent : (f a l p len : ℕ) → 1 ≤ f → f ≤ 7 → l ≤ 29 → a < 8192 → 1 ≤ count p (lists m 247) → clear l a ≡ true
+        → Sent m (memoryOf (Model.done (deliver (writeMessage m1 q f a l) p q) len))
+        (putting ((p, record { sender = getD m (getD m 248 0 * 32 + 7) 0 % 16; flag = f; size = l; text = words m a l }) ∷ []))
+    message-sent f a l p len f1 f2 l2 la hp c =
+        let o : (i : ℕ) → i < l → Open ((a + i) % 8192) = λ i h. clear-open ((a + i) % 8192) (clear-at l a c i h) in
+        let tx : words m1 a l ≡ words m a l = words-moved m m1 a a l la la (λ i h. takes-word b r hr q m1 e ((a + i) % 8192) (o i h)) in
+        let lb : getD m1 (getD m1 248 0 * 32 + 7) 0 ≡ getD m (getD m 248 0 * 32 + 7) 0 = label1 (getD m1 248 0) in1 ∙ ap (λ (z : ℕ). getD m (z * 32 + 7) 0) run1 in
+        let wm = written-mail (t .base) f a l f1 f2 l2 la (λ i h. o i h .below) in
+        let h = put-sent b s1 (t .base) (written-only (t .base) f a l f1 f2 l2 la) p hp (written-letter (t .base) f a l f1 f2 l2 la named) len in
+        rw (wm, lb, tx) at h
+
+    posted-sent : (n f a len : ℕ) → 1 ≤ n → n ≤ 15 → 1 ≤ f → f ≤ 7 → getD m a 0 ≤ 29 → clear (getD m a 0) ((a + 1) % 8192) ≡ true
+        → Sent m (memoryOf (Model.done (posted m1 q n f a (getD m a 0)) len)) (putting (posting m n f a ∷ []))
+    unfolding Operate.posted posting
+    posted-sent n f a len n1 n2 f1 f2 l2 c = go (eqb (pageOf m n) 0) refl
+      where
+        go : (x : Bool) → eqb (pageOf m n) 0 ≡ x → Sent m (memoryOf (Model.done (posted m1 q n f a (getD m a 0)) len)) (putting (posting m n f a ∷ []))
+        go true z = rw (page1 n, z) (notice-sent n f len n1 n2 f1 f2)
+        go false z =
+            rw (page1 n, z) (message-sent f ((a + 1) % 8192) (getD m a 0) (pageOf m n) len f1 f2 l2 (omega arith)
+            (named-in b n (eqb-false (pageOf m n) 0 z)) c)
+
+  to-sent : (n f a len : ℕ) → 1 ≤ n → n ≤ 15 → 1 ≤ f → f ≤ 7 → getD m a 0 ≤ 29 → clear (getD m a 0) ((a + 1) % 8192) ≡ true
+      → Sent m (memoryOf (Model.sent m n f a (getD m a 0) len)) (cond (hasPage (takePage m (running m))) (putting (posting m n f a ∷ [])) nothing)
+  unfolding Operate.sent hasPage
+  to-sent n f a len n1 n2 f1 f2 l2 c = go (take-page r hr b)
+    where
+      go : Takes m r (lists m 247) (lists m) (view m) [] 32
+          → Sent m (memoryOf (Model.sent m n f a (getD m a 0) len)) (cond (hasPage (takePage m (running m))) (putting (posting m n f a ∷ [])) nothing)
+      go (gets q m1 e z t k) = rw (e, ne-eqb q 0 z) (posted-sent q m1 e t k n f a len n1 n2 f1 f2 l2 c)
+      go (lacks e f3 g3) = rw e (quiet-sent (memoryOf (waitsForPage m)) (page-waits w d f3 g3))
+
+  sme-sent : (n f a len : ℕ) → n < 16 → f < 8 → Sent m (memoryOf (Model.sme m n f a len)) (smeMail m n f a)
+  unfolding Operate.sme Operate.smeText smeMail
+  sme-sent n f a len hn hf =
+      go (eqb n 0) (eqb f 0) (guarded a) (ltb 29 (getD m a 0)) (clear (getD m a 0) ((a + 1) % 8192)) refl refl refl refl refl
+    where
+      go : (x1 x2 x3 x4 x5 : Bool) → eqb n 0 ≡ x1 → eqb f 0 ≡ x2 → guarded a ≡ x3 → ltb 29 (getD m a 0) ≡ x4 → clear (getD m a 0) ((a + 1) % 8192) ≡ x5
+          → Sent m (memoryOf (Model.sme m n f a len)) (smeMail m n f a)
+      go true x2 x3 x4 x5 e1 e2 e3 e4 e5 = rw e1 (fault-sent 12)
+      go false true x3 x4 x5 e1 e2 e3 e4 e5 = rw (e1, e2) (fault-sent 12)
+      go false false true x4 x5 e1 e2 e3 e4 e5 = rw (e1, e2, e3) (fault-sent 11)
+      go false false false true x5 e1 e2 e3 e4 e5 = rw (e1, e2, e3, e4) (fault-sent 12)
+      go false false false false false e1 e2 e3 e4 e5 = rw (e1, e2, e3, e4, e5) (fault-sent 11)
+      go false false false false true e1 e2 e3 e4 e5 =
+          let n1 = eqb-false n 0 e1 in
+          let f1 = eqb-false f 0 e2 in
+          let l1 = ltb-false 29 (getD m a 0) e4 in
+          rw (e1, e2, e3, e4, e5) (to-sent n f a len (omega arith) (omega arith) (omega arith) (omega arith) (omega arith) e5)
+
+  pub sme-told : (n f a len : ℕ) → n < 16 → f < 8 → Told m (memoryOf (Model.sme m n f a len)) (smeMail m n f a)
+  sme-told n f a len hn hf = sme-sent n f a len hn hf .told
+
+  pub sme-stands : (n f a len : ℕ) → n < 16 → f < 8 → Stands (memoryOf (Model.sme m n f a len)) (smeMail m n f a)
+  sme-stands n f a len hn hf = sme-sent n f a len hn hf .stands
