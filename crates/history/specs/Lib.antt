@@ -13,3 +13,4 @@ pub mod Reading
 pub mod Delivering
 pub mod Copied
 pub mod Sending
+pub mod Went

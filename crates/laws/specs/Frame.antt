@@ -29,14 +29,14 @@ pub record Unmoved (r a : ℕ) : Type 0 where
   pub zero : (i : ℕ) → i < 19 → a ≢ zeroPlace i
   pub kept : (i : ℕ) → i < 19 → a ≢ r * 32 + (13 + i)
 
-kept-frame : (n : ℕ) (m : List ℕ) (p : ℕ) (w : List ℕ) (a : ℕ) → n ≤ 19 → ((i : ℕ) → i < 19 → a ≢ p * 32 + (13 + i))
+pub kept-frame : (n : ℕ) (m : List ℕ) (p : ℕ) (w : List ℕ) (a : ℕ) → n ≤ 19 → ((i : ℕ) → i < 19 → a ≢ p * 32 + (13 + i))
     → getD (Model.kept n m p w) a 0 ≡ getD m a 0
 unfolding Turn.kept
 kept-frame zero m p w a l f = refl
 kept-frame (suc n) m p w a l f =
     kept-frame n (set m (p * 32 + (13 + n)) (getD w n 0)) p w a (omega arith) f ∙ other m (p * 32 + (13 + n)) (getD w n 0) a (f n (omega arith))
 
-restored-frame : (n : ℕ) (m : List ℕ) (w : List ℕ) (a : ℕ) → n ≤ 19 → ((i : ℕ) → i < 19 → a ≢ zeroPlace i) → getD (Model.restored n m w) a 0 ≡ getD m a 0
+pub restored-frame : (n : ℕ) (m : List ℕ) (w : List ℕ) (a : ℕ) → n ≤ 19 → ((i : ℕ) → i < 19 → a ≢ zeroPlace i) → getD (Model.restored n m w) a 0 ≡ getD m a 0
 unfolding Turn.restored
 restored-frame zero m w a l f = refl
 restored-frame (suc n) m w a l f =

@@ -1,0 +1,190 @@
+-- Who runs: "On a change page 0's words are saved to the old page, then loaded from the new." Where a word stands for the one that ran, and that it holds
+-- what it held before the change. Assumes nothing.
+use mathlib.Core.Path.{_≡_, refl, sym, ap, _∙_}
+use mathlib.Core.Logic.{_≢_, _⊎_, inl, inr}
+use mathlib.Core.Bool.{Bool, true, false, cond}
+use mathlib.Core.List.{List, [], _∷_}
+use Prim.Native.Nat.{ℕ, zero, suc, _+_, _-_, _*_, _/_, _%_, _≤_, _<_}
+use native.Mathlib.Omega.{arith}
+use lib.ListN.{length, getD, set, length-set}
+use lib.Seq.{getD-set-same}
+use lib.Dec.{eqb, ltb}
+use borrow.Author.Tests.{eqb-true, eqb-false, eq-eqb, ne-eqb}
+use Rattle.model.specs.Map.{place, zeroPlace, keeps, keptCount}
+use Rattle.model.specs.Turn as Turn
+use Rattle.model.specs.Turn.{nineteen}
+use Rattle.model.specs.Processor as Processor
+use Rattle.model.specs.Answer as Answer
+use Rattle.model.specs.Answer.{memoryOf}
+use Rattle.model.specs.Bytes as Model
+use Rattle.model.specs.Bytes.{whoRuns, save, load, onPage0, keptOn, kept, restored, chosen, running, setLr, lr, done}
+use Rattle.laws.specs.Count.{hit-or}
+use Rattle.laws.specs.Chain.{Page}
+use Rattle.laws.specs.Frames.{other}
+use Rattle.laws.specs.Words.{either}
+use Rattle.laws.specs.Who.{zero-low}
+use Rattle.laws.specs.Frame.{Unmoved, kept-frame, restored-frame, turn-frame}
+
+-- where the word of address c stands for the processor of page r while another runs: the first n of the nineteen words of page 0 on page r, every other in place
+unfoldable pub keptAt : ℕ → ℕ → ℕ → ℕ
+keptAt zero r c = c
+keptAt (suc n) r c = elim (eqb c (zeroPlace n)) [ true ↦ place r (keeps n) | false ↦ keptAt n r c ]
+
+-- where it stands in the memory m
+unfoldable pub wentTo : List ℕ → ℕ → ℕ → ℕ
+wentTo m r c = cond (eqb (running m) r) c (keptAt keptCount r c)
+
+-- ---- one of the nineteen, or none
+pub data Home (n r c : ℕ) : Type 0 where
+  hit : (i : ℕ) → i < n → c ≡ zeroPlace i → keptAt n r c ≡ r * 32 + (13 + i) → Home n r c
+  miss : ((i : ℕ) → i < n → c ≢ zeroPlace i) → keptAt n r c ≡ c → Home n r c
+
+home : (n r c : ℕ) → Home n r c
+unfolding keptAt
+home zero r c = miss (λ i h. absurd (omega arith)) refl
+home (suc n) r c = go (eqb c (zeroPlace n)) refl (home n r c)
+  where
+    off : ((i : ℕ) → i < n → c ≢ zeroPlace i) → eqb c (zeroPlace n) ≡ false → (i : ℕ) → i < suc n → (i ≡ n) ⊎ (i ≢ n) → c ≢ zeroPlace i
+    off f e i h (inl z) = rw z (eqb-false c (zeroPlace n) e)
+    off f e i h (inr z) = f i (omega arith)
+
+    go : (x : Bool) → eqb c (zeroPlace n) ≡ x → Home n r c → Home (suc n) r c
+    go true e k = hit n (omega arith) (eqb-true c (zeroPlace n) e) (rw (e, keptAt))
+    go false e (hit i h z k) = let q : keptAt (suc n) r c ≡ keptAt n r c = rw (e, keptAt) in hit i (omega arith) z (q ∙ k)
+    go false e (miss f k) = let q : keptAt (suc n) r c ≡ keptAt n r c = rw (e, keptAt) in miss (λ i h. off f e i h (hit-or i n)) (q ∙ k)
+
+-- ---- what is saved
+pub kept-size : (n : ℕ) (m : List ℕ) (p : ℕ) (w : List ℕ) → length (kept n m p w) ≡ length m
+unfolding Turn.kept
+kept-size zero m p w = refl
+kept-size (suc n) m p w = kept-size n (set m (p * 32 + (13 + n)) (getD w n 0)) p w ∙ (simp length-set refl)
+
+restored-size : (n : ℕ) (m : List ℕ) (w : List ℕ) → length (restored n m w) ≡ length m
+unfolding Turn.restored
+restored-size zero m w = refl
+restored-size (suc n) m w = restored-size n (set m (zeroPlace n) (getD w n 0)) w ∙ (simp length-set refl)
+
+kept-past : (n : ℕ) (m : List ℕ) (p : ℕ) (w : List ℕ) → (i : ℕ) → n ≤ i → getD (kept n m p w) (p * 32 + (13 + i)) 0 ≡ getD m (p * 32 + (13 + i)) 0
+unfolding Turn.kept
+kept-past zero m p w i h = refl
+kept-past (suc n) m p w i h =
+    kept-past n (set m (p * 32 + (13 + n)) (getD w n 0)) p w i (omega arith)
+    ∙ other m (p * 32 + (13 + n)) (getD w n 0) (p * 32 + (13 + i)) (omega arith)
+
+kept-at : (n : ℕ) (m : List ℕ) (p : ℕ) (w : List ℕ) → length m ≡ 8192 → p < 256 → n ≤ 19 → (i : ℕ) → i < n
+    → getD (kept n m p w) (p * 32 + (13 + i)) 0 ≡ getD w i 0
+unfolding Turn.kept
+kept-at zero m p w z l u i h = absurd (omega arith)
+kept-at (suc n) m p w z l u i h = go (hit-or i n) (kept-at n (set m (p * 32 + (13 + n)) (getD w n 0)) p w (simp length-set z) l (omega arith) i)
+  where
+    go : (i ≡ n) ⊎ (i ≢ n) → (i < n → getD (kept n (set m (p * 32 + (13 + n)) (getD w n 0)) p w) (p * 32 + (13 + i)) 0 ≡ getD w i 0)
+        → getD (kept n (set m (p * 32 + (13 + n)) (getD w n 0)) p w) (p * 32 + (13 + i)) 0 ≡ getD w i 0
+    go (inl e) ih =
+        rw e (kept-past n (set m (p * 32 + (13 + n)) (getD w n 0)) p w n (omega arith) ∙ getD-set-same m (p * 32 + (13 + n)) (getD w n 0) 0 (omega arith))
+    go (inr e) ih = ih (omega arith)
+
+-- a list is f k, f (k + 1) and so on
+abbrev Tabled : (ℕ → ℕ) → ℕ → List ℕ → Type 0
+Tabled f k [] = Unit {0}
+Tabled f k (x ∷ xs) = (x ≡ f k) × Tabled f (k + 1) xs
+
+tabled-at : (f : ℕ → ℕ) (k : ℕ) (xs : List ℕ) → Tabled f k xs → (i : ℕ) → i < length xs → getD xs i 0 ≡ f (k + i)
+tabled-at f k [] t i h = absurd (omega arith)
+tabled-at f k (x ∷ xs) t zero h = let e : k + 0 ≡ k = omega arith in rw e (t .0)
+tabled-at f k (x ∷ xs) t (suc i) h =
+    let e : k + 1 + i ≡ k + suc i = omega arith in
+    rw e at (tabled-at f (k + 1) xs (t .1) i (omega arith))
+
+nineteen-at : (f : ℕ → ℕ) (i : ℕ) → i < 19 → getD (nineteen f) i 0 ≡ f i
+nineteen-at f i h =
+    let e : 0 + i ≡ i = omega arith in
+    rw e at (tabled-at f 0 (nineteen f)
+    (refl, (refl, (refl, (refl, (refl, (refl, (refl, (refl, (refl, (refl, (refl, (refl, (refl, (refl, (refl, (refl, (refl, (refl, (refl, tt)))))))))))))))))))
+    i h)
+
+-- ---- who runs
+module _ (m : List ℕ) (z : length m ≡ 8192) (g : Page (getD m 248 0)) where
+  abbrev r : ℕ
+  r = getD m 248 0
+
+  abbrev t : ℕ
+  t = chosen m
+
+  abbrev m1 : List ℕ
+  m1 = save m r
+
+  abbrev m2 : List ℕ
+  m2 = load m1 t
+
+  abbrev m3 : List ℕ
+  m3 = set (set m2 248 t) 249 (cond (eqb t 0) 0 (getD m2 (t * 32 + 7) 0))
+
+  turn-stays : eqb r t ≡ true → whoRuns m ≡ m
+  unfolding Turn.whoRuns Turn.switch
+  turn-stays e = rw e
+
+  turn-new : eqb r t ≡ false → whoRuns m ≡ m3
+  unfolding Turn.whoRuns Turn.switch Turn.runs
+  turn-new e = rw e
+
+  size2 : length m2 ≡ 8192
+  unfolding Turn.save Turn.load
+  size2 =
+      let s1 : length (save m r) ≡ 8192 = either (λ (x : List ℕ). length x ≡ 8192) (eqb r 0) z (kept-size 19 m r (onPage0 m) ∙ z) in
+      either (λ (x : List ℕ). length x ≡ 8192) (eqb t 0) s1 (restored-size 19 m1 (keptOn m1 t) ∙ s1)
+
+  run-new : getD m3 248 0 ≡ t
+  run-new = other (set m2 248 t) 249 (cond (eqb t 0) 0 (getD m2 (t * 32 + 7) 0)) 248 (omega arith) ∙ getD-set-same m2 248 t 0 (omega (arith, size2))
+
+  saved1 : (i : ℕ) → i < 19 → getD m1 (r * 32 + (13 + i)) 0 ≡ getD m (zeroPlace i) 0
+  unfolding Turn.save Turn.onPage0
+  saved1 i h =
+      rw (ne-eqb r 0 (omega (arith, g))) (kept-at 19 m r (onPage0 m) z (omega (arith, g)) (omega arith) i h
+      ∙ nineteen-at (λ j. getD m (zeroPlace j) 0) i h)
+
+  saved2 : (i : ℕ) → i < 19 → getD m2 (r * 32 + (13 + i)) 0 ≡ getD m1 (r * 32 + (13 + i)) 0
+  unfolding Turn.load
+  saved2 i h =
+      either (λ (x : List ℕ). getD x (r * 32 + (13 + i)) 0 ≡ getD m1 (r * 32 + (13 + i)) 0) (eqb t 0) refl
+      (restored-frame 19 m1 (keptOn m1 t) (r * 32 + (13 + i)) (omega arith) (λ j k. let l = zero-low j k in omega (arith, g)))
+
+  saved : (i : ℕ) → i < 19 → getD m3 (r * 32 + (13 + i)) 0 ≡ getD m (zeroPlace i) 0
+  saved i h =
+      other (set m2 248 t) 249 (cond (eqb t 0) 0 (getD m2 (t * 32 + 7) 0)) (r * 32 + (13 + i)) (omega (arith, g))
+      ∙ other m2 248 t (r * 32 + (13 + i)) (omega (arith, g)) ∙ saved2 i h ∙ saved1 i h
+
+  module _ (c : ℕ) (l : c < 7552) (n8 : c ≢ 248) (n9 : c ≢ 249) where
+    went-stays : whoRuns m ≡ m → getD (whoRuns m) (wentTo (whoRuns m) (getD m 248 0) c) 0 ≡ getD m c 0
+    unfolding wentTo
+    went-stays e = rw (e, eq-eqb (getD m 248 0) (getD m 248 0) refl)
+
+    went-home : whoRuns m ≡ m3 → Home 19 r c → getD m3 (keptAt 19 r c) 0 ≡ getD m c 0
+    went-home e (hit i h q k) = rw k (saved i h ∙ ap (λ (y : ℕ). getD m y 0) (sym q))
+    went-home e (miss f k) = rw k (rw e at (turn-frame m c (record { page = n8; label = n9; zero = f; kept = λ i h. omega (arith, g) })))
+
+    went-new : eqb r t ≡ false → getD (whoRuns m) (wentTo (whoRuns m) (getD m 248 0) c) 0 ≡ getD m c 0
+    unfolding wentTo
+    went-new e =
+        let d = eqb-false r t e in
+        rw (turn-new e, run-new, ne-eqb t r (λ q. d (sym q))) (went-home (turn-new e) (home 19 r c))
+
+    pub turn-went : getD (whoRuns m) (wentTo (whoRuns m) (getD m 248 0) c) 0 ≡ getD m c 0
+    turn-went = go (eqb r t) refl
+      where
+        go : (x : Bool) → eqb r t ≡ x → getD (whoRuns m) (wentTo (whoRuns m) (getD m 248 0) c) 0 ≡ getD m c 0
+        go true e = went-stays (turn-stays e)
+        go false e = went-new e
+
+-- ---- an instruction that is done
+pub done-went : (m : List ℕ) → length m ≡ 8192 → Page (getD m 248 0) → (len c : ℕ) → c < 7552 → c ≢ 248 → c ≢ 249
+    → getD (memoryOf (done m len)) (wentTo (memoryOf (done m len)) (getD m 248 0) c) 0 ≡ getD m c 0
+unfolding Answer.done Answer.memoryOf Processor.advance Processor.setLr
+done-went m z g len c l n8 n9 =
+    let r = getD m 248 0 in
+    let a = (lr m + len) % 8192 in
+    let v = getD m (r * 32 + 10) 0 / 32 * 32 + a / 256 % 32 in
+    let y = set m (r * 32 + 10) v in
+    let x = set y (r * 32 + 11) (a % 256) in
+    let run : getD x 248 0 ≡ getD m 248 0 = other y (r * 32 + 11) (a % 256) 248 (omega arith) ∙ other m (r * 32 + 10) v 248 (omega arith) in
+    let h = turn-went x (simp length-set z) (rw run g) c l n8 n9 in
+    rw run at h ∙ other y (r * 32 + 11) (a % 256) c (omega (arith, g)) ∙ other m (r * 32 + 10) v c (omega (arith, g))
