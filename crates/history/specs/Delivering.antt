@@ -1,14 +1,14 @@
--- A message in hand, delivered to the processor of page p: it stands at the end of Q1 of p, behind all that waits for p, and for every other processor all stays
--- as it was, word for word. Assumes nothing.
+-- A message in hand, delivered to the processor of page p: it stands at the end of Q1 of p, behind all that waits for p; for every other processor all stays as
+-- it was, word for word. Assumes nothing.
 use mathlib.Core.Path.{_≡_, refl, sym, ap, _∙_}
-use mathlib.Core.Logic.{_≢_, _⊎_, inl, inr}
+use mathlib.Core.Logic.{_≢_}
 use mathlib.Core.Bool.{Bool, true, false}
 use mathlib.Core.List.{List, [], _∷_, _++_, append-assoc, map}
-use Prim.Native.Nat.{ℕ, zero, suc, _+_, _-_, _*_, _/_, _%_, _≤_, _<_}
+use Prim.Native.Nat.{ℕ, _+_, _-_, _*_, _/_, _%_, _≤_, _<_}
 use native.Mathlib.Omega.{arith}
-use lib.ListN.{length, getD, set}
+use lib.ListN.{getD, set}
 use borrow.Author.Tests.{ne-eqb}
-use Rattle.model.specs.Map.{place, q1, q2}
+use Rattle.model.specs.Map.{place, q1}
 use Rattle.model.specs.Wait as Wait
 use Rattle.model.specs.Mail as Mail
 use Rattle.model.specs.Mail.{fits}

@@ -14,3 +14,4 @@ pub mod Delivering
 pub mod Copied
 pub mod Sending
 pub mod Went
+pub mod Written

@@ -1,34 +1,31 @@
--- Instructions: SME puts one message, to NI or, if NI doesn't exist, a notice to the sender itself; it stands at the end of Q1 with sender, flag, length and text.
--- Assumes nothing.
+-- Instructions: SME puts one message, to NI or, if NI doesn't exist, a notice to the sender itself; it stands at the end of Q1 with its sender, flag, length
+-- and text. Assumes nothing.
 use mathlib.Core.Path.{_≡_, refl, sym, ap, _∙_}
 use mathlib.Core.Logic.{_≢_, _⊎_, inl, inr}
 use mathlib.Core.Bool.{Bool, true, false, cond}
-use mathlib.Core.List.{List, [], _∷_, _++_, append-nil, map}
-use Prim.Native.Nat.{ℕ, zero, suc, _+_, _-_, _*_, _/_, _%_, _≤_, _<_}
+use mathlib.Core.List.{List, [], _∷_, _++_, append-nil}
+use Prim.Native.Nat.{ℕ, _+_, _-_, _*_, _/_, _%_, _≤_, _<_}
 use native.Mathlib.Omega.{arith}
 use lib.ListN.{length, getD, set}
 use lib.Dec.{eqb, ltb}
-use borrow.Author.Tests.{eqb-true, eqb-false, ne-eqb, ltb-false}
-use Rattle.model.specs.Map.{place, q1}
-use Rattle.model.specs.Address as Address
+use borrow.Author.Tests.{eqb-false, ne-eqb, ltb-false}
 use Rattle.model.specs.Address.{guarded, clear}
 use Rattle.model.specs.Queue as Queue
 use Rattle.model.specs.Queue.{first}
 use Rattle.model.specs.Processor as Processor
 use Rattle.model.specs.Mail as Mail
-use Rattle.model.specs.Page.{Taken}
 use Rattle.model.specs.Page.Taken.{took}
 use Rattle.model.specs.Operate as Operate
 use Rattle.model.specs.Answer.{memoryOf}
 use Rattle.model.specs.Bytes as Model
-use Rattle.model.specs.Bytes.{lists, queue, processors, deliver, copy, writeMessage, makeNotice, posted, pageOf, isNamed, takePage, waitsForPage, name, running}
+use Rattle.model.specs.Bytes.{lists, processors, deliver, writeMessage, makeNotice, posted, pageOf, isNamed, takePage, waitsForPage, name, running}
 use Rattle.model.specs.Lists.{count, Lists}
 use Rattle.laws.specs.Count.{hit-self, hit-or}
 use Rattle.laws.specs.Chain.{Page}
 use Rattle.laws.specs.Inv.{View, view, Label, Message, Base, Inv}
 use Rattle.laws.specs.Judged.{WellFormed, invariant}
 use Rattle.laws.specs.Frames.{other, Only, only-copy}
-use Rattle.laws.specs.Views.{put1, put1-same, retold}
+use Rattle.laws.specs.Views.{put1-same, retold}
 use Rattle.laws.specs.Changes.{hand-page}
 use Rattle.laws.specs.Hands.{in-hand, hand-base}
 use Rattle.laws.specs.Grants.{Gave, Takes, take-page}
@@ -39,13 +36,13 @@ use Rattle.laws.specs.Who.{running-at, running-in, listed, label-at}
 use Rattle.laws.specs.Mails.{clear-at}
 use Rattle.laws.specs.Simple.{named-in}
 use Rattle.history.specs.Order.{only}
-use Rattle.history.specs.Letter.{Letter, mailOf, words, key, waitingFor, Same, Posts, posts, posts-then, agrees, waits-same, procs-same}
+use Rattle.history.specs.Letter.{Letter, mailOf, words, key, waitingFor, Same, posts, posts-then, agrees, waits-same, procs-same}
 use Rattle.history.specs.Put.{Mailed, of, nothing, putting, noticeFrom, posting, hasPage, smeMail}
 use Rattle.history.specs.Calm.{calm-only}
 use Rattle.history.specs.Told.{Told, Stands, of-none, of-here, of-other, stands-none, told-same, calm-done, runs-in}
 use Rattle.history.specs.Quiet.{fails, Open, clear-open}
 use Rattle.history.specs.Making.{calm-takes, takes-word, page-waits}
-use Rattle.history.specs.Delivering.{held, held-same, delivered-last, delivered-here, delivered-away, delivered-procs}
+use Rattle.history.specs.Delivering.{held, held-same, delivered-last, delivered-here, delivered-away}
 use Rattle.history.specs.Copied.{copy-at, words-moved}
 
 -- the two laws of one call
@@ -245,7 +242,8 @@ module _ {m : List ℕ} (w : WellFormed m) (d : getD m 248 0 ≢ 0) where
     message-sent f a l p len f1 f2 l2 la hp c =
         let o : (i : ℕ) → i < l → Open ((a + i) % 8192) = λ i h. clear-open ((a + i) % 8192) (clear-at l a c i h) in
         let tx : words m1 a l ≡ words m a l = words-moved m m1 a a l la la (λ i h. takes-word b r hr q m1 e ((a + i) % 8192) (o i h)) in
-        let lb : getD m1 (getD m1 248 0 * 32 + 7) 0 ≡ getD m (getD m 248 0 * 32 + 7) 0 = label1 (getD m1 248 0) in1 ∙ ap (λ (z : ℕ). getD m (z * 32 + 7) 0) run1 in
+        let lb : getD m1 (getD m1 248 0 * 32 + 7) 0 ≡ getD m (getD m 248 0 * 32 + 7) 0 =
+        label1 (getD m1 248 0) in1 ∙ ap (λ (z : ℕ). getD m (z * 32 + 7) 0) run1 in
         let wm = written-mail (t .base) f a l f1 f2 l2 la (λ i h. o i h .below) in
         let h = put-sent b s1 (t .base) (written-only (t .base) f a l f1 f2 l2 la) p hp (written-letter (t .base) f a l f1 f2 l2 la named) len in
         rw (wm, lb, tx) at h

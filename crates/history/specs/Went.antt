@@ -8,7 +8,7 @@ use Prim.Native.Nat.{ℕ, zero, suc, _+_, _-_, _*_, _/_, _%_, _≤_, _<_}
 use native.Mathlib.Omega.{arith}
 use lib.ListN.{length, getD, set, length-set}
 use lib.Seq.{getD-set-same}
-use lib.Dec.{eqb, ltb}
+use lib.Dec.{eqb}
 use borrow.Author.Tests.{eqb-true, eqb-false, eq-eqb, ne-eqb}
 use Rattle.model.specs.Map.{place, zeroPlace, keeps, keptCount}
 use Rattle.model.specs.Turn as Turn
@@ -16,21 +16,21 @@ use Rattle.model.specs.Turn.{nineteen}
 use Rattle.model.specs.Processor as Processor
 use Rattle.model.specs.Answer as Answer
 use Rattle.model.specs.Answer.{memoryOf}
-use Rattle.model.specs.Bytes as Model
 use Rattle.model.specs.Bytes.{whoRuns, save, load, onPage0, keptOn, kept, restored, chosen, running, setLr, lr, done}
 use Rattle.laws.specs.Count.{hit-or}
 use Rattle.laws.specs.Chain.{Page}
 use Rattle.laws.specs.Frames.{other}
 use Rattle.laws.specs.Words.{either}
 use Rattle.laws.specs.Who.{zero-low}
-use Rattle.laws.specs.Frame.{Unmoved, kept-frame, restored-frame, turn-frame}
+use Rattle.laws.specs.Frame.{restored-frame, turn-frame}
 
--- where the word of address c stands for the processor of page r while another runs: the first n of the nineteen words of page 0 on page r, every other in place
+-- where the word of address c stands for the processor of page r while another runs: one of the first n of the nineteen words of page 0 is kept on page r,
+-- every other stays in place
 unfoldable pub keptAt : ℕ → ℕ → ℕ → ℕ
 keptAt zero r c = c
 keptAt (suc n) r c = elim (eqb c (zeroPlace n)) [ true ↦ place r (keeps n) | false ↦ keptAt n r c ]
 
--- where it stands in the memory m
+-- where it stands in the memory m, whoever runs there
 unfoldable pub wentTo : List ℕ → ℕ → ℕ → ℕ
 wentTo m r c = cond (eqb (running m) r) c (keptAt keptCount r c)
 

@@ -29,7 +29,7 @@ pub record Unmoved (r a : ℕ) : Type 0 where
   pub zero : (i : ℕ) → i < 19 → a ≢ zeroPlace i
   pub kept : (i : ℕ) → i < 19 → a ≢ r * 32 + (13 + i)
 
-pub kept-frame : (n : ℕ) (m : List ℕ) (p : ℕ) (w : List ℕ) (a : ℕ) → n ≤ 19 → ((i : ℕ) → i < 19 → a ≢ p * 32 + (13 + i))
+kept-frame : (n : ℕ) (m : List ℕ) (p : ℕ) (w : List ℕ) (a : ℕ) → n ≤ 19 → ((i : ℕ) → i < 19 → a ≢ p * 32 + (13 + i))
     → getD (Model.kept n m p w) a 0 ≡ getD m a 0
 unfolding Turn.kept
 kept-frame zero m p w a l f = refl

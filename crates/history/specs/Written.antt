@@ -1,0 +1,319 @@
+-- Instructions: RME, "sender, flag, length, text to A on, one word each". After the call each word of what was read stands from A on, where the one that read
+-- finds it; if another runs now, those of page 0 are kept on its page. Assumes nothing.
+use mathlib.Core.Path.{_≡_, refl, sym, ap, _∙_}
+use mathlib.Core.Logic.{_≢_}
+use mathlib.Core.Bool.{Bool, true, false}
+use mathlib.Core.List.{List, [], _∷_, _++_}
+use Prim.Native.Nat.{ℕ, zero, suc, _+_, _-_, _*_, _/_, _%_, _≤_, _<_}
+use native.Mathlib.Omega.{arith}
+use lib.ListN.{length, getD, set, length-set}
+use lib.Seq.{getD-set-same}
+use lib.Dec.{eqb}
+use borrow.Author.Tests.{eqb-false, ne-eqb}
+use Rattle.model.specs.Map.{headWords}
+use Rattle.model.specs.Address.{wrapped, clear}
+use Rattle.model.specs.Wait as Wait
+use Rattle.model.specs.Page as Page
+use Rattle.model.specs.Mail as Mail
+use Rattle.model.specs.Operate as Operate
+use Rattle.model.specs.Answer.{memoryOf}
+use Rattle.model.specs.Instruction as Instruction
+use Rattle.model.specs.Instruction.{shapeFor}
+use Rattle.model.specs.Bytes as Model
+use Rattle.model.specs.Bytes.{lists, queue, running, leave, wake, copy, copyOut, freePage, grantPage, giveBack, direct, pointed}
+use Rattle.model.specs.Lists.{count, Lists, some}
+use Rattle.laws.specs.Count.{hit-self, count-append}
+use Rattle.laws.specs.Chain.{Page, Chain}
+use Rattle.laws.specs.Queues.{upd-other}
+use Rattle.laws.specs.Uses.{Sep, proc-page}
+use Rattle.laws.specs.Places.{in-free, in-asking, in-q, grant-low, grant-high, all-pages}
+use Rattle.laws.specs.Inv.{View, view, Mem, Base, Inv}
+use Rattle.laws.specs.Judged.{WellFormed, invariant}
+use Rattle.laws.specs.Frames.{other, base-kept}
+use Rattle.laws.specs.Words.{Small}
+use Rattle.laws.specs.Stores.{sem-mem}
+use Rattle.laws.specs.Cells.{chain0, join-frame, leave-frame, grant-mem}
+use Rattle.laws.specs.Changes.{hand-page, page-sem}
+use Rattle.laws.specs.Hands.{in-hand, hand-new, take-mail}
+use Rattle.laws.specs.Grants.{give-back, waiter-proc, sep-G}
+use Rattle.laws.specs.Who.{running-at, running-in}
+use Rattle.laws.specs.Mails.{mail-queue, out-kept, clear-at}
+use Rattle.history.specs.Letter.{Letter, mailOf, words, letter-sized}
+use Rattle.history.specs.Put.{Log, Mailed, nothing, reading, rmeMail}
+use Rattle.history.specs.Quiet.{Open, clear-open}
+use Rattle.history.specs.Tests.{Found, found}
+use Rattle.history.specs.Reading.{copy-far}
+use Rattle.history.specs.Copied.{copy-at, words-at}
+use Rattle.history.specs.Went.{wentTo, done-went}
+
+-- a letter as RME writes it
+abbrev pub spelled : Letter → List ℕ
+spelled x = x .sender ∷ x .flag ∷ x .size ∷ x .text
+
+-- from m to m′ with the mail e: who read is the one that ran, and what was read stands from the target on
+pub record Written (m m′ : List ℕ) (e : Mailed) : Type 0 where
+  pub ran : (r : ℕ) (x : Letter) → e .reads ≡ (r, x) ∷ [] → r ≡ running m
+  pub at : (r : ℕ) (x : Letter) → e .reads ≡ (r, x) ∷ [] → (i : ℕ) → i < headWords + x .size
+      → getD m′ (wentTo m′ r (wrapped (e .target) i)) 0 ≡ getD (spelled x) i 0
+
+no-read : (r : ℕ) (x : Letter) → _≡_ {A = Log} [] ((r, x) ∷ []) → ⊥
+no-read r x e = omega (arith, ap (λ (l : Log). length l) e)
+
+pub written-empty : (m m′ : List ℕ) (e : Mailed) → e .reads ≡ [] → Written m m′ e
+written-empty m m′ e n = record {
+  ran = λ r x k. absurd (no-read r x (sym n ∙ k));
+  at = λ r x k i h. absurd (no-read r x (sym n ∙ k));
+}
+
+pub written-none : (m m′ : List ℕ) → Written m m′ nothing
+written-none m m′ = written-empty m m′ nothing refl
+
+-- one letter was read
+first-of : ℕ × Letter → Log → ℕ × Letter
+first-of y [] = y
+first-of y (x ∷ xs) = x
+
+same-one : (y z : ℕ × Letter) → _≡_ {A = Log} (y ∷ []) (z ∷ []) → y ≡ z
+unfolding first-of
+same-one y z e = ap (first-of y) e
+
+written-one : (m m′ : List ℕ) (x : Letter) (a : ℕ)
+    → ((i : ℕ) → i < 3 + x .size → getD m′ (wentTo m′ (running m) ((a + i) % 8192)) 0 ≡ getD (spelled x) i 0)
+    → Written m m′ (reading (running m) x a)
+written-one m m′ x a h = record {
+  ran = λ r y k. sym (ap (λ (p : ℕ × Letter). p .0) (same-one (running m, x) (r, y) k));
+  at = λ r y k i l.
+      let e0 : running m ≡ r = ap (λ (p : ℕ × Letter). p .0) (same-one (running m, x) (r, y) k) in
+      let e1 : x ≡ y = ap (λ (p : ℕ × Letter). p .1) (same-one (running m, x) (r, y) k) in
+      rw (← e0) (h i (omega (arith, l, ap (λ (z : Letter). z .size) e1)) ∙ ap (λ (z : Letter). getD (spelled z) i 0) e1);
+}
+
+-- ---- a page given back leaves unprotected words
+module _ {m : List ℕ} {ps : List ℕ} {L : Lists} {W : View} {hs : List ℕ} {g q : ℕ} (b : Base m ps L W (q ∷ hs) g) (c : ℕ) (o : Open c) where
+  s : Sep ps L
+  s = b .facts .sep
+
+  low : c < 7552
+  low = o .below
+
+  free-open : getD (freePage m q) c 0 ≡ getD m c 0
+  unfolding Page.freePage
+  free-open =
+      let v = (getD m 245 0 + 1) % 256 in
+      let pq = hand-page b q (in-hand b) in
+      join-frame s (sem-mem s (b .mem) 245 v (page-sem ps)) 244 (in-free ps, grant-low 244 (omega arith)) (omega arith) q pq (hand-new b) c
+      (o .between 244 (omega arith) (omega arith)) (λ z j. let t = all-pages s 244 z (in-free ps) j in omega (arith, low)) (omega (arith, low))
+      ∙ other m 245 v c (o .between 245 (omega arith) (omega arith))
+
+  wake-open : {x : List ℕ} {K : Lists} {X : View} → Sep ps K → Mem x ps K X → (p : ℕ) (ws : List ℕ) → 1 ≤ count p ps → K 246 ≡ p ∷ ws
+      → getD (wake x 245 p) c 0 ≡ getD x c 0
+  unfolding Wait.wake Wait.unqueue
+  wake-open {x} {K} {X} sk mk p ws hp e =
+      let v = (getD x 245 0 + 1) % 256 in
+      let x1 = set x 245 v in
+      let x2 = leave x1 246 0 p in
+      let t = getD x2 (p * 32 + 12) 0 / 128 * 128 + getD x2 (p * 32 + 12) 0 % 64 in
+      let x3 = set x2 (p * 32 + 12) t in
+      let pg = proc-page sk p hp in
+      other x3 (p * 32 + 2) 0 c (omega (arith, low)) ∙ other x2 (p * 32 + 12) t c (omega (arith, low))
+      ∙ leave-frame sk (sem-mem sk mk 245 v (page-sem ps)) 246 (in-asking ps, grant-low 246 (omega arith)) (omega arith) p [] ws e c
+      (o .between 246 (omega arith) (omega arith)) (λ z j. let u = all-pages sk 246 z (in-asking ps) j in omega (arith, low))
+      ∙ other x 245 v c (o .between 245 (omega arith) (omega arith))
+
+  grant-open : (p : ℕ) (ws : List ℕ) → L 246 ≡ p ∷ ws → getD (grantPage m p q) c 0 ≡ getD m c 0
+  unfolding Page.grantPage
+  grant-open p ws e =
+      let n = W .label p % 16 in
+      let hp = waiter-proc b p ws e in
+      let pg = proc-page s p hp in
+      let x1 = grant-mem n q (omega arith) s (b .mem) in
+      let e2 = upd-other L (320 + n) 246 (some q) (omega arith) ∙ e in
+      rw (b .mem .reads .words .label p pg)
+      (wake-open (sep-G b p ws e) x1 p ws hp e2 ∙ other m (320 + n) q c (o .between (320 + n) (omega arith) (omega arith)))
+
+  pub give-open : getD (giveBack m q) c 0 ≡ getD m c 0
+  unfolding Page.giveBack
+  give-open = go (L 246) refl (chain0 s (b .mem) 246 (in-asking ps, grant-low 246 (omega arith)) (omega arith))
+    where
+      go : (xs : List ℕ) → L 246 ≡ xs → Chain m 0 246 (L 246) → getD (giveBack m q) c 0 ≡ getD m c 0
+      go [] e k = let z : getD m 246 0 ≡ 0 = rw e at k in rw z free-open
+      go (p ∷ ws) e k = let t = rw e at k in rw (t .0, ne-eqb p 0 (omega arith)) (grant-open p ws e)
+
+-- ---- what RME writes
+ring : (a i j : ℕ) → i < 8192 → j < 8192 → i ≢ j → (a + i) % 8192 ≢ (a + j) % 8192
+ring a i j h k n = omega arith
+
+third : (a j : ℕ) → ((a + 3) % 8192 + j) % 8192 ≡ (a + (3 + j)) % 8192
+third a j = omega arith
+
+module _ (m : List ℕ) (q a : ℕ) (z : length m ≡ 8192) (pq : Page q) (la : a < 8192) (sized : getD m (q * 32 + 2) 0 % 128 ≤ 29)
+    (cl : clear (3 + getD m (q * 32 + 2) 0 % 128) a ≡ true) where
+  abbrev n : ℕ
+  n = getD m (q * 32 + 2) 0 % 128
+
+  abbrev m1 : List ℕ
+  m1 = set m a (getD m (q * 32 + 1) 0 / 16)
+
+  abbrev m2 : List ℕ
+  m2 = set m1 ((a + 1) % 8192) (getD m (q * 32 + 1) 0 % 16)
+
+  abbrev m3 : List ℕ
+  m3 = set m2 ((a + 2) % 8192) n
+
+  abbrev m4 : List ℕ
+  m4 = copy n m3 (q * 32 + 3) ((a + 3) % 8192)
+
+  opened : (i : ℕ) → i < 3 + n → Open ((a + i) % 8192)
+  opened i h = clear-open ((a + i) % 8192) (clear-at (3 + n) a cl i h)
+
+  before : (i : ℕ) → i < 3 → getD m4 ((a + i) % 8192) 0 ≡ getD m3 ((a + i) % 8192) 0
+  before i h =
+      copy-far n m3 (q * 32 + 3) ((a + 3) % 8192) ((a + i) % 8192) (omega arith)
+      (λ j k. rw (third a j) (ring a i (3 + j) (omega arith) (omega arith) (omega arith)))
+
+  at0 : (a + 0) % 8192 ≡ a
+  at0 = omega (arith, la)
+
+  out-0 : getD m4 ((a + 0) % 8192) 0 ≡ getD m (q * 32 + 1) 0 / 16
+  out-0 =
+      before 0 (omega arith) ∙ other m2 ((a + 2) % 8192) n ((a + 0) % 8192) (ring a 0 2 (omega arith) (omega arith) (omega arith))
+      ∙ other m1 ((a + 1) % 8192) (getD m (q * 32 + 1) 0 % 16) ((a + 0) % 8192) (ring a 0 1 (omega arith) (omega arith) (omega arith))
+      ∙ rw at0 (getD-set-same m a (getD m (q * 32 + 1) 0 / 16) 0 (omega (arith, z, la)))
+
+  size1 : length m1 ≡ 8192
+  size1 = simp length-set z
+
+  size2 : length m2 ≡ 8192
+  size2 = simp length-set z
+
+  size3 : length m3 ≡ 8192
+  size3 = simp length-set z
+
+  out-1 : getD m4 ((a + 1) % 8192) 0 ≡ getD m (q * 32 + 1) 0 % 16
+  out-1 =
+      before 1 (omega arith) ∙ other m2 ((a + 2) % 8192) n ((a + 1) % 8192) (ring a 1 2 (omega arith) (omega arith) (omega arith))
+      ∙ getD-set-same m1 ((a + 1) % 8192) (getD m (q * 32 + 1) 0 % 16) 0 (omega (arith, size1))
+
+  out-2 : getD m4 ((a + 2) % 8192) 0 ≡ n
+  out-2 = before 2 (omega arith) ∙ getD-set-same m2 ((a + 2) % 8192) n 0 (omega (arith, size2))
+
+  out-text : (k : ℕ) → k < n → getD m4 ((a + (3 + k)) % 8192) 0 ≡ getD (words m (q * 32 + 3) n) k 0
+  out-text k h =
+      let e : (q * 32 + 3 + k) % 8192 ≡ q * 32 + 3 + k = omega (arith, pq, sized) in
+      let o0 = opened 0 (omega arith) .below in
+      let o1 = opened 1 (omega arith) .below in
+      let o2 = opened 2 (omega arith) .below in
+      let c = copy-at n m3 (q * 32 + 3) ((a + 3) % 8192) size3 (omega (arith, sized)) (omega (arith, pq)) (omega arith) (λ i j hi hj. apart i j hi hj) k h in
+      rw (third a k) at c ∙ rw e (other m2 ((a + 2) % 8192) n (q * 32 + 3 + k) (omega (arith, pq))
+      ∙ other m1 ((a + 1) % 8192) (getD m (q * 32 + 1) 0 % 16) (q * 32 + 3 + k) (omega (arith, pq))
+      ∙ other m a (getD m (q * 32 + 1) 0 / 16) (q * 32 + 3 + k) (omega (arith, pq, at0)))
+      ∙ sym (rw e at (words-at m (q * 32 + 3) n k (omega (arith, pq)) h))
+    where
+      apart : (i j : ℕ) → i < n → j < n → (q * 32 + 3 + i) % 8192 ≢ ((a + 3) % 8192 + j) % 8192
+      apart i j hi hj =
+          let e : (q * 32 + 3 + i) % 8192 ≡ q * 32 + 3 + i = omega (arith, pq, sized) in
+          let o = opened (3 + j) (omega arith) .below in
+          rw (third a j, e) (omega (arith, pq))
+
+  pub out-at : (i : ℕ) → i < 3 + n → getD (copyOut m q a) ((a + i) % 8192) 0 ≡ getD (spelled (mailOf m q)) i 0
+  unfolding Mail.copyOut mailOf
+  out-at zero h = out-0
+  out-at (suc zero) h = out-1
+  out-at (suc (suc zero)) h = out-2
+  out-at (suc (suc (suc k))) h = let e : 3 + k ≡ suc (suc (suc k)) = omega arith in rw e at (out-text k (omega arith))
+
+size-is : (m : List ℕ) (q : ℕ) → mailOf m q .size ≡ getD m (q * 32 + 2) 0 % 128
+unfolding mailOf
+size-is m q = refl
+
+-- ---- the instruction
+module _ {m : List ℕ} (w : WellFormed m) (d : getD m 248 0 ≢ 0) where
+  iv : Inv m (lists m 247) (lists m) (view m)
+  iv = invariant w
+
+  b : Base m (lists m 247) (lists m) (view m) [] 32
+  b = iv .base
+
+  abbrev r : ℕ
+  r = getD m 248 0
+
+  hr : 1 ≤ count r (lists m 247)
+  hr = running-in b d
+
+  pr : Page r
+  pr = proc-page (b .facts .sep) r hr
+
+  module _ (q a : ℕ) (xs ys : List ℕ) (e : lists m (r * 32 + 6) ≡ xs ++ q ∷ ys) (la : a < 8192) (cl : clear (3 + getD m (q * 32 + 2) 0 % 128) a ≡ true) where
+    in6 : 1 ≤ count q (lists m (r * 32 + 6))
+    in6 = rw e (omega (arith, count-append q xs (q ∷ ys), hit-self q))
+
+    pq : Page q
+    pq = all-pages (b .facts .sep) (r * 32 + 6) q (in-q (lists m 247) r 6 (omega arith) (omega arith) hr) in6
+
+    sized : getD m (q * 32 + 2) 0 % 128 ≤ 29
+    sized = letter-sized b r 6 q hr (omega arith) (omega arith) in6
+
+    abbrev x : List ℕ
+    x = copyOut m q a
+
+    bx : Base x (lists m 247) (lists m) (view m) [] 32
+    bx = base-kept (out-kept m q a cl) b
+
+    abbrev x1 : List ℕ
+    x1 = leave x (r * 32 + 6) 0 q
+
+    abbrev x2 : List ℕ
+    x2 = giveBack x1 q
+
+    -- nothing that it does then touches an unprotected word
+    received-open : (c : ℕ) → Open c → getD x2 c 0 ≡ getD x c 0
+    received-open c o =
+        let lc = o .below in
+        let i6 = in-q (lists m 247) r 6 (omega arith) (omega arith) hr in
+        give-open (take-mail bx r 6 q xs ys hr (omega arith) (omega arith) e) c o
+        ∙ leave-frame (b .facts .sep) (bx .mem) (r * 32 + 6) (i6, grant-high (r * 32 + 6) (omega (arith, pr))) (omega (arith, pr)) q xs ys e c
+        (omega (arith, pr)) (λ z i. let t = all-pages (b .facts .sep) (r * 32 + 6) z i6 i in omega arith)
+
+    run2 : getD x2 248 0 ≡ getD m 248 0
+    run2 =
+        let g2 = give-back (take-mail bx r 6 q xs ys hr (omega arith) (omega arith) e) in
+        running-at (g2 .base) ∙ ap (λ (z : ℕ → ℕ). z 248) (g2 .low)
+
+    size-x2 : length x2 ≡ 8192
+    size-x2 = give-back (take-mail bx r 6 q xs ys hr (omega arith) (omega arith) e) .base .mem .size
+
+    received-written : (len : ℕ) → Written m (memoryOf (Model.done (Model.received m q a) len)) (reading r (mailOf m q) a)
+    unfolding Operate.received
+    received-written len = written-one m (memoryOf (Model.done x2 len)) (mailOf m q) a (λ i h. word i (rw (size-is m q) at h))
+      where
+        word : (i : ℕ) → i < 3 + getD m (q * 32 + 2) 0 % 128
+            → getD (memoryOf (Model.done x2 len)) (wentTo (memoryOf (Model.done x2 len)) (getD m 248 0) ((a + i) % 8192)) 0 ≡ getD (spelled (mailOf m q)) i 0
+        word i h =
+            let o : Open ((a + i) % 8192) = clear-open ((a + i) % 8192) (clear-at (3 + getD m (q * 32 + 2) 0 % 128) a cl i h) in
+            let t = done-went x2 size-x2 (rw run2 pr) len ((a + i) % 8192) (o .below) (o .between 248 (omega arith) (omega arith))
+            (o .between 249 (omega arith) (omega arith)) in
+            rw run2 at t ∙ received-open ((a + i) % 8192) o ∙ out-at m q a (b .mem .size) pq la sized cl i h
+
+  pub rme-written : (n f a len : ℕ) → a < 8192 → Written m (memoryOf (Model.rme m n f a len)) (rmeMail m n f a)
+  unfolding Operate.rme rmeMail
+  rme-written n f a len la = go (eqb (Model.inQ2 m n f) 0) (clear (3 + getD m (Model.inQ2 m n f * 32 + 2) 0 % 128) a) refl refl
+    where
+      q6 : queue m (r * 32 + 6) ≡ lists m (r * 32 + 6)
+      q6 = mail-queue b r 6 hr (omega arith) (omega arith)
+
+      go : (u v : Bool) → eqb (Model.inQ2 m n f) 0 ≡ u → clear (3 + getD m (Model.inQ2 m n f * 32 + 2) 0 % 128) a ≡ v
+          → Written m (memoryOf (Model.rme m n f a len)) (rmeMail m n f a)
+      go true v e c = rw e (written-none m (memoryOf (Model.fault m 6)))
+      go false false e c = rw (e, c) (written-none m (memoryOf (Model.fault m 11)))
+      go false true e c =
+          let t : Found m n f (Model.inQ2 m n f) (queue m (r * 32 + 6)) = found m n f (queue m (r * 32 + 6)) (eqb-false (Model.inQ2 m n f) 0 e) in
+          rw (e, c) (received-written (Model.inQ2 m n f) a (t .before) (t .behind) (sym q6 ∙ t .is) la c len)
+
+-- ---- the address that RME names, direct or by EXI, is below 8,192 where words have 8 bits
+pub direct-address : (m : List ℕ) → Small m → (n c : ℕ) → c ≡ 6 → direct m n (shapeFor c) .address < 8192
+unfolding Instruction.direct
+direct-address m s n c e = rw e (omega (arith, s .at (((n + 2) % 8192 + 1) % 8192)))
+
+pub pointed-address : (m : List ℕ) → Small m → (c e : ℕ) → c ≡ 6 → pointed m e (shapeFor c) .address < 8192
+unfolding Instruction.pointed
+pointed-address m s c e k = rw k (omega (arith, s .at (((e + 2) % 8192 + 1) % 8192)))
