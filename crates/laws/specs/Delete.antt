@@ -84,7 +84,7 @@ module _ {m : List ℕ} {ps : List ℕ} {L : Lists} {W : View} {hs : List ℕ} {
           rw (e, f) (record { lists = r .lists; view = r .view; base = r .base; still = λ y j h l. notice-still n fl p y j n1 n2 (t .flag) (t .small) hp h l })
 
 -- ---- one queue emptied
-emptied-end : (i : ℕ) (m : List ℕ) (n h : ℕ) → getD m h 0 ≡ 0 → emptied i m n h ≡ m
+pub emptied-end : (i : ℕ) (m : List ℕ) (n h : ℕ) → getD m h 0 ≡ 0 → emptied i m n h ≡ m
 unfolding Delete.emptied
 emptied-end zero m n h e = refl
 emptied-end (suc i) m n h e = rw (eq-eqb (getD m h 0) 0 e, Delete.emptied)
@@ -93,23 +93,23 @@ emptied-step : (i : ℕ) (m : List ℕ) (n h : ℕ) → getD m h 0 ≢ 0 → emp
 unfolding Delete.emptied
 emptied-step i m n h d = rw (ne-eqb (getD m h 0) 0 d, Delete.emptied)
 
-emptied-next : (i : ℕ) (m : List ℕ) (n h x : ℕ) → getD m h 0 ≡ x → x ≢ 0 → emptied (suc i) m n h ≡ emptied i (returned (leave m h 0 x) n x) n h
+pub emptied-next : (i : ℕ) (m : List ℕ) (n h x : ℕ) → getD m h 0 ≡ x → x ≢ 0 → emptied (suc i) m n h ≡ emptied i (returned (leave m h 0 x) n x) n h
 emptied-next i m n h x e d = emptied-step i m n h (λ z. d (sym e ∙ z)) ∙ ap (λ (y : ℕ). emptied i (returned (leave m h 0 y) n y) n h) e
 
 -- from m on, the words of the pages rest stay, but for the header h
-record Drained (m m1 : List ℕ) (ps : List ℕ) (rest : List ℕ) (g h : ℕ) : Type 0 where
-  lists : Lists
-  view : View
-  base : Base m1 ps lists view rest g
-  still : (y j : ℕ) → 1 ≤ count y rest → j < 32 → y * 32 + j ≢ h → getD m1 (y * 32 + j) 0 ≡ getD m (y * 32 + j) 0
+pub record Drained (m m1 : List ℕ) (ps : List ℕ) (rest : List ℕ) (g h : ℕ) : Type 0 where
+  pub lists : Lists
+  pub view : View
+  pub base : Base m1 ps lists view rest g
+  pub still : (y j : ℕ) → 1 ≤ count y rest → j < 32 → y * 32 + j ≢ h → getD m1 (y * 32 + j) 0 ≡ getD m (y * 32 + j) 0
 
 -- word w of page p heads the queue xs; p and xs are in hand
-record Queue (m : List ℕ) (ps : List ℕ) (p w : ℕ) (xs rest : List ℕ) (g : ℕ) : Type 0 where
-  lists : Lists
-  view : View
-  base : Base m ps lists view (xs ++ rest) g
-  chain : Chain m 0 (p * 32 + w) xs
-  letters : Letters m xs
+pub record Queue (m : List ℕ) (ps : List ℕ) (p w : ℕ) (xs rest : List ℕ) (g : ℕ) : Type 0 where
+  pub lists : Lists
+  pub view : View
+  pub base : Base m ps lists view (xs ++ rest) g
+  pub chain : Chain m 0 (p * 32 + w) xs
+  pub letters : Letters m xs
 
 module _ (p w n : ℕ) (u : 5 ≤ w) (v : w ≤ 6) (n1 : 1 ≤ n) (n2 : n ≤ 15) (ps rest : List ℕ) (g : ℕ) (hp : 1 ≤ count p rest) where
   abbrev h : ℕ
@@ -132,21 +132,21 @@ module _ (p w n : ℕ) (u : 5 ≤ w) (v : w ≤ 6) (n1 : 1 ≤ n) (n2 : n ≤ 15
     apart : (y : ℕ) → 1 ≤ count y rest → y ≢ x
     apart y i e = omega (arith, q .base .all x, one-le x, hit-self x, count-append x xs rest, ap (λ (z : ℕ). count z rest) e)
 
-    abbrev m1 : List ℕ
+    abbrev pub m1 : List ℕ
     m1 = set (set m h (getD m (x * 32 + 0) 0)) (x * 32 + 0) 0
 
-    left : leave m h 0 x ≡ m1
+    pub left : leave m h 0 x ≡ m1
     left = leave-is m 0 h x [] xs (q .chain) (omega arith) refl
 
     chain1 : Chain m1 0 h xs
     chain1 = chain-leave m 0 h x [] xs (q .base .mem .size) (omega (arith, pg)) (omega arith) (λ z i. omega arith) once (q .chain)
 
-    base1 : Base m1 ps (q .lists) (retold m1 (retold (set m h (getD m (x * 32 + 0) 0)) (q .view) p) x) (x ∷ xs ++ rest) g
+    pub base1 : Base m1 ps (q .lists) (retold m1 (retold (set m h (getD m (x * 32 + 0) 0)) (q .view) p) x) (x ∷ xs ++ rest) g
     base1 =
         hand-base x (omega (arith, hit-self x)) (only-set (x * 32 + 0) 0 (omega arith) (omega arith) (only-refl x (set m h (getD m (x * 32 + 0) 0))))
         (hand-base p in-p (only-set h (getD m (x * 32 + 0) 0) (omega arith) (omega arith) (only-refl p m)) (q .base))
 
-    letter1 : (y : ℕ) → 1 ≤ count y (x ∷ xs) → Message (getD m1 (y * 32 + 1) 0) (getD m1 (y * 32 + 2) 0)
+    pub letter1 : (y : ℕ) → 1 ≤ count y (x ∷ xs) → Message (getD m1 (y * 32 + 1) 0) (getD m1 (y * 32 + 2) 0)
     letter1 y i =
         let s = set m h (getD m (x * 32 + 0) 0) in
         rw (
@@ -157,16 +157,16 @@ module _ (p w n : ℕ) (u : 5 ≤ w) (v : w ≤ 6) (n1 : 1 ≤ n) (n2 : n ≤ 15
         ) (q .letters .at y i)
 
     -- and is returned
-    abbrev m2 : List ℕ
+    abbrev pub m2 : List ℕ
     m2 = returned m1 n x
 
-    back : Returned m1 m2 ps (xs ++ rest) g
+    pub back : Returned m1 m2 ps (xs ++ rest) g
     back = returned-base base1 n n1 n2 (letter1 x (omega (arith, hit-self x)))
 
     rest-in : (y : ℕ) → 1 ≤ count y rest → 1 ≤ count y (xs ++ rest)
     rest-in y i = omega (arith, count-append y xs rest)
 
-    next : Queue m2 ps p w xs rest g
+    pub next : Queue m2 ps p w xs rest g
     next = record {
       lists = back .lists;
       view = back .view;
@@ -180,10 +180,10 @@ module _ (p w n : ℕ) (u : 5 ≤ w) (v : w ≤ 6) (n1 : 1 ≤ n) (n2 : n ≤ 15
       };
     }
 
-    first : getD m h 0 ≡ x
+    pub first : getD m h 0 ≡ x
     first = q .chain .0
 
-    nonzero : x ≢ 0
+    pub nonzero : x ≢ 0
     nonzero = omega (arith, px)
 
     stays : (y j : ℕ) → 1 ≤ count y rest → j < 32 → y * 32 + j ≢ h → getD m2 (y * 32 + j) 0 ≡ getD m (y * 32 + j) 0
@@ -201,13 +201,13 @@ module _ (p w n : ℕ) (u : 5 ≤ w) (v : w ≤ 6) (n1 : 1 ≤ n) (n2 : n ≤ 15
   ends : {m : List ℕ} (i : ℕ) → Queue m ps p w [] rest g → Drained m (emptied i m n h) ps rest g h
   ends {m} i q = rw (emptied-end i m n h (q .chain)) (record { lists = q .lists; view = q .view; base = q .base; still = λ y j k l d. refl })
 
-  drain : (xs : List ℕ) (i : ℕ) → length xs ≤ i → {m : List ℕ} → Queue m ps p w xs rest g → Drained m (emptied i m n h) ps rest g h
+  pub drain : (xs : List ℕ) (i : ℕ) → length xs ≤ i → {m : List ℕ} → Queue m ps p w xs rest g → Drained m (emptied i m n h) ps rest g h
   drain [] i l q = ends i q
   drain (x ∷ xs) zero l q = absurd (omega arith)
   drain (x ∷ xs) (suc i) l q = on i q (drain xs i (omega arith) (next q))
 
 -- ---- both queues
-tot-short : {m : List ℕ} {ps : List ℕ} {L : Lists} {W : View} {hs : List ℕ} {g : ℕ} → Base m ps L W hs g → (xs : List ℕ)
+pub tot-short : {m : List ℕ} {ps : List ℕ} {L : Lists} {W : View} {hs : List ℕ} {g : ℕ} → Base m ps L W hs g → (xs : List ℕ)
     → ((z : ℕ) → count z xs ≤ count z hs) → length xs ≤ 20
 tot-short b xs f = short xs (λ z. omega (arith, f z, b .all z))
 
@@ -247,7 +247,7 @@ mail-back {m} p n g n1 n2 t =
         (tot-short (d .base) (t .q1) (λ z. omega (arith, count-append z (t .q1) (p ∷ [])))) a1 .base)
 
 -- ---- the grant of the name that is deleted
-facts-whole : {ps : List ℕ} {L : Lists} {W : View} {n : ℕ} → length (L (320 + n)) ≡ 0 → Facts ps L W n → Facts ps L W 32
+pub facts-whole : {ps : List ℕ} {L : Lists} {W : View} {n : ℕ} → length (L (320 + n)) ≡ 0 → Facts ps L W n → Facts ps L W 32
 facts-whole {ps} {L} {W} {n} e f = record {
   sep = f .sep;
   names = f .names;

@@ -54,7 +54,7 @@ module _ {m : List ℕ} {ps : List ℕ} {L : Lists} {W : View} {hs : List ℕ} {
       walk-chain 20 m 0 (a + 1) (L (a + 1)) (chain0 s (b .mem) (a + 1) (seat-head s a h) (λ d. not-procs s a h (sym d)))
       (list-short s (a + 1) (in-queues ps (a + 1) h))
 
-  queued-in : (a : ℕ) → 1 ≤ count (a + 1) (queues ps) → queued m a p ≡ true → 1 ≤ count p (L (a + 1))
+  pub queued-in : (a : ℕ) → 1 ≤ count (a + 1) (queues ps) → queued m a p ≡ true → 1 ≤ count p (L (a + 1))
   unfolding Wait.queued
   queued-in a h e =
       let q = queue-is a h in

@@ -167,7 +167,7 @@ module _ (xs : List ℕ) (p : ℕ) (ys : List ℕ) where
       chain7 : Chain m 1 247 (xs ++ p ∷ ys)
       chain7 = rw (link-procs, s .procs) at (x .holds .rep 247 h7)
 
-      left-is : leave m 247 1 p ≡ m2
+      pub left-is : leave m 247 1 p ≡ m2
       left-is =
           leave-is m 1 247 p xs ys chain7 (omega (arith, ap length (s .procs), list-short s 247 (in-procs P), length-append xs (p ∷ ys)))
           (omega (arith, proc-once s p, count-append p xs (p ∷ ys), hit-self p))
