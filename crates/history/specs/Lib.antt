@@ -15,3 +15,7 @@ pub mod Copied
 pub mod Sending
 pub mod Went
 pub mod Written
+pub mod Returning
+pub mod Emptying
+pub mod Leaving
+pub mod Deleting

@@ -1,0 +1,258 @@
+-- DEP: what waits for every other processor grows by the notices to it, at the end of its Q1, in the order of the messages that are returned, Q2 then Q1; the
+-- step law, and what was put stands. Assumes nothing.
+use mathlib.Core.Path.{_≡_, refl, sym, ap, _∙_}
+use mathlib.Core.Logic.{_≢_}
+use mathlib.Core.Bool.{Bool, true, false}
+use mathlib.Core.List.{List, [], _∷_, _++_, append-nil, append-assoc}
+use Prim.Native.Nat.{ℕ, _+_, _*_, _%_, _≤_, _<_}
+use native.Mathlib.Omega.{arith}
+use lib.ListN.{length, getD, set}
+use lib.Dec.{eqb, leb}
+use borrow.Author.Tests.{eqb-true, eqb-false, leb-true}
+use Rattle.model.specs.Delete as Delete
+use Rattle.model.specs.Operate as Operate
+use Rattle.model.specs.Answer.{memoryOf}
+use Rattle.model.specs.Bytes as Model
+use Rattle.model.specs.Bytes.{lists, processors, queue, pageOf, giveBack, unlisted, emptied, mailReturned, grantReturned, delete}
+use Rattle.model.specs.Lists.{count, Lists, some}
+use Rattle.laws.specs.Count.{hit-self, count-append}
+use Rattle.laws.specs.Chain.{chain-move, split-at-page}
+use Rattle.laws.specs.Queues.{upd, upd-same}
+use Rattle.laws.specs.Uses.{proc-page}
+use Rattle.laws.specs.Inv.{View, view, Base, Inv}
+use Rattle.laws.specs.Judged.{WellFormed, invariant}
+use Rattle.laws.specs.Frames.{other}
+use Rattle.laws.specs.Hands.{take-grant}
+use Rattle.laws.specs.Grants.{give-back, some-is}
+use Rattle.laws.specs.Mails.{mail-queue}
+use Rattle.laws.specs.Leave.{Bag}
+use Rattle.laws.specs.Simple.{named-in}
+use Rattle.laws.specs.Who.{label-at, listed}
+use Rattle.laws.specs.Delete.{Queue, Drained, drain, tot-short, facts-whole}
+use Rattle.history.specs.Letter.{waitingFor, Same, posts, waits-same, procs-same}
+use Rattle.history.specs.Put.{Log, of, putting, notices, depMail}
+use Rattle.history.specs.Calm.{calm-low}
+use Rattle.history.specs.Told.{Told, Stands, stands-none, of-none, told-same, calm-done, runs-in}
+use Rattle.history.specs.Quiet.{fails}
+use Rattle.history.specs.Delivering.{held}
+use Rattle.history.specs.Returning.{notices-append, Grown, grown-then, grown-same, last-same, give-grows}
+use Rattle.history.specs.Emptying.{Aims, aims-on, emptied-grows}
+use Rattle.history.specs.Leaving.{stayed, left-grown, left-aims, bag, bag-procs, bag-q1, bag-q2}
+
+-- ---- the invariant, and what was put since m
+record After (m m1 : List ℕ) (ps : List ℕ) (l : Log) (hs : List ℕ) (g : ℕ) : Type 0 where
+  lists : Lists
+  view : View
+  base : Base m1 ps lists view hs g
+  grown : Grown ps m m1 l
+
+-- ---- Q2 then Q1
+module _ (m0 : List ℕ) {m : List ℕ} (p n g : ℕ) (n1 : 1 ≤ n) (n2 : n ≤ 15) (is : n ≡ getD m0 (p * 32 + 7) 0 % 16) (t : Bag m p g)
+    (a2 : Aims m0 p m (t .q2)) (a1 : Aims m0 p m (t .q1)) where
+  abbrev rest : List ℕ
+  rest = t .q1 ++ p ∷ []
+
+  in-rest : 1 ≤ count p rest
+  in-rest = omega (arith, count-append p (t .q1) (p ∷ []), hit-self p)
+
+  abbrev m1 : List ℕ
+  m1 = emptied 20 m n (p * 32 + 6)
+
+  queue2 : Queue m (t .procs) p 6 (t .q2) rest g
+  queue2 = record {
+    lists = t .lists;
+    view = t .view;
+    base = rw (append-assoc (t .q2) (t .q1) (p ∷ [])) at (t .base);
+    chain = t .chain2;
+    letters = t .letters2;
+  }
+
+  short2 : length (t .q2) ≤ 20
+  short2 = tot-short (queue2 .base) (t .q2) (λ z. omega (arith, count-append z (t .q2) (t .q1 ++ p ∷ [])))
+
+  drained2 : Drained m m1 (t .procs) rest g (p * 32 + 6)
+  drained2 = drain p 6 n (omega arith) (omega arith) n1 n2 (t .procs) rest g in-rest (t .q2) 20 short2 queue2
+
+  grown2 : Grown (t .procs) m m1 (notices m0 p (t .q2))
+  grown2 = emptied-grows m0 p 6 n (omega arith) (omega arith) n1 n2 is (t .procs) rest g in-rest (t .q2) 20 short2 queue2 a2
+
+  in1 : (y : ℕ) → 1 ≤ count y (t .q1) → 1 ≤ count y rest
+  in1 y i = omega (arith, count-append y (t .q1) (p ∷ []))
+
+  queue1 : Queue m1 (t .procs) p 5 (t .q1) (p ∷ []) g
+  queue1 = record {
+    lists = drained2 .lists;
+    view = drained2 .view;
+    base = drained2 .base;
+    chain = chain-move m m1 0 (p * 32 + 5) (p * 32 + 5) (t .q1) (drained2 .still p 5 in-rest (omega arith) (omega arith)) (λ y i.
+        drained2 .still y 0 (in1 y i) (omega arith) (omega arith)) (t .chain1);
+    letters = record {
+      at = λ y i.
+          rw (drained2 .still y 1 (in1 y i) (omega arith) (omega arith), drained2 .still y 2 (in1 y i) (omega arith) (omega arith)) (t .letters1 .at y i);
+    };
+  }
+
+  aims1 : Aims m0 p m1 (t .q1)
+  aims1 =
+      aims-on (t .base) (drained2 .base) (grown2 .names) (λ y i. i) (λ y j i l k. drained2 .still y j (in1 y i) (omega arith) (omega arith)) a1
+
+  short1 : length (t .q1) ≤ 20
+  short1 = tot-short (queue1 .base) (t .q1) (λ z. omega (arith, count-append z (t .q1) (p ∷ [])))
+
+  one-p : 1 ≤ count p (p ∷ [])
+  one-p = omega (arith, hit-self p)
+
+  mail-after : After m (mailReturned m n p) (t .procs) (notices m0 p (t .q2 ++ t .q1)) (p ∷ []) g
+  unfolding Delete.mailReturned
+  mail-after =
+      let d = drain p 5 n (omega arith) (omega arith) n1 n2 (t .procs) (p ∷ []) g one-p (t .q1) 20 short1 queue1 in
+      let e = emptied-grows m0 p 5 n (omega arith) (omega arith) n1 n2 is (t .procs) (p ∷ []) g one-p (t .q1) 20 short1 queue1 aims1 in
+      record { lists = d .lists; view = d .view; base = d .base; grown = rw (notices-append m0 p (t .q2) (t .q1)) (grown-then grown2 e) }
+
+-- ---- a page given back after that
+after-give : {m m1 : List ℕ} {ps : List ℕ} {l : Log} {hs : List ℕ} {g q : ℕ} → After m m1 ps l (q ∷ hs) g → After m (giveBack m1 q) ps l hs g
+after-give {l = l} t =
+    let r = give-back (t .base) in
+    record { lists = r .lists; view = r .view; base = r .base; grown = rw (append-nil l) at (grown-then (t .grown) (give-grows (t .base))) }
+
+-- ---- the grant of the name that is deleted
+grant-after : {m m1 : List ℕ} {ps : List ℕ} {l : Log} {hs : List ℕ} (n : ℕ) → n < 32 → After m m1 ps l hs n → After m (grantReturned m1 n) ps l hs 32
+unfolding Delete.grantReturned
+grant-after {m} {m1} {ps} {l} {hs} n u t = go (eqb (getD m1 (320 + n) 0) 0) refl
+  where
+    b : Base m1 ps (t .lists) (t .view) hs n
+    b = t .base
+
+    go : (c : Bool) → eqb (getD m1 (320 + n) 0) 0 ≡ c → After m (grantReturned m1 n) ps l hs 32
+    go true e =
+        let z = eqb-true (getD m1 (320 + n) 0) 0 e in
+        let k = ap length (b .mem .holds .grant n u) ∙ ap (λ (x : ℕ). length (some x)) z in
+        rw e (record { lists = t .lists; view = t .view; base = record { mem = b .mem; facts = facts-whole k (b .facts); all = b .all }; grown = t .grown })
+    go false e =
+        let x = getD m1 (320 + n) 0 in
+        let z = eqb-false (getD m1 (320 + n) 0) 0 e in
+        let b1 = take-grant b n x u (b .mem .holds .grant n u ∙ some-is x z) in
+        let c1 : Same ps (t .lists) m1 (set m1 (320 + n) 0) = calm-low (b .facts .sep) m1 (320 + n) 0 (omega arith) (omega arith) in
+        let g1 : Grown ps m1 (set m1 (320 + n) 0) [] = grown-same b (posts c1) ps (λ y h. h) (λ y h.
+        let pg = proc-page (b .facts .sep) y h in other m1 (320 + n) 0 (y * 32 + 7) (omega arith)) in
+        rw e (after-give (record {
+          lists = upd (t .lists) (320 + n) [];
+          view = t .view;
+          base = record { mem = b1 .mem; facts = facts-whole (ap length (upd-same (t .lists) (320 + n) [])) (b1 .facts); all = b1 .all };
+          grown = rw (append-nil l) at (grown-then (t .grown) g1);
+        }))
+
+-- ---- "In order: ..; then its own page."
+delete-after : (xs : List ℕ) (p : ℕ) (ys : List ℕ) {m : List ℕ} {L : Lists} {W : View} (b : Base m (xs ++ p ∷ ys) L W [] 32) → 1 ≤ count p (xs ++ p ∷ ys)
+    → W .low 248 ≢ p → After m (delete m p) (xs ++ ys) (notices m p (L (p * 32 + 6) ++ L (p * 32 + 5))) [] 32
+unfolding Delete.delete
+delete-after xs p ys {m} {L} {W} b hp d =
+    let n = W .label p % 16 in
+    let u = unlisted m p in
+    let r = b .facts .names .range p hp in
+    let lp = label-at b p hp in
+    let t = bag xs p ys b d in
+    let e1 = bag-q1 xs p ys b d in
+    let e2 = bag-q2 xs p ys b d in
+    let a1 : Aims m p (unlisted m p) (t .q1) = rw e1 (left-aims xs p ys b 5 (omega arith) (omega arith)) in
+    let a2 : Aims m p (unlisted m p) (t .q2) = rw e2 (left-aims xs p ys b 6 (omega arith) (omega arith)) in
+    let x = mail-after m p n n (r .name) (omega arith) (ap (λ (v : ℕ). v % 16) (sym lp)) t a2 a1 in
+    let y : After u (mailReturned u n p) (xs ++ ys) (notices m p (L (p * 32 + 6) ++ L (p * 32 + 5))) (p ∷ []) n = rw (bag-procs xs p ys b d, e1, e2) at x in
+    rw lp (after-give (grant-after n (omega arith) (record {
+      lists = y .lists;
+      view = y .view;
+      base = y .base;
+      grown = grown-then (left-grown xs p ys b) (y .grown);
+    })))
+
+-- ---- the instruction
+module _ {m : List ℕ} (w : WellFormed m) (d : getD m 248 0 ≢ 0) where
+  iv : Inv m (lists m 247) (lists m) (view m)
+  iv = invariant w
+
+  b : Base m (lists m 247) (lists m) (view m) [] 32
+  b = iv .base
+
+  module _ (p : ℕ) (h : 1 ≤ count p (lists m 247)) (n : getD m 248 0 ≢ p) where
+    abbrev letters : Log
+    letters = notices m p (queue m (p * 32 + 6) ++ queue m (p * 32 + 5))
+
+    -- who is left was there
+    record Left : Type 0 where
+      procs : List ℕ
+      were : (y : ℕ) → 1 ≤ count y procs → 1 ≤ count y (processors m)
+      after : After m (delete m p) procs letters [] 32
+
+    left : Left
+    left =
+        let r = split-at-page p (lists m 247) h in
+        let c : Base m (r .0 ++ p ∷ r .1) (lists m) (view m) [] 32 = rw (r .2) at b in
+        record {
+          procs = r .0 ++ r .1;
+          were = λ y i. rw (listed b, r .2) (stayed (r .0) p (r .1) c y i);
+          after =
+              rw (mail-queue b p 6 h (omega arith) (omega arith), mail-queue b p 5 h (omega arith) (omega arith))
+              (delete-after (r .0) p (r .1) c (rw (r .2) at h) n);
+        }
+
+    module _ (len : ℕ) where
+      abbrev m2 : List ℕ
+      m2 = delete m p
+
+      abbrev m3 : List ℕ
+      m3 = memoryOf (Model.done m2 len)
+
+      t : After m m2 (left .procs) letters [] 32
+      t = left .after
+
+      ended : Same (left .procs) (t .lists) m2 m3
+      ended = calm-done (t .base .facts .sep) m2 (runs-in (t .base)) len
+
+      procs-are : processors m3 ≡ left .procs
+      procs-are = procs-same (t .base) ended
+
+      waits-are : (y : ℕ) → 1 ≤ count y (processors m3) → waitingFor m3 y ≡ waitingFor m y ++ of y letters
+      waits-are y i = let j = rw procs-are at i in waits-same (t .base) (posts ended) y j ∙ t .grown .waits y j
+
+      last-is : (y : ℕ) → 1 ≤ count y (processors m3) → held m3 y 5 ≡ held m y 5 ++ of y letters
+      last-is y i = let j = rw procs-are at i in last-same (t .base) (posts ended) y j ∙ t .grown .last y j
+
+      deleted-told : Told m m3 (putting letters)
+      deleted-told = record {
+        at = λ y h i k f. rw (of-none y, waits-are y i);
+        born = λ y h i. absurd (omega (arith, left .were y (rw procs-are at i)));
+      }
+
+      deleted-stands : Stands m3 (putting letters)
+      deleted-stands = record { at = λ y i. (held m y 5, last-is y i) }
+
+  -- "10 NI isn't stopped": the one that runs is not
+  others : (p : ℕ) → leb 128 (getD m (p * 32 + 12) 0) ≡ true → getD m 248 0 ≢ p
+  others p e q =
+      let l = leb-true 128 (getD m (p * 32 + 12) 0) e in
+      let c = ap (λ (y : ℕ). getD m (y * 32 + 12) 0) q in
+      omega (arith, iv .best .ready d)
+
+  pub dep-told : (n len : ℕ) → n < 16 → Told m (memoryOf (Model.named m 12 n len)) (depMail m n)
+  unfolding Operate.named Operate.onPage Operate.dep depMail
+  dep-told n len l = go (eqb n 0) (eqb (pageOf m n) 0) (leb 128 (getD m (pageOf m n * 32 + 12) 0)) refl refl refl
+    where
+      go : (x y z : Bool) → eqb n 0 ≡ x → eqb (pageOf m n) 0 ≡ y → leb 128 (getD m (pageOf m n * 32 + 12) 0) ≡ z
+          → Told m (memoryOf (Model.named m 12 n len)) (depMail m n)
+      go true y z e f i = rw e (told-same b (memoryOf (Model.fault m 12)) (fails w d 12))
+      go false true z e f i = rw (e, f) (told-same b (memoryOf (Model.fault m 7)) (fails w d 7))
+      go false false false e f i = rw (e, f, i) (told-same b (memoryOf (Model.fault m 10)) (fails w d 10))
+      go false false true e f i =
+          rw (e, f, i) (deleted-told (pageOf m n) (named-in b n (eqb-false (pageOf m n) 0 f)) (others (pageOf m n) i) len)
+
+  pub dep-stands : (n len : ℕ) → n < 16 → Stands (memoryOf (Model.named m 12 n len)) (depMail m n)
+  unfolding Operate.named Operate.onPage Operate.dep depMail
+  dep-stands n len l = go (eqb n 0) (eqb (pageOf m n) 0) (leb 128 (getD m (pageOf m n * 32 + 12) 0)) refl refl refl
+    where
+      go : (x y z : Bool) → eqb n 0 ≡ x → eqb (pageOf m n) 0 ≡ y → leb 128 (getD m (pageOf m n * 32 + 12) 0) ≡ z
+          → Stands (memoryOf (Model.named m 12 n len)) (depMail m n)
+      go true y z e f i = rw e (stands-none (memoryOf (Model.fault m 12)))
+      go false true z e f i = rw (e, f) (stands-none (memoryOf (Model.fault m 7)))
+      go false false false e f i = rw (e, f, i) (stands-none (memoryOf (Model.fault m 10)))
+      go false false true e f i =
+          rw (e, f, i) (deleted-stands (pageOf m n) (named-in b n (eqb-false (pageOf m n) 0 f)) (others (pageOf m n) i) len)

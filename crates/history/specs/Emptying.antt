@@ -1,0 +1,168 @@
+-- A queue of the deleted one is emptied from the front: each message becomes the notice that the memory before says, or is given back, and what waits for each
+-- processor grows by those notices in that order. Assumes nothing.
+use mathlib.Core.Path.{_≡_, refl, sym, ap, _∙_}
+use mathlib.Core.Logic.{_≢_}
+use mathlib.Core.Bool.{Bool, true, false, cond}
+use mathlib.Core.List.{List, [], _∷_, _++_}
+use Prim.Native.Nat.{ℕ, zero, suc, _+_, _*_, _/_, _%_, _≤_}
+use native.Mathlib.Omega.{arith}
+use lib.ListN.{length, getD, set}
+use lib.Dec.{eqb}
+use borrow.Author.Tests.{eqb-false}
+use Rattle.model.specs.Queue as Queue
+use Rattle.model.specs.Queue.{first}
+use Rattle.model.specs.Processor as Processor
+use Rattle.model.specs.Delete as Delete
+use Rattle.model.specs.Bytes.{pageOf, isNamed, returned, emptied}
+use Rattle.model.specs.Lists.{count, Lists}
+use Rattle.laws.specs.Count.{hit-self, count-append}
+use Rattle.laws.specs.Uses.{Sep}
+use Rattle.laws.specs.Inv.{View, Message, Base}
+use Rattle.laws.specs.Frames.{other}
+use Rattle.laws.specs.Changes.{hand-out}
+use Rattle.laws.specs.Still.{aside-hand}
+use Rattle.laws.specs.Simple.{named-in}
+use Rattle.laws.specs.Who.{listed}
+use Rattle.laws.specs.Delete.{Queue, emptied-end, emptied-next, base1, letter1, back, next, left, nonzero}
+use Rattle.laws.specs.Delete as Deleted
+use Rattle.history.specs.Letter.{Same, posts, same-on}
+use Rattle.history.specs.Put.{returnsTo, notices}
+use Rattle.history.specs.Calm.{calm-set, ours-hand}
+use Rattle.history.specs.Returning.{sentBack, notices-next, notices-none, Grown, grown-refl, grown-then, grown-same, give-grows, notice-grows}
+
+-- ---- the first that a test picks
+pub first-yes : (f : ℕ → Bool) (z : ℕ) (zs : List ℕ) → f z ≡ true → first f (z ∷ zs) ≡ z
+unfolding Queue.first
+first-yes f z zs e = rw (e, Queue.first)
+
+pub first-no : (f : ℕ → Bool) (z : ℕ) (zs : List ℕ) → f z ≡ false → first f (z ∷ zs) ≡ first f zs
+unfolding Queue.first
+first-no f z zs e = rw (e, Queue.first)
+
+first-nil : (f : ℕ → Bool) → first f [] ≡ 0
+unfolding Queue.first
+first-nil f = refl
+
+first-same : (f g : ℕ → Bool) (zs : List ℕ) → ((z : ℕ) → 1 ≤ count z zs → f z ≡ g z) → first f zs ≡ first g zs
+first-same f g [] h = first-nil f ∙ sym (first-nil g)
+first-same f g (z ∷ zs) h = go (g z) refl (h z (omega (arith, hit-self z))) (first-same f g zs (λ y i. h y (omega arith)))
+  where
+    go : (c : Bool) → g z ≡ c → f z ≡ g z → first f zs ≡ first g zs → first f (z ∷ zs) ≡ first g (z ∷ zs)
+    go true e d ih = first-yes f z zs (d ∙ e) ∙ sym (first-yes g z zs e)
+    go false e d ih = first-no f z zs (d ∙ e) ∙ ih ∙ sym (first-no g z zs e)
+
+pub named-same : (m m1 : List ℕ) (n : ℕ) (zs : List ℕ) → ((z : ℕ) → 1 ≤ count z zs → getD m1 (z * 32 + 7) 0 ≡ getD m (z * 32 + 7) 0)
+    → first (isNamed m1 n) zs ≡ first (isNamed m n) zs
+unfolding Processor.isNamed
+named-same m m1 n zs h = first-same (isNamed m1 n) (isNamed m n) zs (λ z i. rw (h z i))
+
+-- ---- to whom message q goes back, by the memory of that moment; 0: to none
+abbrev pub backTo : List ℕ → ℕ → ℕ
+backTo m q = cond (eqb (getD m (q * 32 + 2) 0) 128) 0 (pageOf m (getD m (q * 32 + 1) 0 / 16))
+
+module _ {m : List ℕ} {ps : List ℕ} {L : Lists} {W : View} {hs : List ℕ} {g q : ℕ} (b : Base m ps L W (q ∷ hs) g) where
+  returned-grows : (n : ℕ) → 1 ≤ n → n ≤ 15 → Message (getD m (q * 32 + 1) 0) (getD m (q * 32 + 2) 0)
+      → Grown ps m (returned m n q) (sentBack (backTo m q) n (getD m (q * 32 + 1) 0 % 16))
+  unfolding Delete.returned Delete.noticed
+  returned-grows n n1 n2 t = go (eqb (getD m (q * 32 + 2) 0) 128) (eqb (pageOf m (getD m (q * 32 + 1) 0 / 16)) 0) refl refl
+    where
+      go : (x y : Bool) → eqb (getD m (q * 32 + 2) 0) 128 ≡ x → eqb (pageOf m (getD m (q * 32 + 1) 0 / 16)) 0 ≡ y
+          → Grown ps m (returned m n q) (sentBack (backTo m q) n (getD m (q * 32 + 1) 0 % 16))
+      go true y e f = rw e (give-grows b)
+      go false true e f = rw (e, f) (give-grows b)
+      go false false e f =
+          let r = pageOf m (getD m (q * 32 + 1) 0 / 16) in
+          let hp = named-in b (getD m (q * 32 + 1) 0 / 16) (eqb-false r 0 f) in
+          rw (e, f) (notice-grows b n (getD m (q * 32 + 1) 0 % 16) r n1 n2 (t .flag) (t .small) hp)
+
+-- ---- m0 is the memory before the instruction, p the deleted one: in m the messages xs go back as m0 says
+pub record Aims (m0 : List ℕ) (p : ℕ) (m : List ℕ) (xs : List ℕ) : Type 0 where
+  pub to : (x : ℕ) → 1 ≤ count x xs → backTo m x ≡ returnsTo m0 p x
+  pub flag : (x : ℕ) → 1 ≤ count x xs → getD m (x * 32 + 1) 0 % 16 ≡ getD m0 (x * 32 + 1) 0 % 16
+
+-- words 1 and 2 of the messages stay
+abbrev pub Notes : List ℕ → List ℕ → List ℕ → Type 0
+Notes m m1 xs = (x j : ℕ) → 1 ≤ count x xs → 1 ≤ j → j ≤ 2 → getD m1 (x * 32 + j) 0 ≡ getD m (x * 32 + j) 0
+
+pub back-same : {m m1 : List ℕ} {ps : List ℕ} {L K : Lists} {W X : View} {hs ks : List ℕ} {g k : ℕ} → Base m ps L W hs g → Base m1 ps K X ks k
+    → ((y : ℕ) → 1 ≤ count y ps → getD m1 (y * 32 + 7) 0 ≡ getD m (y * 32 + 7) 0) → (x : ℕ) → getD m1 (x * 32 + 1) 0 ≡ getD m (x * 32 + 1) 0
+    → getD m1 (x * 32 + 2) 0 ≡ getD m (x * 32 + 2) 0 → backTo m1 x ≡ backTo m x
+back-same {m} {m1} {ps} b c names x e1 e2 = rw (e1, e2, listed b, listed c, named-same m m1 (getD m (x * 32 + 1) 0 / 16) ps names)
+
+pub aims-on : {m0 m m1 : List ℕ} {p : ℕ} {ps xs ys : List ℕ} {L K : Lists} {W X : View} {hs ks : List ℕ} {g k : ℕ} → Base m ps L W hs g → Base m1 ps K X ks k
+    → ((y : ℕ) → 1 ≤ count y ps → getD m1 (y * 32 + 7) 0 ≡ getD m (y * 32 + 7) 0) → ((x : ℕ) → 1 ≤ count x ys → 1 ≤ count x xs) → Notes m m1 ys
+    → Aims m0 p m xs → Aims m0 p m1 ys
+aims-on b c names i same a = record {
+  to = λ x h. back-same b c names x (same x 1 h (omega arith) (omega arith)) (same x 2 h (omega arith) (omega arith)) ∙ a .to x (i x h);
+  flag = λ x h. ap (λ (v : ℕ). v % 16) (same x 1 h (omega arith) (omega arith)) ∙ a .flag x (i x h);
+}
+
+-- ---- the queue with header word w of page p
+module _ (m0 : List ℕ) (p w n : ℕ) (u : 5 ≤ w) (v : w ≤ 6) (n1 : 1 ≤ n) (n2 : n ≤ 15) (is : n ≡ getD m0 (p * 32 + 7) 0 % 16) (ps rest : List ℕ) (g : ℕ)
+    (hp : 1 ≤ count p rest) where
+  module _ {m : List ℕ} {x : ℕ} {xs : List ℕ} (q : Queue m ps p w (x ∷ xs) rest g) (a : Aims m0 p m (x ∷ xs)) where
+    in-p : 1 ≤ count p (x ∷ xs ++ rest)
+    in-p = omega (arith, count-append p xs rest)
+
+    in-x : 1 ≤ count x (x ∷ xs ++ rest)
+    in-x = omega (arith, hit-self x)
+
+    abbrev m1 : List ℕ
+    m1 = Deleted.m1 p w n u v n1 n2 ps rest g hp q
+
+    abbrev m2 : List ℕ
+    m2 = Deleted.m2 p w n u v n1 n2 ps rest g hp q
+
+    s : Sep ps (q .lists)
+    s = q .base .facts .sep
+
+    off : (y z : ℕ) → 1 ≤ count y ps → 1 ≤ count z (x ∷ xs ++ rest) → y ≢ z
+    off y z h i e = omega (arith, ap (λ (k : ℕ). count k ps) e, hand-out (q .base) z i)
+
+    -- it leaves
+    step1 : Grown ps m m1 []
+    step1 =
+        let h = p * 32 + w in
+        let r = getD m (x * 32 + 0) 0 in
+        let c1 : Same ps (q .lists) m (set m h r) = calm-set m h r (λ c o. ours-hand s o p w (aside-hand (q .base) p in-p) (omega arith)) in
+        let c2 : Same ps (q .lists) m m1 =
+        same-on c1 (calm-set (set m h r) (x * 32 + 0) 0 (λ c o. ours-hand s o x 0 (aside-hand (q .base) x in-x) (omega arith))) in
+        grown-same (q .base) (posts c2) ps (λ y i. i) (λ y i.
+        other (set m h r) (x * 32 + 0) 0 (y * 32 + 7) (omega arith) ∙ other m h r (y * 32 + 7) (omega arith))
+
+    b1 : (X : View) × Base m1 ps (q .lists) X (x ∷ xs ++ rest) g
+    b1 = (_, base1 p w n u v n1 n2 ps rest g hp q)
+
+    notes1 : Notes m m1 (x ∷ xs)
+    notes1 y j i l k =
+        other (set m (p * 32 + w) (getD m (x * 32 + 0) 0)) (x * 32 + 0) 0 (y * 32 + j) (omega arith)
+        ∙ other m (p * 32 + w) (getD m (x * 32 + 0) 0) (y * 32 + j) (omega arith)
+
+    aims1 : Aims m0 p m1 (x ∷ xs)
+    aims1 = aims-on (q .base) (b1 .1) (step1 .names) (λ y i. i) notes1 a
+
+    -- and is returned
+    step2 : Grown ps m1 m2 (sentBack (returnsTo m0 p x) (getD m0 (p * 32 + 7) 0 % 16) (getD m0 (x * 32 + 1) 0 % 16))
+    step2 =
+        let hx : 1 ≤ count x (x ∷ xs) = omega (arith, hit-self x) in
+        rw (← aims1 .to x hx, ← aims1 .flag x hx, ← is) (returned-grows (b1 .1) n n1 n2 (letter1 p w n u v n1 n2 ps rest g hp q x hx))
+
+    pub step : Grown ps m m2 (sentBack (returnsTo m0 p x) (getD m0 (p * 32 + 7) 0 % 16) (getD m0 (x * 32 + 1) 0 % 16))
+    step = grown-then step1 step2
+
+    pub aims : Aims m0 p m2 xs
+    aims =
+        let r = back p w n u v n1 n2 ps rest g hp q in
+        aims-on (b1 .1) (r .base) (step2 .names) (λ y i. omega arith) (λ y j i l k. r .still y j (omega (arith, count-append y xs rest)) (omega arith)) aims1
+
+  pub emptied-grows : (xs : List ℕ) (i : ℕ) → length xs ≤ i → {m : List ℕ} → Queue m ps p w xs rest g → Aims m0 p m xs
+      → Grown ps m (emptied i m n (p * 32 + w)) (notices m0 p xs)
+  emptied-grows [] i l {m} q a = rw (emptied-end i m n (p * 32 + w) (q .chain), notices-none m0 p) (grown-refl ps m)
+  emptied-grows (x ∷ xs) zero l q a = absurd (omega arith)
+  emptied-grows (x ∷ xs) (suc i) l {m} q a =
+      let t = emptied-grows xs i (omega arith) (next p w n u v n1 n2 ps rest g hp q) (aims q a) in
+      rw (
+        notices-next m0 p x xs,
+        emptied-next i m n (p * 32 + w) x (Deleted.first p w n u v n1 n2 ps rest g hp q) (nonzero p w n u v n1 n2 ps rest g hp q),
+        left p w n u v n1 n2 ps rest g hp q,
+      ) (grown-then (step q a) t)
