@@ -19,3 +19,9 @@ pub mod Returning
 pub mod Emptying
 pub mod Leaving
 pub mod Deleting
+pub mod Whole
+pub mod Others
+pub mod Begin
+pub mod Lives
+pub mod Said
+pub mod Example

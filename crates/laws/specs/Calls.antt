@@ -64,7 +64,7 @@ fresh-starts {m} l s line d h =
     rw (eq-eqb (length m) 8192 l, h) (sound (started-well m line d l a) (small-started s line d (omega (arith, a)) (omega (arith, a))))
 
 -- ---- what an interrupt from outside may be
-outer-of : (k : ℕ) → isOuter k ≡ true → (16 ≤ k) × (k ≤ 50)
+pub outer-of : (k : ℕ) → isOuter k ≡ true → (16 ≤ k) × (k ≤ 50)
 unfolding Call.isOuter
 outer-of k h = go (ltb k 16) (ltb 50 k) refl refl
   where
@@ -145,11 +145,11 @@ pub record Host (m m′ : List ℕ) : Type 0 where
   pub small : Small m′
   pub same : (a : ℕ) → 32 ≤ a → guarded a ≡ true → getD m′ a 0 ≡ getD m a 0
 
-guarded-low : (a : ℕ) → 128 ≤ a → a < 352 → guarded a ≡ true
+pub guarded-low : (a : ℕ) → 128 ≤ a → a < 352 → guarded a ≡ true
 unfolding Address.guarded
 guarded-low a l u = rw (le-ltb a 16 (omega arith), le-ltb a 128 l, lt-ltb a 352 u)
 
-guarded-high : (a : ℕ) → 7552 ≤ a → guarded a ≡ true
+pub guarded-high : (a : ℕ) → 7552 ≤ a → guarded a ≡ true
 unfolding Address.guarded
 guarded-high a l = rw (le-ltb a 16 (omega arith), le-ltb a 128 (omega arith), le-ltb a 352 (omega arith), le-leb 7552 a l)
 

@@ -92,7 +92,7 @@ computed line divider = subst (λ (S : Store). Computed line divider S) trees-is
 abbrev pub Args : ℕ → ℕ → Type 0
 Args line divider = (16 ≤ line) × (line ≤ 47) × (1 ≤ divider) × (divider ≤ 255)
 
-zeros-fresh : (line divider : ℕ) → Args line divider → WellFormed (started (bytes .zeros) line divider)
+pub zeros-fresh : (line divider : ℕ) → Args line divider → WellFormed (started (bytes .zeros) line divider)
 unfolding Judge.judged Judge.wellFormed Judge.clock Judge.counters rest
 zeros-fresh line divider h =
     let c = computed line divider in
@@ -153,7 +153,7 @@ zeros-fresh line divider h =
 abbrev Told : ℕ → Type 0
 Told a = ((128 ≤ a) × (a < 352)) ⊎ ((7552 ≤ a) × (a < 8192))
 
-record Agree (m m′ : List ℕ) : Type 0 where
+pub record Agree (m m′ : List ℕ) : Type 0 where
   size : length m ≡ 8192
   size′ : length m′ ≡ 8192
   told : (a : ℕ) → Told a → getD m′ a 0 ≡ getD m a 0
@@ -249,7 +249,7 @@ agree-first g =
     let g6 = agree-set 247 236 236 refl g5 in
     agree-set 249 _ _ (g6 .told 7559 (inr (omega arith, omega arith))) (agree-set 248 236 236 refl g6)
 
-agree-started : (m m′ : List ℕ) (line d : ℕ) → length m ≡ 8192 → length m′ ≡ 8192 → Agree (started m line d) (started m′ line d)
+pub agree-started : (m m′ : List ℕ) (line d : ℕ) → length m ≡ 8192 → length m′ ≡ 8192 → Agree (started m line d) (started m′ line d)
 unfolding Fresh.started Fresh.freed Fresh.timed
 agree-started m m′ line d s s′ =
     let g : Agree (cleared m) (cleared m′) = record {
@@ -261,7 +261,7 @@ agree-started m m′ line d s s′ =
     let g2 = agree-chained 18 _ _ 237 (agree-set 245 19 19 refl (agree-set 244 237 237 refl g1)) in
     agree-set 288 1 1 refl (agree-built 15 _ _ g2)
 
-agree-kept : {m m′ : List ℕ} → Agree m m′ → Kept m m′
+pub agree-kept : {m m′ : List ℕ} → Agree m m′ → Kept m m′
 agree-kept g = record {
   size = g .size′ ∙ sym (g .size);
   fixed = λ a i j. g .told a (inl (i, j));

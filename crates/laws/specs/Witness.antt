@@ -41,7 +41,7 @@ zeros = bytes .zeros
 beyond : (a : ℕ) → 8192 ≤ a → _≡_ {A = ℕ} (getD zeros a 0) 0
 beyond a l = let h : length zeros ≤ a = omega (arith, zeros-size) in List·getD-eq-default {A = ℕ} zeros 0 h
 
-zeros-small : Small zeros
+pub zeros-small : Small zeros
 zeros-small = record { at = λ a. go a (ltb a 8192) refl }
   where
     go : (a : ℕ) (c : Bool) → ltb a 8192 ≡ c → getD zeros a 0 < 256
@@ -59,7 +59,7 @@ example-reached = start (bytes .zeros) 16 5 zeros-size zeros-small refl
 pub example-sound : Sound example
 example-sound = reached-sound example example-reached
 
-fresh-is : (m : List ℕ) (line d : ℕ) → length m ≡ 8192 → startable line d ≡ true → memoryOf (fresh m line d) ≡ started m line d
+pub fresh-is : (m : List ℕ) (line d : ℕ) → length m ≡ 8192 → startable line d ≡ true → memoryOf (fresh m line d) ≡ started m line d
 unfolding Call.fresh Answer.memoryOf
 fresh-is m line d l h = rw (eq-eqb (length m) 8192 l, h)
 

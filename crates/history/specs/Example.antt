@@ -1,0 +1,268 @@
+-- The law of the past is not empty: a run in which processor 1 sends itself a message of two words, takes it to Q2 and reads it. Assumes nothing.
+use mathlib.Core.Path.{_≡_, refl, _∙_, subst}
+use mathlib.Core.List.{List, [], _∷_, _++_}
+use Prim.Native.Nat.{ℕ, _+_, _≤_, _<_}
+use native.Mathlib.Omega.{arith}
+use lib.ListN.{length, length-set}
+use Rattle.model.specs.Store as Store
+use Rattle.model.specs.Store.{Store, bytes, trees}
+use Rattle.model.specs.Same.{trees-is-bytes}
+use Rattle.model.specs.Address as Address
+use Rattle.model.specs.Queue as Queue
+use Rattle.model.specs.Processor as Processor
+use Rattle.model.specs.Instruction as Instruction
+use Rattle.model.specs.Operate as Operate
+use Rattle.model.specs.Wait as Wait
+use Rattle.model.specs.Page as Page
+use Rattle.model.specs.Mail as Mail
+use Rattle.model.specs.Turn as Turn
+use Rattle.model.specs.Fresh as Fresh
+use Rattle.model.specs.Rule as Rule
+use Rattle.model.specs.Lists as Lists
+use Rattle.model.specs.Judge as Judge
+use Rattle.model.specs.Fault as Fault
+use Rattle.model.specs.Execute as Execute
+use Rattle.model.specs.Call as Call
+use Rattle.model.specs.Answer as Answer
+use Rattle.model.specs.Answer.{memoryOf}
+use Rattle.model.specs.Bytes.{instruction, processors}
+use Rattle.model.specs.Lists.{count}
+use Rattle.laws.specs.Words.{Small, small-set}
+use Rattle.laws.specs.Start.{zeros-size}
+use Rattle.laws.specs.Calls as Calls
+use Rattle.laws.specs.Calls.Act.{instruct}
+use Rattle.laws.specs.Witness.{zeros-small}
+use Rattle.history.specs.Letter as Letter
+use Rattle.history.specs.Letter.{Letter, mailOf, waitingFor}
+use Rattle.history.specs.Order as Order
+use Rattle.history.specs.Put.{of, mailed}
+use Rattle.history.specs.Lives as Lives
+use Rattle.history.specs.Lives.{Past, noneYet, later, Run}
+use Rattle.history.specs.Lives.Run.{start, call}
+use Rattle.history.specs.Said as Said
+use Rattle.history.specs.Said.{times, none-twice, times-append}
+
+-- from 2752, where processor 1 starts: SME to 1 with flag 1 of the text at 3000; WNM from 1 with flag 1; RME from 1 with flag 1 to 3100
+abbrev program : List ℕ
+program = 224 ∷ 65 ∷ 43 ∷ 184 ∷ 224 ∷ 81 ∷ 32 ∷ 224 ∷ 97 ∷ 44 ∷ 28 ∷ []
+
+-- length 2, text 5 6
+abbrev spoken : List ℕ
+spoken = 2 ∷ 5 ∷ 6 ∷ []
+
+module _ (S : Store) where
+  unfoldable writes : S .M → ℕ → List ℕ → S .M
+  writes m a [] = m
+  writes m a (v ∷ vs) = writes (S .put m a v) (a + 1) vs
+
+  abbrev m0 : S .M
+  m0 = writes (writes (S .zeros) 2752 program) 3000 spoken
+
+  abbrev m1 : S .M
+  m1 = memoryOf (Call.fresh S m0 16 5)
+
+  abbrev m2 : S .M
+  m2 = memoryOf (Call.instruction S m1)
+
+  abbrev m3 : S .M
+  m3 = memoryOf (Call.instruction S m2)
+
+  abbrev m4 : S .M
+  m4 = memoryOf (Call.instruction S m3)
+
+  -- who lives and what waits: after SME a message on page 237, after RME none
+  record Seen : Type 0 where
+    living1 : Queue.processors S m1 ≡ 236 ∷ []
+    living2 : Queue.processors S m2 ≡ 236 ∷ []
+    living3 : Queue.processors S m3 ≡ 236 ∷ []
+    living4 : Queue.processors S m4 ≡ 236 ∷ []
+    sent : Queue.queue S m2 7557 ≡ 237 ∷ []
+    none : Queue.queue S m2 7558 ≡ []
+    note : S .get m2 7585 ≡ 17
+    size : S .get m2 7586 ≡ 2
+    first : S .get m2 7587 ≡ 5
+    second : S .get m2 7588 ≡ 6
+    left1 : Queue.queue S m4 7557 ≡ []
+    left2 : Queue.queue S m4 7558 ≡ []
+
+at-trees : Seen trees
+unfolding writes
+    Call.fresh Call.instruction Address.guarded Address.clear Address.copy Address.zeroed Queue.first Queue.walk Queue.cellOf Queue.join
+    Queue.leave Processor.isNamed Processor.setLr Processor.advance
+    Processor.setFlagsLr Processor.setRegistersOf Processor.handBack Instruction.directCounted Instruction.directCreating
+    Instruction.direct Operate.cvi
+    Operate.dvi Operate.gin
+    Operate.win Operate.posted Operate.waitsForPage Operate.sent Operate.smeText Operate.sme Operate.wnm Operate.received Operate.rme
+    Wait.enqueue Wait.unqueue Wait.putToWait Wait.wake
+    Page.takeFree Page.firstFree Page.takePage Page.freePage Page.grantPage Page.giveBack Mail.asks Mail.fits Mail.matches Mail.awaits
+    Mail.heard Mail.deliver Mail.writeMessage Mail.makeNotice Mail.move Mail.copyOut
+    Turn.fold Turn.stays Turn.above Turn.better Turn.chosen Turn.onPage0
+    Turn.keptOn Turn.contextOf Turn.savedOf Turn.kept Turn.restored Turn.save Turn.load Turn.runs Turn.switch Turn.whoRuns Fresh.startable
+    Fresh.cleared Fresh.timed Fresh.firstProcessor Fresh.chained Fresh.freed Fresh.allBuiltIn Fresh.started Lists.range Lists.linkOf
+    Lists.isGrant Lists.lists Judge.page Judge.list Judge.listed Judge.once Judge.usedOnce Judge.label Judge.names Judge.bit Judge.waiter
+    Judge.waitingBits Judge.reasoned Judge.reasonless Judge.served Judge.quiet Judge.reasons Judge.unasked Judge.owner Judge.messageWait
+    Judge.messageWaits Judge.interruptSemaphore Judge.messageSemaphore Judge.pageSemaphore Judge.semaphores Judge.pageWait Judge.pageWaits
+    Judge.grant Judge.granted Judge.sized Judge.message Judge.mail Judge.messages Judge.runner Judge.notHigher Judge.running Judge.kind
+    Judge.codes Judge.counters Judge.clock Judge.used Judge.entry Judge.faults Judge.zeroBits Judge.zeros Judge.wellFormed Judge.judged
+    Answer.memoryOf Answer.done
+    Fault.entered Fault.fault Execute.run Execute.taken
+    Execute.decoded Execute.coded Execute.fetched Store.tget Store.tput Store.tzero Store.getT Store.putT Store.sizeT Store.trees Rule.all
+    Rule.every Rule.holds
+at-trees = record {
+  living1 = refl;
+  living2 = refl;
+  living3 = refl;
+  living4 = refl;
+  sent = refl;
+  none = refl;
+  note = refl;
+  size = refl;
+  first = refl;
+  second = refl;
+  left1 = refl;
+  left2 = refl;
+}
+
+seen : Seen bytes
+seen = subst Seen trees-is-bytes at-trees
+
+-- ---- the memory before is one of 8,192 words of 8 bits
+abbrev Eight : List ℕ → Type 0
+Eight [] = Unit {0}
+Eight (v ∷ vs) = (v < 256) × Eight vs
+
+writes-small : (m : List ℕ) (a : ℕ) (vs : List ℕ) → Eight vs → Small m → Small (writes bytes m a vs)
+unfolding writes
+writes-small m a [] h s = s
+writes-small m a (v ∷ vs) h s = writes-small _ (a + 1) vs (h .1) (small-set a v (h .0) s)
+
+writes-size : (m : List ℕ) (a : ℕ) (vs : List ℕ) → length (writes bytes m a vs) ≡ length m
+unfolding writes
+writes-size m a [] = refl
+writes-size m a (v ∷ vs) = writes-size _ (a + 1) vs ∙ simp length-set
+
+program-eight : Eight program
+program-eight = (
+  omega arith,
+  (
+    omega arith,
+    (
+      omega arith,
+      (
+        omega arith,
+        (
+          omega arith,
+          (
+            omega arith,
+            (
+              omega arith,
+              (
+                omega arith,
+                (
+                  omega arith,
+                  (
+                    omega arith,
+                    (omega arith, tt),
+                  ),
+                ),
+              ),
+            ),
+          ),
+        ),
+      ),
+    ),
+  ),
+)
+
+small0 : Small (m0 bytes)
+small0 = writes-small _ 3000 spoken (omega arith, (omega arith, (omega arith, tt))) (writes-small _ 2752 program program-eight zeros-small)
+
+size0 : length (m0 bytes) ≡ 8192
+size0 = writes-size _ 3000 spoken ∙ writes-size _ 2752 program ∙ zeros-size
+
+-- ---- the run
+run1 : Run (m1 bytes) noneYet
+unfolding Fresh.startable
+run1 = start (m0 bytes) 16 5 size0 small0 refl
+
+abbrev h2 : Past
+h2 = later instruct (m1 bytes) noneYet
+
+abbrev h3 : Past
+h3 = later instruct (m2 bytes) h2
+
+abbrev past : Past
+past = later instruct (m3 bytes) h3
+
+run2 : Run (m2 bytes) h2
+unfolding Calls.after
+run2 = call (m1 bytes) noneYet instruct run1
+
+run3 : Run (m3 bytes) h3
+unfolding Calls.after
+run3 = call (m2 bytes) h2 instruct run2
+
+-- the memory after it
+abbrev memory : List ℕ
+memory = m4 bytes
+
+example-run : Run memory past
+unfolding Calls.after
+example-run = call (m3 bytes) h3 instruct run3
+
+-- ---- a run in which x was read
+pub record Heard (x : Letter) : Type 0 where
+  pub memory : List ℕ
+  pub past : Past
+  pub run : Run memory past
+  pub page : ℕ
+  pub living : 1 ≤ count page (processors memory)
+  pub read : 1 ≤ times x (past .read page)
+
+-- ---- the message: from 1 with flag 1, of the words 5 and 6
+abbrev pub letter : Letter
+letter = record { sender = 1; flag = 1; size = 2; text = 5 ∷ 6 ∷ [] }
+
+waits2 : waitingFor (m2 bytes) 236 ≡ letter ∷ []
+unfolding Letter.waitingFor Letter.mailOf Letter.words
+waits2 = rw (seen .none, seen .sent) (rw (seen .note, seen .size) (rw (seen .first, seen .second)))
+
+waits4 : waitingFor (m4 bytes) 236 ≡ []
+unfolding Letter.waitingFor
+waits4 = rw (seen .left2, seen .left1)
+
+once : times letter (letter ∷ []) ≡ 1
+unfolding Said.times Said.same Said.sameText Order.only Letter.key
+once = refl
+
+never : times letter [] ≡ 0
+unfolding Said.times Order.only
+never = refl
+
+-- what was put stays put
+put-stays : (m m′ : List ℕ) (h : Past) → memoryOf (instruction m) ≡ m′ → processors m ≡ 236 ∷ [] → processors m′ ≡ 236 ∷ []
+    → later instruct m h .put 236 ≡ h .put 236 ++ of 236 (mailed m .puts)
+unfolding Lives.later Lives.grown Lives.lives Lives.mailBy Lives.restarts Calls.after
+put-stays m m′ h e l l′ = rw (e, l, l′)
+
+lives2 : 1 ≤ count 236 (processors (m2 bytes))
+lives2 = rw (seen .living2) (omega arith)
+
+lives4 : 1 ≤ count 236 (processors (m4 bytes))
+lives4 = rw (seen .living4) (omega arith)
+
+was-put : 1 ≤ times letter (h2 .put 236)
+was-put = omega (arith, rw (waits2, once) at (none-twice (m2 bytes) h2 run2 236 lives2 letter))
+
+still-put : 1 ≤ times letter (past .put 236)
+still-put =
+    let e3 = put-stays (m2 bytes) (m3 bytes) h2 refl (seen .living2) (seen .living3) in
+    let e4 = put-stays (m3 bytes) (m4 bytes) h3 refl (seen .living3) (seen .living4) in
+    rw (e4, times-append letter (h3 .put 236) (of 236 (mailed (m3 bytes) .puts)), e3, times-append letter (h2 .put 236) (of 236 (mailed (m2 bytes) .puts)))
+    (omega (arith, was-put))
+
+example-read : 1 ≤ times letter (past .read 236)
+example-read = omega (arith, rw (waits4, never) at (none-twice (m4 bytes) past example-run 236 lives4 letter), still-put)
+
+pub example-heard : Heard letter
+example-heard = record { memory = memory; past = past; run = example-run; page = 236; living = lives4; read = example-read }

@@ -1,0 +1,145 @@
+-- Nothing lost, doubled or overtaken, over any run of calls from a fresh start: for every processor that lives, every sender and every flag, what it has read in
+-- this life and then what waits for it, Q2 before Q1, is what was put to it in this life, in that order, with text. Assumes nothing.
+use mathlib.Core.Path.{_≡_, refl, sym, ap, _∙_}
+use mathlib.Core.Bool.{Bool, true, false, cond, _&&_}
+use mathlib.Core.List.{List, [], _++_, append-assoc}
+use Prim.Native.Nat.{ℕ, _≤_}
+use native.Mathlib.Omega.{arith}
+use lib.ListN.{length}
+use lib.Dec.{leb}
+use borrow.Author.Tests.{leb-true, leb-false, le-leb}
+use Rattle.model.specs.Fresh.{startable}
+use Rattle.model.specs.Answer.{memoryOf}
+use Rattle.model.specs.Bytes.{fresh, processors}
+use Rattle.model.specs.Lists.{count}
+use Rattle.laws.specs.Words.{Small}
+use Rattle.laws.specs.Calls as Calls
+use Rattle.laws.specs.Calls.{Sound, Host, Act, after, Reached, reached-sound}
+use Rattle.laws.specs.Calls.Act.{fresh-start, instruct, signal, set, read, judge-it}
+use Rattle.history.specs.Order.{only, only-append}
+use Rattle.history.specs.Letter.{Letter, key, waitingFor}
+use Rattle.history.specs.Put.{Mailed, nothing, of, mailed}
+use Rattle.history.specs.Told.{Told}
+use Rattle.history.specs.Whole.{instruction-told}
+use Rattle.history.specs.Others.{interrupt-told, set-told, read-told, judge-told, refused-told, host-told}
+use Rattle.history.specs.Begin.{fresh-empty}
+
+-- ---- what was put to each processor in its present life, and what it has read; a processor is named by its page
+pub record Past : Type 0 where
+  pub put : ℕ → List Letter
+  pub read : ℕ → List Letter
+
+abbrev pub noneYet : Past
+noneYet = record { put = λ p. []; read = λ p. [] }
+
+-- p is on the processor list
+unfoldable pub lives : List ℕ → ℕ → Bool
+lives m p = leb 1 (count p (processors m))
+
+-- from m to m′ with the mail e: a life goes on where p is on the list before and after; else it is over, or begins with nothing
+unfoldable pub grown : List ℕ → List ℕ → Mailed → Past → Past
+grown m m′ e h = record {
+  put = λ p. cond (lives m p && lives m′ p) (h .put p ++ of p (e .puts)) [];
+  read = λ p. cond (lives m p && lives m′ p) (h .read p ++ of p (e .reads)) [];
+}
+
+-- a call puts and reads nothing unless it is an instruction
+unfoldable pub mailBy : Act → List ℕ → Mailed
+mailBy (fresh-start line d) m = nothing
+mailBy instruct m = mailed m
+mailBy (signal k c) m = nothing
+mailBy (set r) m = nothing
+mailBy read m = nothing
+mailBy judge-it m = nothing
+
+-- a fresh start that is not refused ends all lives
+unfoldable pub restarts : Act → Bool
+restarts (fresh-start line d) = startable line d
+restarts instruct = false
+restarts (signal k c) = false
+restarts (set r) = false
+restarts read = false
+restarts judge-it = false
+
+unfoldable pub later : Act → List ℕ → Past → Past
+later a m h = cond (restarts a) noneYet (grown m (after a m) (mailBy a m) h)
+
+-- ---- a run: a fresh start of any memory of 8,192 words of 8 bits, then any calls, and changes by the host between them
+pub data Run : List ℕ → Past → Type 0 where
+  start : (m : List ℕ) (line d : ℕ) → length m ≡ 8192 → Small m → startable line d ≡ true → Run (memoryOf (fresh m line d)) noneYet
+  call : (m : List ℕ) (h : Past) (a : Act) → Run m h → Run (after a m) (later a m h)
+  host : (m m′ : List ℕ) (h : Past) → Host m m′ → Run m h → Run m′ (grown m m′ nothing h)
+
+-- these are all the runs there are
+pub run-reached : (m : List ℕ) (h : Past) → Run m h → Reached m
+run-reached _ _ (start m line d l s e) = Calls.Reached.start m line d l s e
+run-reached _ _ (call m h a r) = Calls.Reached.call m a (run-reached m h r)
+run-reached _ _ (host m m′ h k r) = Calls.Reached.host m m′ k (run-reached m h r)
+
+pub reached-run : (m : List ℕ) → Reached m → (h : Past) × Run m h
+reached-run _ (Calls.Reached.start m line d l s e) = (noneYet, start m line d l s e)
+reached-run _ (Calls.Reached.call m a r) = let t = reached-run m r in (later a m (t .0), call m (t .0) a (t .1))
+reached-run _ (Calls.Reached.host m m′ k r) = let t = reached-run m r in (grown m m′ nothing (t .0), host m m′ (t .0) k (t .1))
+
+-- ---- the law of one step carries the law of the past
+abbrev Kept : List ℕ → Past → Type 0
+Kept m h = (p : ℕ) → 1 ≤ count p (processors m) → (s f : ℕ) → only (key s f) (h .read p ++ waitingFor m p) ≡ only (key s f) (h .put p)
+
+-- reads xs then x, with ys waiting before and zs after; us was put before, and u now
+adds : {A : Type 0} (t : A → Bool) (xs x ys zs us u : List A) → only t (x ++ zs) ≡ only t (ys ++ u) → only t (xs ++ ys) ≡ only t us
+    → only t ((xs ++ x) ++ zs) ≡ only t (us ++ u)
+adds t xs x ys zs us u e f =
+    ap (only t) (append-assoc xs x zs) ∙ only-append t xs (x ++ zs) ∙ rw (e, only-append t ys u, ← append-assoc (only t xs) (only t ys) (only t u)) (
+    rw (← only-append t xs ys, f) (sym (only-append t us u))
+    )
+
+grown-kept : {m m′ : List ℕ} {e : Mailed} → Told m m′ e → (h : Past) → Kept m h → Kept m′ (grown m m′ e h)
+unfolding grown lives
+grown-kept {m} {m′} {e} t h k p i s f = go (leb 1 (count p (processors m))) refl
+  where
+    now : leb 1 (count p (processors m′)) ≡ true
+    now = le-leb 1 (count p (processors m′)) i
+
+    go : (c : Bool) → leb 1 (count p (processors m)) ≡ c
+        → only (key s f) (grown m m′ e h .read p ++ waitingFor m′ p) ≡ only (key s f) (grown m m′ e h .put p)
+    go true q =
+        let j = leb-true 1 (count p (processors m)) q in
+        rw (q, now) (adds (key s f) (h .read p) (of p (e .reads)) (waitingFor m p) (waitingFor m′ p) (h .put p) (of p (e .puts)) (t .at p j i s f) (k p j s f))
+    go false q =
+        let j = leb-false 1 (count p (processors m)) q in
+        rw (q, t .born p (omega arith) i)
+
+call-told : {m : List ℕ} → Sound m → (a : Act) → restarts a ≡ false → Told m (after a m) (mailBy a m)
+unfolding Calls.after mailBy restarts
+call-told k (fresh-start line d) e = refused-told k line d e
+call-told k instruct e = instruction-told k
+call-told k (signal n c) e = interrupt-told k n c
+call-told k (set r) e = set-told k r
+call-told k read e = read-told k
+call-told k judge-it e = judge-told k
+
+start-kept : (m : List ℕ) (line d : ℕ) → length m ≡ 8192 → startable line d ≡ true → Kept (memoryOf (fresh m line d)) noneYet
+start-kept m line d l e p i s f = rw (fresh-empty m line d l e p i)
+
+restart-kept : {m : List ℕ} → Sound m → (a : Act) → restarts a ≡ true → Kept (after a m) noneYet
+unfolding Calls.after restarts
+restart-kept {m} k (fresh-start line d) e = start-kept m line d (k .size) e
+restart-kept k instruct e = let z : _≡_ {A = ℕ} 0 1 = cc in absurd (omega arith)
+restart-kept k (signal n c) e = let z : _≡_ {A = ℕ} 0 1 = cc in absurd (omega arith)
+restart-kept k (set r) e = let z : _≡_ {A = ℕ} 0 1 = cc in absurd (omega arith)
+restart-kept k read e = let z : _≡_ {A = ℕ} 0 1 = cc in absurd (omega arith)
+restart-kept k judge-it e = let z : _≡_ {A = ℕ} 0 1 = cc in absurd (omega arith)
+
+later-kept : {m : List ℕ} → Sound m → (h : Past) → Kept m h → (a : Act) → Kept (after a m) (later a m h)
+unfolding later
+later-kept {m} k h q a = go (restarts a) refl
+  where
+    go : (c : Bool) → restarts a ≡ c → Kept (after a m) (later a m h)
+    go true e = rw e (restart-kept k a e)
+    go false e = rw e (grown-kept (call-told k a e) h q)
+
+pub nothing-lost : (m : List ℕ) (h : Past) → Run m h → (p : ℕ) → 1 ≤ count p (processors m) → (s f : ℕ)
+    → only (key s f) (h .read p ++ waitingFor m p) ≡ only (key s f) (h .put p)
+nothing-lost _ _ (start m line d l s e) = start-kept m line d l e
+nothing-lost _ _ (call m h a r) = later-kept (reached-sound m (run-reached m h r)) h (nothing-lost m h r) a
+nothing-lost _ _ (host m m′ h k r) = grown-kept (host-told (reached-sound m (run-reached m h r)) k) h (nothing-lost m h r)
