@@ -1,7 +1,7 @@
 // Instructions: ST1, STP, ST2, CRP and DEP. len is what LR grows by.
 use answers::done;
 use answers::fault;
-use mail::delete;
+use deleting::delete;
 use model::Answer;
 use model::ControlPage;
 use model::Name;

@@ -1,9 +1,6 @@
-// Sending, the moves of mail, and deleting.
+// Sending, and the moves of mail.
 use model::ControlPage;
 use model::Name;
-use model::wide;
-use pages::give_back;
-use processors::leave_wait;
 use processors::name;
 use processors::running;
 use processors::wake;
@@ -11,8 +8,6 @@ use queues::find_message;
 use queues::join;
 use queues::leave;
 use queues::matches;
-use queues::page_of;
-use words::at;
 use words::copy;
 use words::wrapped;
 use words::write;
@@ -21,6 +16,7 @@ ghost use Prim.Native.Nat.{_<_, _≤_, _+_, _*_, _/_, _%_};
 ghost use lib.ListN.{length};
 ghost use Rattle.model.specs.Mail.Tested.{tested};
 ghost use Rattle.model.specs.Bytes as Model;
+ghost use Rattle.mail.specs.Head.{headOut};
 
 // The first match in Q1, in Q2, of the running processor; page 0: none.
 pub fn in_q1(m: &[u8], n: Name, f: u8) -> ControlPage
@@ -122,105 +118,24 @@ pub fn test_q1(m: &mut [u8], p: ControlPage, n: Name, f: u8, left: u8) -> bool
     test_q1(m, p, n, f, left - 1)
 }
 
-// Sender, flag, length and text of message q go to a on.
-pub fn copy_out(m: &mut [u8], q: ControlPage, a: u16)
+// Sender, flag and length of message q go to a on.
+fn copy_head(m: &mut [u8], q: ControlPage, a: u16)
     requires { ⌜ (length (now m) ≡ 8192) × (a < 8192) ⌝ }
-    ensures { λ _. ⌜ now (m .exit) ≡ Model.copyOut (now (m .entry)) (q .0) a ⌝ }
+    ensures { λ _. ⌜ now (m .exit) ≡ headOut (now (m .entry)) (q .0) a ⌝ }
 {
     let w = q.word(m, 1);
     let l = q.word(m, 2);
     write(m, a, w / 16);
     write(m, wrapped(a, 1), w % 16);
     write(m, wrapped(a, 2), l % 128);
-    copy(m, q.place(3), wrapped(a, 3), l % 128);
 }
 
-// The processor of page p leaves any wait queue, not woken, and the processor list.
-fn unlist(m: &mut [u8], p: ControlPage)
-    requires { ⌜ length (now m) ≡ 8192 ⌝ }
-    ensures { λ _. ⌜ now (m .exit) ≡ Model.unlisted (now (m .entry)) (p .0) ⌝ }
+// Sender, flag, length and text of message q go to a on.
+pub fn copy_out(m: &mut [u8], q: ControlPage, a: u16)
+    requires { ⌜ (length (now m) ≡ 8192) × (a < 8192) ⌝ }
+    ensures { λ _. ⌜ now (m .exit) ≡ Model.copyOut (now (m .entry)) (q .0) a ⌝ }
 {
-    leave_wait(m, p);
-    leave(m, 247, 1, p);
-}
-
-// Message q becomes a notice from n to the processor of page p, its sender.
-fn notify(m: &mut [u8], n: Name, q: ControlPage, p: ControlPage)
-    requires { ⌜ (length (now m) ≡ 8192) × (n .0 < 16) ⌝ }
-    ensures { λ _. ⌜ now (m .exit) ≡ Model.noticed (now (m .entry)) (n .0) (q .0) (p .0) ⌝ }
-{
-    let w = q.word(m, 1);
-    make_notice(m, q, n, w % 16);
-    deliver(m, p, q);
-}
-
-// Message q of the deleted processor named n: a notice to its sender if there is one, else given back.
-fn return_message(m: &mut [u8], n: Name, q: ControlPage)
-    requires { ⌜ (length (now m) ≡ 8192) × (n .0 < 16) ⌝ }
-    ensures { λ _. ⌜ now (m .exit) ≡ Model.returned (now (m .entry)) (n .0) (q .0) ⌝ }
-{
-    let l = q.word(m, 2);
-    if l == 128 {
-        give_back(m, q);
-        return;
-    }
-    let w = q.word(m, 1);
-    let p = page_of(m, Name(w / 16));
-    if p.0 == 0 {
-        give_back(m, q);
-        return;
-    }
-    notify(m, n, q, p);
-}
-
-// Every message of the queue with header h, from the front.
-fn empty(m: &mut [u8], n: Name, h: u16, left: u8)
-    requires { ⌜ (length (now m) ≡ 8192) × (n .0 < 16) × (h < 8192) ⌝ }
-    ensures { λ _. ⌜ now (m .exit) ≡ Model.emptied left (now (m .entry)) (n .0) h ⌝ }
-{
-    if left == 0 {
-        return;
-    }
-    let q = at(m, h);
-    if q == 0 {
-        return;
-    }
-    leave(m, h, 0, ControlPage(q));
-    return_message(m, n, ControlPage(q));
-    empty(m, n, h, left - 1);
-}
-
-// Q2 then Q1 of the processor of page p, named n.
-fn return_mail(m: &mut [u8], n: Name, p: ControlPage)
-    requires { ⌜ (length (now m) ≡ 8192) × (n .0 < 16) ⌝ }
-    ensures { λ _. ⌜ now (m .exit) ≡ Model.mailReturned (now (m .entry)) (n .0) (p .0) ⌝ }
-{
-    empty(m, n, p.place(6), 20);
-    empty(m, n, p.place(5), 20);
-}
-
-// The grant of the processor named n is given back.
-fn return_grant(m: &mut [u8], n: Name)
-    requires { ⌜ (length (now m) ≡ 8192) × (n .0 < 16) ⌝ }
-    ensures { λ _. ⌜ now (m .exit) ≡ Model.grantReturned (now (m .entry)) (n .0) ⌝ }
-{
-    let g = 320 + wide(n.0);
-    let q = at(m, g);
-    if q == 0 {
-        return;
-    }
-    write(m, g, 0);
-    give_back(m, ControlPage(q));
-}
-
-// The processor of page p is deleted.
-pub fn delete(m: &mut [u8], p: ControlPage)
-    requires { ⌜ length (now m) ≡ 8192 ⌝ }
-    ensures { λ _. ⌜ now (m .exit) ≡ Model.delete (now (m .entry)) (p .0) ⌝ }
-{
-    let n = name(m, p);
-    unlist(m, p);
-    return_mail(m, Name(n), p);
-    return_grant(m, Name(n));
-    give_back(m, p);
+    let l = q.word(m, 2) % 128;
+    copy_head(m, q, a);
+    copy(m, q.place(3), wrapped(a, 3), l);
 }

@@ -1,15 +1,15 @@
 use borrow.Author.Needs.{needs}
-use Rattle.mail.proofs.Laws.{mails}
+use Rattle.deleting.proofs.Laws.{deletions}
 use Prim.Native.Nat.{ℕ, _<_, _+_}
 use borrow.Fn.PlainCycle.{Measures, is, falls, and}
-use Rattle.mail.proofs.empty.Reads as own
-use Rattle.mail.proofs.empty.Kinds as kinds
-use Rattle.mail.proofs.+empty.Lts-empty as lts
-use Rattle.mail.proofs.return_message.Reads as return-message-reads
+use Rattle.deleting.proofs.empty.Reads as own
+use Rattle.deleting.proofs.empty.Kinds as kinds
+use Rattle.deleting.proofs.+empty.Lts-empty as lts
+use Rattle.deleting.proofs.return_message.Reads as return-message-reads
 use Rattle.queues.proofs.leave.Reads as leave-reads
 use Rattle.words.proofs.at.Reads as at-reads
-use Rattle.mail.proofs.+empty.{statement}
-use Rattle.mail.proofs.+empty.Tie.{close}
+use Rattle.deleting.proofs.+empty.{statement}
+use Rattle.deleting.proofs.+empty.Tie.{close}
 
 -- what is left falls
 abbrev μ : Measures 1 kinds.ps ℕ
@@ -28,13 +28,13 @@ pub +empty-spec : {M : Type 1} → statement M
 )
     (and 1 kinds.ps (is 1 kinds.ps μ t) own.Pre)
     own.Post
-    (λ c. search (needs, mails))
+    (λ c. search (needs, deletions))
     (λ c κs. search needs)
     (λ c. search needs)
-    (λ c. search (needs, mails))
+    (λ c. search (needs, deletions))
     (λ c κs. search needs)
     (λ c κs. search needs)
     (λ c. search needs)
     (λ c κs. search needs)
     (λ c. search needs)
-    (λ c. search (needs, mails))
+    (λ c. search (needs, deletions))

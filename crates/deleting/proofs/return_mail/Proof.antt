@@ -1,7 +1,7 @@
 use borrow.Author.Needs.{needs}
 use Rattle.model.specs.Delete as Delete
-use Rattle.mail.proofs.return_mail.Statement.{statement}
-use Rattle.mail.proofs.return_mail.Tie as tie
+use Rattle.deleting.proofs.return_mail.Statement.{statement}
+use Rattle.deleting.proofs.return_mail.Tie as tie
 
 returns : tie.Need-returns
 unfolding Delete.mailReturned

@@ -1,7 +1,7 @@
 use borrow.Author.Needs.{needs}
 use Rattle.model.specs.Delete as Delete
-use Rattle.mail.proofs.unlist.Statement.{statement}
-use Rattle.mail.proofs.unlist.Tie as tie
+use Rattle.deleting.proofs.unlist.Statement.{statement}
+use Rattle.deleting.proofs.unlist.Tie as tie
 
 returns : tie.Need-returns
 unfolding Delete.unlisted

@@ -1,0 +1,2 @@
+-- What a part of a step leaves.
+pub mod Head
