@@ -1,4 +1,4 @@
-// What is printed, piece by piece.
+// What the script program prints, piece by piece.
 use libc::STDOUT_FILENO;
 
 pub fn text(s: &[u8]) {

@@ -1,12 +1,12 @@
 // The state of a well-formed memory, for a person to read. Every walk has at most twenty pages left.
-use crate::print::address;
-use crate::print::four;
-use crate::print::text;
-use crate::print::three;
-use crate::print::two;
-use crate::print::word;
 use model::ControlPage;
 use model::Registers;
+use print::address;
+use print::four;
+use print::text;
+use print::three;
+use print::two;
+use print::word;
 use processors::name;
 use processors::running;
 use processors::seat;

@@ -1,14 +1,14 @@
 use borrow.Author.Needs.{needs}
 use Prim.Native.Nat.{ℕ, _<_, _+_}
 use borrow.Fn.PlainCycle.{Measures, is, falls, and}
-use Rattle.console.proofs.show.errors.Reads as own
-use Rattle.console.proofs.show.errors.Kinds as kinds
-use Rattle.console.proofs.show.+errors.Lts-errors as lts
-use Rattle.console.proofs.print.text.Reads as text-reads
-use Rattle.console.proofs.show.fault.Reads as fault-reads
+use Rattle.screen.proofs.errors.Reads as own
+use Rattle.screen.proofs.errors.Kinds as kinds
+use Rattle.screen.proofs.+errors.Lts-errors as lts
+use Rattle.print.proofs.text.Reads as text-reads
+use Rattle.screen.proofs.fault.Reads as fault-reads
 use Rattle.words.proofs.at.Reads as at-reads
-use Rattle.console.proofs.show.+errors.{statement}
-use Rattle.console.proofs.show.+errors.Tie.{close}
+use Rattle.screen.proofs.+errors.{statement}
+use Rattle.screen.proofs.+errors.Tie.{close}
 
 -- what is left falls
 abbrev μ : Measures 1 kinds.ps ℕ

@@ -1,14 +1,14 @@
 use borrow.Author.Needs.{needs}
 use Prim.Native.Nat.{ℕ, _<_, _+_}
 use borrow.Fn.PlainCycle.{Measures, is, falls, and}
-use Rattle.console.proofs.show.messages.Reads as own
-use Rattle.console.proofs.show.messages.Kinds as kinds
-use Rattle.console.proofs.show.+messages.Lts-messages as lts
-use Rattle.console.proofs.print.text.Reads as text-reads
-use Rattle.console.proofs.show.message.Reads as message-reads
+use Rattle.screen.proofs.messages.Reads as own
+use Rattle.screen.proofs.messages.Kinds as kinds
+use Rattle.screen.proofs.+messages.Lts-messages as lts
+use Rattle.print.proofs.text.Reads as text-reads
+use Rattle.screen.proofs.message.Reads as message-reads
 use Rattle.model.proofs.ControlPage.word.Reads as word-reads
-use Rattle.console.proofs.show.+messages.{statement}
-use Rattle.console.proofs.show.+messages.Tie.{close}
+use Rattle.screen.proofs.+messages.{statement}
+use Rattle.screen.proofs.+messages.Tie.{close}
 
 -- what is left falls
 abbrev μ : Measures 1 kinds.ps ℕ

@@ -1,13 +1,13 @@
 use borrow.Author.Needs.{needs}
 use Prim.Native.Nat.{ℕ, _<_, _+_}
 use borrow.Fn.PlainCycle.{Measures, is, falls, and}
-use Rattle.console.proofs.show.processors_from.Reads as own
-use Rattle.console.proofs.show.processors_from.Kinds as kinds
-use Rattle.console.proofs.show.+processors_from.Lts-processors_from as lts
-use Rattle.console.proofs.show.processor_lines.Reads as processor-lines-reads
+use Rattle.screen.proofs.processors_from.Reads as own
+use Rattle.screen.proofs.processors_from.Kinds as kinds
+use Rattle.screen.proofs.+processors_from.Lts-processors_from as lts
+use Rattle.screen.proofs.processor_lines.Reads as processor-lines-reads
 use Rattle.model.proofs.ControlPage.word.Reads as word-reads
-use Rattle.console.proofs.show.+processors_from.{statement}
-use Rattle.console.proofs.show.+processors_from.Tie.{close}
+use Rattle.screen.proofs.+processors_from.{statement}
+use Rattle.screen.proofs.+processors_from.Tie.{close}
 
 -- what is left falls
 abbrev μ : Measures 1 kinds.ps ℕ

@@ -1,12 +1,12 @@
 use borrow.Author.Needs.{needs}
 use Prim.Native.Nat.{ℕ, _<_, _+_}
 use borrow.Fn.PlainCycle.{Measures, is, falls, and}
-use Rattle.console.proofs.show.codes.Reads as own
-use Rattle.console.proofs.show.codes.Kinds as kinds
-use Rattle.console.proofs.show.+codes.Lts-codes as lts
-use Rattle.console.proofs.show.code.Reads as code-reads
-use Rattle.console.proofs.show.+codes.{statement}
-use Rattle.console.proofs.show.+codes.Tie.{close}
+use Rattle.screen.proofs.codes.Reads as own
+use Rattle.screen.proofs.codes.Kinds as kinds
+use Rattle.screen.proofs.+codes.Lts-codes as lts
+use Rattle.screen.proofs.code.Reads as code-reads
+use Rattle.screen.proofs.+codes.{statement}
+use Rattle.screen.proofs.+codes.Tie.{close}
 
 -- what is left falls
 abbrev μ : Measures 1 kinds.ps ℕ

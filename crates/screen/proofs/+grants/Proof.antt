@@ -1,15 +1,15 @@
 use borrow.Author.Needs.{needs}
 use Prim.Native.Nat.{ℕ, _<_, _+_}
 use borrow.Fn.PlainCycle.{Measures, is, falls, and}
-use Rattle.console.proofs.show.grants.Reads as own
-use Rattle.console.proofs.show.grants.Kinds as kinds
-use Rattle.console.proofs.show.+grants.Lts-grants as lts
-use Rattle.console.proofs.print.address.Reads as address-reads
-use Rattle.console.proofs.print.text.Reads as text-reads
-use Rattle.console.proofs.print.word.Reads as word-reads
+use Rattle.screen.proofs.grants.Reads as own
+use Rattle.screen.proofs.grants.Kinds as kinds
+use Rattle.screen.proofs.+grants.Lts-grants as lts
+use Rattle.print.proofs.address.Reads as address-reads
+use Rattle.print.proofs.text.Reads as text-reads
+use Rattle.print.proofs.word.Reads as word-reads
 use Rattle.words.proofs.at.Reads as at-reads
-use Rattle.console.proofs.show.+grants.{statement}
-use Rattle.console.proofs.show.+grants.Tie.{close}
+use Rattle.screen.proofs.+grants.{statement}
+use Rattle.screen.proofs.+grants.Tie.{close}
 
 -- what is left falls
 abbrev μ : Measures 1 kinds.ps ℕ
