@@ -1,5 +1,4 @@
-pub mod Folds
 pub mod Sentences
-pub mod Counting
 pub mod Heads
+pub mod Whole
 pub mod Laws

@@ -1,6 +1,6 @@
 -- A law for each way through the rules that read a word or count before they test, and one for each choice of a rule. Premises stand in the
 -- code's order.
-use Prim.Native.Nat.{ℕ, suc, _+_, _-_, _/_, _%_, _≤_, _<_}
+use Prim.Native.Nat.{ℕ, suc, _+_, _/_, _%_, _≤_, _<_}
 use mathlib.Core.Path.{_≡_, refl}
 use mathlib.Core.Bool.{Bool, true, false}
 use native.Mathlib.Omega.{arith}
@@ -13,11 +13,12 @@ use Rattle.model.specs.Lists as Lists
 use Rattle.model.specs.Lists.{count, each-of}
 use Rattle.model.specs.Judge as Judge
 use Rattle.model.specs.Bytes.{Memory, at, word, walk, lists, name}
+use Rattle.counts.specs.Reach.{rule}
 use Rattle.judge.specs.declared.tests.Test.{Test}
 use Rattle.judge.specs.declared.deep.Deep.{Deep}
-use Rattle.judge.specs.Rules.{rule, ruleOf, deepOf}
-use Rattle.judge.proofs.Folds.{both-yes, both-no, both-true, same-yes, same-no, same-is, most-yes, most-no, most-is, when-yes, when-no, unless-yes}
-use Rattle.judge.proofs.Folds.{unless-no, least-yes, least-no}
+use Rattle.judge.specs.Rules.{ruleOf, deepOf}
+use Rattle.counts.proofs.Folds.{both-yes, both-no, both-true, same-yes, same-no, same-is, most-yes, most-no, most-is, when-yes, when-no, unless-yes}
+use Rattle.counts.proofs.Folds.{unless-no, least-yes, least-no}
 
 -- ---- which rule
 pub test-at : (m : Memory) (t u : Test) (x : ℕ) (b : Bool) → t ≡ u → b ≡ holds (ruleOf m u x) → b ≡ holds (ruleOf m t x)

@@ -1,3 +1,2 @@
--- What the code of the judge names beyond the model: a rule at a memory, the rules that it tests along a list, its marks.
+-- What the code of the judge names beyond the model: the rules that it tests along a list, and the tails of "Well-formed".
 pub mod Rules
-pub mod Marks

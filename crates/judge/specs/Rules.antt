@@ -1,28 +1,18 @@
--- The judge's rules at a memory: its processors, its lists. Those of one number that the code tests along a list or a range, and the tails of
+-- The judge's rules at a memory: those of one number that the code tests along a list or a range, and the tails of
 -- "Well-formed" in its order.
-use Prim.Native.Nat.{ℕ, suc}
-use mathlib.Core.Bool.{cond}
-use mathlib.Core.List.{List, [], _∷_}
-use Rattle.model.specs.Map.{place, processorList, controlPages, firstControl, q1, q2, ownQueue}
+use Prim.Native.Nat.{ℕ}
+use Rattle.model.specs.Map.{place, q1, q2, ownQueue}
 use Rattle.model.specs.Store.{bytes}
-use Rattle.model.specs.Rule.{Rule, same, most, both, each}
-use Rattle.model.specs.Lists.{Lists, range, queues, isGrant}
+use Rattle.model.specs.Rule.{Rule, both}
 use Rattle.model.specs.Judge as Judge
-use Rattle.model.specs.Bytes.{Memory, lists, waiting}
-use Rattle.judge.specs.Marks.{Marks, unmarked, markedLists, times}
+use Rattle.model.specs.Bytes.{Memory}
+use Rattle.counts.specs.Reach.{rule}
+use Rattle.marks.specs.Marks.{bits}
 use Rattle.judge.specs.declared.tests.Test.{Test}
 use Rattle.judge.specs.declared.tests.Test.the-variants.{Page, Label, Reasoned, Reasonless, Quiet, Unasked, MessageSemaphore, Message}
 use Rattle.judge.specs.declared.tests.Test.the-variants.{NotHigher, ZeroBits, PageWait, InterruptSemaphore, Grant, Kind, Entry}
 use Rattle.judge.specs.declared.deep.Deep.{Deep}
 use Rattle.judge.specs.declared.deep.Deep.the-variants.{MailLists, OwnList, Mail, Owner}
-
--- a rule at a memory, its processors and its lists
-abbrev pub rule : {A : Type 0} → (Memory → List ℕ → Lists → A) → Memory → A
-rule f m = f m (lists m processorList) (lists m)
-
--- how far the list of a head goes: a grant is one page
-unfoldable pub leftOf : ℕ → ℕ
-leftOf a = cond (isGrant a) 1 (suc controlPages)
 
 abbrev pub ruleOf : Memory → Test → (ℕ → Rule)
 ruleOf m Page = rule (Judge.page bytes) m
@@ -53,24 +43,6 @@ deepOf m MailLists = mailLists m
 deepOf m OwnList = ownList m
 deepOf m Mail = rule (Judge.mail bytes) m
 deepOf m (Owner p) = rule (Judge.owner bytes) m (p .0)
-
--- by marks: once; the waiting bit; who waits (t) is a processor (u)
-unfoldable pub onceBy : Marks → ℕ → Rule
-onceBy t z = same (times t z) 1
-
-unfoldable pub bitBy : Memory → Marks → ℕ → Rule
-bitBy m t p = same (times t p) (waiting m p)
-
-unfoldable pub waiterBy : Marks → Marks → ℕ → Rule
-waiterBy t u z = most (times t z) (times u z)
-
-abbrev pub marksIn : Memory → List ℕ → Marks
-marksIn m hs = markedLists unmarked (lists m) hs
-
-unfoldable pub bits : Memory → Rule
-bits m =
-    both (each (lists m processorList) (bitBy m (marksIn m (queues (lists m processorList)))))
-    (each (range controlPages 1 firstControl) (waiterBy (marksIn m (queues (lists m processorList))) (marksIn m (processorList ∷ []))))
 
 -- "Well-formed", from codes on, from messages on, and so up to names
 unfoldable pub tables : Memory → Rule

@@ -1,11 +1,9 @@
 // Well-formed: "every control page is used once", that each list ends and holds control pages; and the rules of one page that look through
 // its lists.
-use crate::counts::left_of;
-use crate::counts::length_of;
-use crate::counts::link_of;
 use crate::tests::Test;
 use crate::tests::all_in;
 use crate::tests::all_of;
+use counts::length_of;
 use model::ControlPage;
 use words::at;
 ghost use mathlib.Core.Path.{_≡_};
@@ -17,7 +15,8 @@ ghost use Rattle.model.specs.Rule.{holds, each};
 ghost use Rattle.model.specs.Lists.{uses, queues, mails, owns, range};
 ghost use Rattle.model.specs.Judge as Judge;
 ghost use Rattle.model.specs.Bytes as Model;
-ghost use Rattle.judge.specs.Rules.{rule, deepOf, mailLists, ownList};
+ghost use Rattle.counts.specs.Reach.{rule};
+ghost use Rattle.judge.specs.Rules.{deepOf, mailLists, ownList};
 
 // The rules of one page that look through its lists.
 pub enum Deep {

@@ -1,8 +1,6 @@
 // Fresh start and well-formed memory: the judge, a function for each rule, in document 01's order, equal to the rules on every memory of
 // 8,192 words.
-mod counts;
 mod deep;
-mod marks;
 mod tables;
 mod tests;
 
@@ -32,8 +30,8 @@ ghost use Rattle.model.specs.Store.{bytes};
 ghost use Rattle.model.specs.Rule.{holds, each, below};
 ghost use Rattle.model.specs.Judge as Judge;
 ghost use Rattle.model.specs.Bytes as Model;
+ghost use Rattle.counts.specs.Reach.{rule};
 ghost use Rattle.judge.specs.Rules as Rules;
-ghost use Rattle.judge.specs.Rules.{rule};
 
 fn names(m: &[u8]) -> bool
     requires { ⌜ length (now m) ≡ 8192 ⌝ }

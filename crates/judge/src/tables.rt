@@ -1,8 +1,8 @@
 // Well-formed: the words of pages 7, 8 and 9, from "kinds 0-2" to the end.
-use crate::counts::lies;
 use crate::tests::Test;
 use crate::tests::all_of;
 use crate::tests::every;
+use counts::lies;
 use words::at;
 ghost use mathlib.Core.Path.{_≡_};
 ghost use Prim.Native.Nat.{_<_, _+_, _*_};
@@ -13,8 +13,8 @@ ghost use Rattle.model.specs.Store.{bytes};
 ghost use Rattle.model.specs.Rule.{holds, same, never, among, under};
 ghost use Rattle.model.specs.Judge as Judge;
 ghost use Rattle.model.specs.Bytes as Model;
+ghost use Rattle.counts.specs.Reach.{rule};
 ghost use Rattle.judge.specs.Rules as Rules;
-ghost use Rattle.judge.specs.Rules.{rule};
 
 // The word at an address: v; in low-high; below an end.
 pub fn is_at(m: &[u8], a: u16, v: u8) -> bool

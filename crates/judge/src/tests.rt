@@ -1,10 +1,10 @@
 // Well-formed: the rules of one number, a page or an index, that look through no list; and each of a list or of a range by one of them.
-use crate::counts::bearers;
-use crate::counts::left_of;
-use crate::counts::length_of;
-use crate::counts::less;
-use crate::counts::lies;
-use crate::counts::link_of;
+use counts::bearers;
+use counts::left_of;
+use counts::length_of;
+use counts::less;
+use counts::lies;
+use counts::link_of;
 use model::ControlPage;
 use model::wide;
 use queues::fits;
@@ -16,7 +16,8 @@ ghost use Rattle.model.specs.Store.{bytes};
 ghost use Rattle.model.specs.Rule.{holds, each, below};
 ghost use Rattle.model.specs.Judge as Judge;
 ghost use Rattle.model.specs.Bytes as Model;
-ghost use Rattle.judge.specs.Rules.{rule, ruleOf};
+ghost use Rattle.counts.specs.Reach.{rule};
+ghost use Rattle.judge.specs.Rules.{ruleOf};
 
 pub enum Test {
     Page,
