@@ -13,11 +13,11 @@ use Rattle.model.specs.Map.{place}
 use Rattle.model.specs.Queue as Queue
 use Rattle.model.specs.Rule.{Rule, same, most, both, each, below, whenSame, unlessSame, whenMost, among, holds, all, every}
 use Rattle.model.specs.Lists as Lists
-use Rattle.model.specs.Lists.{count, each-of, range, some, isGrant, linkOf}
+use Rattle.model.specs.Lists.{count, each-of, range, some, mails, owns, isGrant, linkOf}
 use Rattle.model.specs.Bytes.{Memory, at, word, walk, lists, name}
 use Rattle.queues.proofs.Laws.{walk-none, walk-end, walk-on}
 use Rattle.counts.specs.Reach as Reach
-use Rattle.counts.specs.Reach.{leftOf}
+use Rattle.counts.specs.Reach.{leftOf, headsOf}
 
 -- ---- the parts of a rule
 module _ (r s : Rule) (b : Bool) (e : b ≡ holds r) where
@@ -189,6 +189,17 @@ module _ (m : Memory) (a k n : ℕ) (ek : k ≡ linkOf a) (en : n ≡ leftOf a) 
 
   pub lists-length : (r : ℕ) → r ≡ length (walk n m k a) → r ≡ length (lists m a)
   lists-length r e = rw (lists-is m a, ← ek, ← en) e
+
+-- Q1 and Q2, and the own queue, as heads in words from 5 and from 4 on
+pub mails-heads : (ps : List ℕ) → mails ps ≡ headsOf 2 5 ps
+unfolding range
+mails-heads [] = refl
+mails-heads (p ∷ ps) = let e : place p 5 + 1 ≡ place p 6 = omega arith in rw (e, mails-heads ps)
+
+pub owns-heads : (ps : List ℕ) → owns ps ≡ headsOf 1 4 ps
+unfolding range
+owns-heads [] = refl
+owns-heads (p ∷ ps) = rw (owns-heads ps)
 
 -- at a place, and at the header of interrupt i + 1, as the code reckons them
 pub place-each : (m : Memory) (c p k : ℕ) (f : ℕ → Rule) (r : Bool) → c ≡ place p k → r ≡ holds (each (lists m c) f) → r ≡ holds (each (lists m (place p k)) f)

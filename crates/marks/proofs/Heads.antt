@@ -6,11 +6,11 @@ use mathlib.Core.List.{List, [], _∷_, _++_}
 use Rattle.model.specs.Map.{place}
 use Rattle.model.specs.Rule.{each, holds}
 use Rattle.model.specs.Lists as Lists
-use Rattle.model.specs.Lists.{Lists, range, mails, owns, uses, queues, linkOf}
+use Rattle.model.specs.Lists.{Lists, range, uses, queues, linkOf}
 use Rattle.model.specs.Bytes.{Memory, at, walk, lists}
 use Rattle.queues.proofs.Laws.{walk-none, walk-end, walk-on}
-use Rattle.counts.specs.Reach.{leftOf}
-use Rattle.counts.proofs.Folds.{lists-is, range-zero, range-suc, both-yes, both-no}
+use Rattle.counts.specs.Reach.{leftOf, headsOf}
+use Rattle.counts.proofs.Folds.{lists-is, mails-heads, owns-heads, range-zero, range-suc, both-yes, both-no}
 use Rattle.marks.specs.Marks as Marks
 use Rattle.marks.specs.Marks.{Marks, unmarked, marked, markedAll, markedLists, bitBy, waiterBy, marksIn, bits}
 
@@ -32,37 +32,7 @@ module _ (n : ℕ) (m : Memory) (k a : ℕ) (t : Marks) where
 pub lists-marked : (m : Memory) (a k n : ℕ) (t r : Marks) → k ≡ linkOf a → n ≡ leftOf a → r ≡ markedAll t (walk n m k a) → r ≡ markedAll t (lists m a)
 lists-marked m a k n t r ek en e = rw (lists-is m a, ← ek, ← en) e
 
--- ---- marks of the processors' lists
-module _ (n : ℕ) (m : Memory) (a : ℕ) (t : Marks) where
-  pub mails-none : n ≡ 0 → t ≡ markedLists t (lists m) (mails (walk n m 1 a))
-  unfolding Marks.markedLists
-  mails-none e = rw (walk-none n m 1 a e)
-
-  pub owns-none : n ≡ 0 → t ≡ markedLists t (lists m) (owns (walk n m 1 a))
-  unfolding Marks.markedLists
-  owns-none e = rw (walk-none n m 1 a e)
-
-  module _ (w : ℕ) (e : w ≡ at m a) where
-    pub mails-end : w ≡ 0 → t ≡ markedLists t (lists m) (mails (walk n m 1 a))
-    unfolding Marks.markedLists
-    mails-end h = rw (walk-end n m 1 a w e h)
-
-    pub owns-end : w ≡ 0 → t ≡ markedLists t (lists m) (owns (walk n m 1 a))
-    unfolding Marks.markedLists
-    owns-end h = rw (walk-end n m 1 a w e h)
-
-    module _ (c : ℕ) (u r : Marks) (o : n ≡ 0 → ⊥) (z : w ≡ 0 → ⊥) where
-      pub mails-on : (v : Marks) → u ≡ markedAll t (lists m (place w 5)) → v ≡ markedAll u (lists m (place w 6)) → c ≡ place w 1
-          → r ≡ markedLists v (lists m) (mails (walk (n - 1) m 1 c)) → r ≡ markedLists t (lists m) (mails (walk n m 1 a))
-      unfolding Marks.markedLists
-      mails-on v eu ev ec er = rw (walk-on n m 1 a w c o e z ec) (rw (ev, eu) at er)
-
-      pub owns-on : u ≡ markedAll t (lists m (place w 4)) → c ≡ place w 1 → r ≡ markedLists u (lists m) (owns (walk (n - 1) m 1 c))
-          → r ≡ markedLists t (lists m) (owns (walk n m 1 a))
-      unfolding Marks.markedLists
-      owns-on eu ec er = rw (walk-on n m 1 a w c o e z ec) (rw eu at er)
-
--- ---- marks of a range of heads; of all that is used, of all that wait
+-- ---- marks of a range of heads
 module _ (n : ℕ) (m : Memory) (d a : ℕ) (t : Marks) where
   pub heads-none : n ≡ 0 → t ≡ markedLists t (lists m) (range n d a)
   unfolding Marks.markedLists
@@ -78,20 +48,37 @@ unfolding Marks.markedLists
 lists-append L [] ys t = refl
 lists-append L (a ∷ xs) ys t = lists-append L xs ys (markedAll t (L a))
 
+-- ---- marks of the processors' lists
+module _ (n : ℕ) (m : Memory) (j k a : ℕ) (t : Marks) where
+  pub words-none : n ≡ 0 → t ≡ markedLists t (lists m) (headsOf j k (walk n m 1 a))
+  unfolding Marks.markedLists
+  words-none e = rw (walk-none n m 1 a e)
+
+  pub words-end : (w : ℕ) → w ≡ at m a → w ≡ 0 → t ≡ markedLists t (lists m) (headsOf j k (walk n m 1 a))
+  unfolding Marks.markedLists
+  words-end w e h = rw (walk-end n m 1 a w e h)
+
+  pub words-on : (w b c : ℕ) (u r : Marks) → (n ≡ 0 → ⊥) → w ≡ at m a → (w ≡ 0 → ⊥) → b ≡ place w k → u ≡ markedLists t (lists m) (range j 1 b)
+      → c ≡ place w 1 → r ≡ markedLists u (lists m) (headsOf j k (walk (n - 1) m 1 c)) → r ≡ markedLists t (lists m) (headsOf j k (walk n m 1 a))
+  words-on w b c u r o e z eb eu ec er =
+      let h : r ≡ markedLists (markedLists t (lists m) (range j 1 (place w k))) (lists m) (headsOf j k (walk (n - 1) m 1 c)) = rw (eu, eb) at er in
+      rw (walk-on n m 1 a w c o e z ec) (h ∙ sym (lists-append (lists m) (range j 1 (place w k)) (headsOf j k (walk (n - 1) m 1 c)) t))
+
+-- ---- marks of all that is used, of all that wait
 module _ (m : Memory) (s t u v r : Marks) (es : s ≡ unmarked) where
-  pub uses-marked : t ≡ markedAll s (lists m 247) → u ≡ markedAll t (lists m 244) → v ≡ markedLists u (lists m) (mails (walk 21 m 1 247))
+  pub uses-marked : t ≡ markedAll s (lists m 247) → u ≡ markedAll t (lists m 244) → v ≡ markedLists u (lists m) (headsOf 2 5 (walk 21 m 1 247))
       → r ≡ markedLists v (lists m) (range 32 1 320) → r ≡ marksIn m (uses (lists m 247))
   unfolding Marks.markedLists Lists.lists Lists.isGrant Lists.linkOf
   uses-marked et eu ev er =
       er
-      ∙ rw (ev, eu, et, es)
-      (sym (lists-append (lists m) (mails (lists m 247)) (range 32 1 320) (markedAll (markedAll unmarked (lists m 247)) (lists m 244))))
+      ∙ rw (mails-heads (lists m 247), ev, eu, et, es)
+      (sym (lists-append (lists m) (headsOf 2 5 (lists m 247)) (range 32 1 320) (markedAll (markedAll unmarked (lists m 247)) (lists m 244))))
 
-  pub queues-marked : t ≡ markedAll s (lists m 246) → u ≡ markedLists t (lists m) (owns (walk 21 m 1 247)) → r ≡ markedLists u (lists m) (range 54 2 132)
+  pub queues-marked : t ≡ markedAll s (lists m 246) → u ≡ markedLists t (lists m) (headsOf 1 4 (walk 21 m 1 247)) → r ≡ markedLists u (lists m) (range 54 2 132)
       → r ≡ marksIn m (queues (lists m 247))
   unfolding Marks.markedLists Lists.lists Lists.isGrant Lists.linkOf
   queues-marked et eu er =
-      er ∙ rw (eu, et, es) (sym (lists-append (lists m) (owns (lists m 247)) (range 54 2 132) (markedAll unmarked (lists m 246))))
+      er ∙ rw (owns-heads (lists m 247), eu, et, es) (sym (lists-append (lists m) (headsOf 1 4 (lists m 247)) (range 54 2 132) (markedAll unmarked (lists m 246))))
 
 -- ---- the waiting bits by marks
 module _ (m : Memory) (t : Marks) (b : Bool) (et : t ≡ marksIn m (queues (lists m 247))) (eb : b ≡ holds (each (walk 21 m 1 247) (bitBy m t))) where
@@ -109,14 +96,11 @@ pub ruleset heads = (
   mark-end,
   mark-on,
   lists-marked,
-  mails-none,
-  mails-end,
-  mails-on,
-  owns-none,
-  owns-end,
-  owns-on,
   heads-none,
   heads-on,
+  words-none,
+  words-end,
+  words-on,
   uses-marked,
   queues-marked,
   bits-bad,

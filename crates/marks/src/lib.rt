@@ -11,9 +11,9 @@ ghost use Rattle.model.specs.Map as Map;
 ghost use Rattle.model.specs.Store.{bytes};
 ghost use Rattle.model.specs.Rule.{holds, each};
 ghost use Rattle.model.specs.Judge as Judge;
-ghost use Rattle.model.specs.Lists.{mails, owns, uses, queues, range};
+ghost use Rattle.model.specs.Lists.{uses, queues, range};
 ghost use Rattle.model.specs.Bytes as Model;
-ghost use Rattle.counts.specs.Reach.{rule};
+ghost use Rattle.counts.specs.Reach.{rule, headsOf};
 ghost use Rattle.marks.specs.Marks as Marks;
 ghost use Rattle.marks.specs.Marks.{marked, markedAll, markedLists, bits, onceBy, bitBy, waiterBy, marksIn};
 
@@ -81,52 +81,12 @@ fn mark_all(m: &[u8], t: Marks, k: u16, a: u16, left: u8) -> Marks
     mark_all(m, mark(t, w), k, ControlPage(w).place(k), left - 1)
 }
 
-// With the list of the head at a; of word k of page p.
+// With the list of the head at a.
 fn mark_list(m: &[u8], t: Marks, a: u16) -> Marks
     requires { ⌜ (length (now m) ≡ 8192) × (a < 8192) ⌝ }
     ensures { λ r. ⌜ r ≡ markedAll t (Model.lists (now (m .entry)) a) ⌝ }
 {
     mark_all(m, t, link_of(a), a, left_of(a))
-}
-
-fn mark_in(m: &[u8], t: Marks, p: ControlPage, k: u16) -> Marks
-    requires { ⌜ (length (now m) ≡ 8192) × (k < 32) ⌝ }
-    ensures { λ r. ⌜ r ≡ markedAll t (Model.lists (now (m .entry)) (p .0 * 32 + k)) ⌝ }
-{
-    mark_list(m, t, p.place(k))
-}
-
-// With Q1 and Q2 of the processors from the cell at a on.
-fn mark_mails(m: &[u8], t: Marks, a: u16, left: u8) -> Marks
-    requires { ⌜ (length (now m) ≡ 8192) × (a < 8192) ⌝ }
-    ensures { λ r. ⌜ r ≡ markedLists t (Model.lists (now (m .entry))) (mails (Model.walk left (now (m .entry)) Map.listLink a)) ⌝ }
-{
-    if left == 0 {
-        return t;
-    }
-    let w = at(m, a);
-    if w == 0 {
-        return t;
-    }
-    let u = mark_in(m, t, ControlPage(w), 5);
-    let v = mark_in(m, u, ControlPage(w), 6);
-    mark_mails(m, v, ControlPage(w).place(1), left - 1)
-}
-
-// With their own message waits.
-fn mark_owns(m: &[u8], t: Marks, a: u16, left: u8) -> Marks
-    requires { ⌜ (length (now m) ≡ 8192) × (a < 8192) ⌝ }
-    ensures { λ r. ⌜ r ≡ markedLists t (Model.lists (now (m .entry))) (owns (Model.walk left (now (m .entry)) Map.listLink a)) ⌝ }
-{
-    if left == 0 {
-        return t;
-    }
-    let w = at(m, a);
-    if w == 0 {
-        return t;
-    }
-    let u = mark_in(m, t, ControlPage(w), 4);
-    mark_owns(m, u, ControlPage(w).place(1), left - 1)
 }
 
 // With the lists of n heads from a on, by steps of d.
@@ -141,6 +101,22 @@ fn mark_range(m: &[u8], t: Marks, n: u8, d: u16, a: u16) -> Marks
     mark_range(m, u, n - 1, d, a + d)
 }
 
+// With the lists of n words from k on, of each processor from the cell at a on.
+fn mark_words(m: &[u8], t: Marks, n: u8, k: u16, a: u16, left: u8) -> Marks
+    requires { ⌜ (length (now m) ≡ 8192) × (k + 2 * n < 32) × (a < 8192) ⌝ }
+    ensures { λ r. ⌜ r ≡ markedLists t (Model.lists (now (m .entry))) (headsOf n k (Model.walk left (now (m .entry)) Map.listLink a)) ⌝ }
+{
+    if left == 0 {
+        return t;
+    }
+    let w = at(m, a);
+    if w == 0 {
+        return t;
+    }
+    let u = mark_range(m, t, n, 1, ControlPage(w).place(k));
+    mark_words(m, u, n, k, ControlPage(w).place(1), left - 1)
+}
+
 // The marks of all that is used, and of all that wait.
 fn used_marks(m: &[u8]) -> Marks
     requires { ⌜ length (now m) ≡ 8192 ⌝ }
@@ -148,7 +124,7 @@ fn used_marks(m: &[u8]) -> Marks
 {
     let t = mark_list(m, unmarked(), 247);
     let u = mark_list(m, t, 244);
-    let v = mark_mails(m, u, 247, 21);
+    let v = mark_words(m, u, 2, 5, 247, 21);
     mark_range(m, v, 32, 1, 320)
 }
 
@@ -157,7 +133,7 @@ fn queue_marks(m: &[u8]) -> Marks
     ensures { λ r. ⌜ r ≡ marksIn (now (m .entry)) (queues (Model.lists (now (m .entry)) Map.processorList)) ⌝ }
 {
     let t = mark_list(m, unmarked(), 246);
-    let u = mark_owns(m, t, 247, 21);
+    let u = mark_words(m, t, 1, 4, 247, 21);
     mark_range(m, u, 54, 2, 132)
 }
 
