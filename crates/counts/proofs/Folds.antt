@@ -1,7 +1,7 @@
 -- Laws of the rules' parts, and of the folds along a walk and over a range, a law for each way out: they serve every rule. And that the
 -- list of a head, a grant too, is a walk.
 use Prim.Native.Nat.{ℕ, zero, suc, _+_, _*_, _-_, _%_, _≤_, _<_}
-use mathlib.Core.Path.{_≡_, refl, sym}
+use mathlib.Core.Path.{_≡_, refl}
 use mathlib.Core.Bool.{Bool, true, false, cond, _&&_}
 use mathlib.Core.List.{List, [], _∷_}
 use native.Mathlib.Omega.{arith}
@@ -42,6 +42,10 @@ pub both-and : (r s : Rule) → holds (both r s) ≡ (holds r && holds s)
 unfolding holds
 both-and r s = if-and (holds r) (holds s)
 
+-- two parts, both tested
+pub both-is : (r s : Rule) (a b c : Bool) → c ≡ (a && b) → a ≡ holds r → b ≡ holds s → c ≡ holds (both r s)
+both-is r s a b c e ea eb = rw (both-and r s, ← ea, ← eb) e
+
 pub each-nil : (f : ℕ → Rule) → holds (each [] f) ≡ true
 unfolding holds all
 each-nil f = refl
@@ -50,26 +54,13 @@ pub cons-and : (f : ℕ → Rule) (x : ℕ) (xs : List ℕ) → holds (each (x �
 unfolding holds all
 cons-and f x xs = if-and (holds (f x)) (holds (each xs f))
 
+pub cons-is : (f : ℕ → Rule) (x : ℕ) (xs : List ℕ) (a b c : Bool) → c ≡ (a && b) → a ≡ holds (f x) → b ≡ holds (each xs f) → c ≡ holds (each (x ∷ xs) f)
+cons-is f x xs a b c e ea eb = rw (cons-and f x xs, ← ea, ← eb) e
+
 module _ (x y : ℕ) where
-  pub same-yes : x ≡ y → true ≡ holds (same x y)
-  unfolding holds
-  same-yes h = sym (eq-eqb x y h)
-
-  pub same-no : (x ≡ y → ⊥) → false ≡ holds (same x y)
-  unfolding holds
-  same-no h = sym (ne-eqb x y h)
-
   pub same-is : eqb x y ≡ holds (same x y)
   unfolding holds
   same-is = refl
-
-  pub most-yes : x ≤ y → true ≡ holds (most x y)
-  unfolding holds
-  most-yes h = sym (le-leb x y h)
-
-  pub most-no : y < x → false ≡ holds (most x y)
-  unfolding holds
-  most-no h = sym (lt-leb x y h)
 
   pub most-is : leb x y ≡ holds (most x y)
   unfolding holds
@@ -100,11 +91,8 @@ module _ (x y : ℕ) where
     unfolding holds
     least-no h = rw (lt-leb x y h, holds)
 
-pub lies-in : (x lo hi : ℕ) → lo ≤ x → leb x hi ≡ holds (among x lo hi)
-lies-in x lo hi h = both-yes (most lo x) (most x hi) true (most-yes lo x h) (leb x hi) refl (most-is x hi)
-
-pub lies-out : (x lo hi : ℕ) → x < lo → false ≡ holds (among x lo hi)
-lies-out x lo hi h = both-no (most lo x) (most x hi) false (most-no lo x h) refl
+pub lies-is : (x lo hi : ℕ) (r : Bool) → r ≡ (leb lo x && leb x hi) → r ≡ holds (among x lo hi)
+lies-is x lo hi r e = both-is (most lo x) (most x hi) (leb lo x) (leb x hi) r e (most-is lo x) (most-is x hi)
 
 -- ---- each of a list
 module _ (f : ℕ → Rule) (b : Bool) where
@@ -270,12 +258,9 @@ module _ (n : ℕ) (m : Memory) (k a : ℕ) where
         name-other h = rw (walk-on n m k a w c o e nz ec, ← ex, ne-eqb z (x % 16) h) (omega arith)
 
 pub ruleset folds = (
-  both-yes,
-  both-no,
-  lies-in,
-  lies-out,
-  cons-yes,
-  cons-no,
+  both-is,
+  lies-is,
+  cons-is,
   each-none,
   each-end,
   each-bad,

@@ -3,6 +3,7 @@ use model::ControlPage;
 use model::wide;
 use words::at;
 ghost use mathlib.Core.Path.{_≡_};
+ghost use mathlib.Core.Bool.{_&&_};
 ghost use Prim.Native.Nat.{_<_, _≤_, _+_};
 ghost use lib.ListN.{length};
 ghost use Rattle.model.specs.Map as Map;
@@ -11,14 +12,21 @@ ghost use Rattle.model.specs.Lists.{count, each-of, linkOf};
 ghost use Rattle.model.specs.Bytes as Model;
 ghost use Rattle.counts.specs.Reach.{leftOf};
 
+// Whether both hold; a rule that is two is tested so.
+pub fn both(a: bool, b: bool) -> bool
+    ensures { λ r. ⌜ r ≡ (a && b) ⌝ }
+{
+    if a {
+        return b;
+    }
+    false
+}
+
 // Whether x lies in low-high.
 pub fn lies(x: u8, low: u8, high: u8) -> bool
     ensures { λ r. ⌜ r ≡ holds (among x low high) ⌝ }
 {
-    if low <= x {
-        return x <= high;
-    }
-    false
+    both(low <= x, x <= high)
 }
 
 // a - b as a signed byte.

@@ -2,7 +2,7 @@
 -- code's order.
 use Prim.Native.Nat.{ℕ, suc, _+_, _/_, _%_, _≤_, _<_}
 use mathlib.Core.Path.{_≡_, refl}
-use mathlib.Core.Bool.{Bool, true, false}
+use mathlib.Core.Bool.{Bool, true, _&&_}
 use native.Mathlib.Omega.{arith}
 use lib.ListN.{length}
 use lib.Dec.{eqb, leb, ltb}
@@ -17,8 +17,7 @@ use Rattle.counts.specs.Reach.{rule}
 use Rattle.judge.specs.declared.tests.Test.{Test}
 use Rattle.judge.specs.declared.deep.Deep.{Deep}
 use Rattle.judge.specs.Rules.{ruleOf, deepOf}
-use Rattle.counts.proofs.Folds.{both-yes, both-no, both-true, same-yes, same-no, same-is, most-yes, most-no, most-is, when-yes, when-no, unless-yes}
-use Rattle.counts.proofs.Folds.{unless-no, least-yes, least-no}
+use Rattle.counts.proofs.Folds.{both-yes, both-true, both-is, same-is, most-is, when-yes, when-no, unless-yes, unless-no, least-yes, least-no}
 
 -- ---- which rule
 pub test-at : (m : Memory) (t u : Test) (x : ℕ) (b : Bool) → t ≡ u → b ≡ holds (ruleOf m u x) → b ≡ holds (ruleOf m t x)
@@ -28,19 +27,10 @@ pub deep-at : (m : Memory) (t u : Deep) (x : ℕ) (b : Bool) → t ≡ u → b �
 deep-at m t u x b e h = rw e h
 
 -- ---- names
-module _ (m : Memory) (p w n : ℕ) (ew : w ≡ word m p 7) (en : n ≡ count (w % 16) (each-of (name m) (walk 21 m 1 247))) where
-  pub label-shared : (n ≡ 1 → ⊥) → false ≡ holds (rule (Judge.label bytes) m p)
-  unfolding Judge.label Lists.lists Lists.isGrant Lists.linkOf
-  label-shared h = rw (← ew, ← en) (both-no _ _ false (same-no n 1 h) refl)
-
-  pub label-unnamed : (b : Bool) → n ≡ 1 → b ≡ holds (among (w % 16) 1 15) → b ≡ false → false ≡ holds (rule (Judge.label bytes) m p)
-  unfolding Judge.label Lists.lists Lists.isGrant Lists.linkOf
-  label-unnamed b h eb z = rw (← ew, ← en) (both-yes _ _ true (same-yes n 1 h) false refl (both-no _ _ b eb z))
-
-  pub label-good : (b c : Bool) → n ≡ 1 → b ≡ holds (among (w % 16) 1 15) → b ≡ true → c ≡ holds (among (w / 16) 1 15)
-      → c ≡ holds (rule (Judge.label bytes) m p)
-  unfolding Judge.label Lists.lists Lists.isGrant Lists.linkOf
-  label-good b c h eb z ec = rw (← ew, ← en) (both-yes _ _ true (same-yes n 1 h) c refl (both-yes _ _ b eb c z ec))
+pub label-is : (m : Memory) (p w n : ℕ) (b c d r : Bool) → w ≡ word m p 7 → n ≡ count (w % 16) (each-of (name m) (walk 21 m 1 247))
+    → b ≡ holds (among (w % 16) 1 15) → c ≡ holds (among (w / 16) 1 15) → d ≡ (b && c) → r ≡ (eqb n 1 && d) → r ≡ holds (rule (Judge.label bytes) m p)
+unfolding Judge.label Lists.lists Lists.isGrant Lists.linkOf
+label-is m p w n b c d r ew en eb ec ed er = rw (← ew, ← en) (both-is _ _ (eqb n 1) d r er (same-is n 1) (both-is _ _ b c d ed eb ec))
 
 -- ---- reasons
 module _ (m : Memory) (p w : ℕ) (ew : w ≡ word m p 12) where
@@ -53,29 +43,16 @@ module _ (m : Memory) (p w : ℕ) (ew : w ≡ word m p 12) where
   quiet-waits h = rw (← ew) (when-no _ _ _ h)
 
 -- ---- message waits: x is in the own queue of p
-module _ (m : Memory) (p x w : ℕ) (ew : w ≡ word m p 2) where
-  pub owner-other : (x ≡ p → ⊥) → false ≡ holds (rule (Judge.owner bytes) m p x)
-  unfolding Judge.owner
-  owner-other h = both-no _ _ false (same-no x p h) refl
-
-  pub owner-flag : x ≡ p → 7 < w % 16 → false ≡ holds (rule (Judge.owner bytes) m p x)
-  unfolding Judge.owner
-  owner-flag h k = rw (← ew) (both-yes _ _ true (same-yes x p h) false refl (both-no _ _ false (most-no (w % 16) 7 k) refl))
-
-  pub owner-good : (b : Bool) → x ≡ p → w % 16 ≤ 7 → b ≡ holds (each (lists m (place p 5)) (rule (Judge.unasked bytes) m p))
-      → b ≡ holds (rule (Judge.owner bytes) m p x)
-  unfolding Judge.owner
-  owner-good b h k eb = rw (← ew) (both-yes _ _ true (same-yes x p h) b refl (both-yes _ _ true (most-yes (w % 16) 7 k) b refl eb))
+pub owner-is : (m : Memory) (p x w : ℕ) (b d r : Bool) → w ≡ word m p 2 → b ≡ holds (each (lists m (place p 5)) (rule (Judge.unasked bytes) m p))
+    → d ≡ (leb (w % 16) 7 && b) → r ≡ (eqb x p && d) → r ≡ holds (rule (Judge.owner bytes) m p x)
+unfolding Judge.owner
+owner-is m p x w b d r ew eb ed er = rw (← ew) (both-is _ _ (eqb x p) d r er (same-is x p) (both-is _ _ (leb (w % 16) 7) b d ed (most-is (w % 16) 7) eb))
 
 -- ---- pages
-module _ (m : Memory) (p n w : ℕ) (en : n ≡ length (lists m 244)) (ew : w ≡ word m p 7) where
-  pub page-wait-free : (n ≡ 0 → ⊥) → false ≡ holds (rule (Judge.pageWait bytes) m p)
-  unfolding Judge.pageWait
-  page-wait-free h = rw (← en) (both-no _ _ false (same-no n 0 h) refl)
-
-  pub page-wait-none : (i g : ℕ) → n ≡ 0 → i ≡ w % 16 → g ≡ length (lists m (320 + i)) → eqb g 0 ≡ holds (rule (Judge.pageWait bytes) m p)
-  unfolding Judge.pageWait
-  page-wait-none i g h ei eg = rw (← en, ← ew, ← ei, ← eg) (both-yes _ _ true (same-yes n 0 h) (eqb g 0) refl (same-is g 0))
+pub page-wait-is : (m : Memory) (p n w i g : ℕ) (r : Bool) → n ≡ length (lists m 244) → w ≡ word m p 7 → i ≡ w % 16 → g ≡ length (lists m (320 + i))
+    → r ≡ (eqb n 0 && eqb g 0) → r ≡ holds (rule (Judge.pageWait bytes) m p)
+unfolding Judge.pageWait
+page-wait-is m p n w i g r en ew ei eg er = rw (← en, ← ew, ← ei, ← eg) (both-is _ _ (eqb n 0) (eqb g 0) r er (same-is n 0) (same-is g 0))
 
 module _ (m : Memory) (k i g : ℕ) (ei : i ≡ k) (eg : g ≡ length (lists m (320 + i))) where
   pub grant-none : g ≡ 0 → true ≡ holds (rule (Judge.grant bytes) m k)
@@ -96,19 +73,10 @@ module _ (m : Memory) (q w : ℕ) (ew : w ≡ word m q 2) where
   unfolding Judge.sized
   sized-text h = rw (← ew) (unless-no w 128 _ (leb w 29) h (most-is w 29))
 
-module _ (m : Memory) (q w : ℕ) (b : Bool) (ew : w ≡ word m q 1) (eb : b ≡ holds (among (w / 16) 1 15)) where
-  pub message-sender : b ≡ false → false ≡ holds (rule (Judge.message bytes) m q)
-  unfolding Judge.message
-  message-sender h = rw (← ew) (both-no _ _ b eb h)
-
-  pub message-flag : (c : Bool) → b ≡ true → c ≡ holds (among (w % 16) 1 7) → c ≡ false → false ≡ holds (rule (Judge.message bytes) m q)
-  unfolding Judge.message
-  message-flag c h ec k = rw (← ew) (both-yes _ _ b eb false h (both-no _ _ c ec k))
-
-  pub message-good : (c d : Bool) → b ≡ true → c ≡ holds (among (w % 16) 1 7) → c ≡ true → d ≡ holds (rule (Judge.sized bytes) m q)
-      → d ≡ holds (rule (Judge.message bytes) m q)
-  unfolding Judge.message
-  message-good c d h ec k ed = rw (← ew) (both-yes _ _ b eb d h (both-yes _ _ c ec d k ed))
+pub message-is : (m : Memory) (q w : ℕ) (b c d e r : Bool) → w ≡ word m q 1 → b ≡ holds (among (w / 16) 1 15) → c ≡ holds (among (w % 16) 1 7)
+    → d ≡ holds (rule (Judge.sized bytes) m q) → e ≡ (c && d) → r ≡ (b && e) → r ≡ holds (rule (Judge.message bytes) m q)
+unfolding Judge.message
+message-is m q w b c d e r ew eb ec ed ee er = rw (← ew) (both-is _ _ b e r er eb (both-is _ _ c d e ee ec ed))
 
 -- ---- who runs
 module _ (m : Memory) (p s : ℕ) (es : s ≡ word m p 12) where
@@ -120,50 +88,29 @@ module _ (m : Memory) (p s : ℕ) (es : s ≡ word m p 12) where
   unfolding Judge.notHigher
   higher-not h = rw (← es) (least-no (suc s) 64 _ (omega arith))
 
-module _ (m : Memory) (p n l w s : ℕ) (en : n ≡ count p (walk 21 m 1 247)) (el : l ≡ at m 249) (ew : w ≡ word m p 7) (es : s ≡ word m p 12) where
-  pub runner-unlisted : (n ≡ 1 → ⊥) → false ≡ holds (rule (Judge.runner bytes) m p)
-  unfolding Judge.runner Lists.lists Lists.isGrant Lists.linkOf
-  runner-unlisted h = rw (← en) (both-no _ _ false (same-no n 1 h) refl)
+pub runner-is : (m : Memory) (p n l w s : ℕ) (d r : Bool) → n ≡ count p (walk 21 m 1 247) → l ≡ at m 249 → w ≡ word m p 7 → s ≡ word m p 12
+    → d ≡ (eqb l w && ltb s 64) → r ≡ (eqb n 1 && d) → r ≡ holds (rule (Judge.runner bytes) m p)
+unfolding Judge.runner Lists.lists Lists.isGrant Lists.linkOf
+runner-is m p n l w s d r en el ew es ed er =
+    rw (← en, ← el, ← ew, ← es)
+    (both-is _ _ (eqb n 1) d r er (same-is n 1) (both-is _ _ (eqb l w) (ltb s 64) d ed (same-is l w) (most-is (suc s) 64)))
 
-  pub runner-other : n ≡ 1 → (l ≡ w → ⊥) → false ≡ holds (rule (Judge.runner bytes) m p)
-  unfolding Judge.runner Lists.lists Lists.isGrant Lists.linkOf
-  runner-other h k = rw (← en, ← el, ← ew) (both-yes _ _ true (same-yes n 1 h) false refl (both-no _ _ false (same-no l w k) refl))
-
-  pub runner-good : n ≡ 1 → l ≡ w → ltb s 64 ≡ holds (rule (Judge.runner bytes) m p)
-  unfolding Judge.runner Lists.lists Lists.isGrant Lists.linkOf
-  runner-good h k =
-      rw (← en, ← el, ← ew, ← es)
-      (both-yes _ _ true (same-yes n 1 h) (ltb s 64) refl (both-yes _ _ true (same-yes l w k) (ltb s 64) refl (most-is (suc s) 64)))
-
-module _ (m : Memory) (p : ℕ) (b : Bool) (ep : p ≡ at m 248) where
-  pub running-odd : p ≡ 0 → b ≡ holds (same (at m 249) 0) → b ≡ false → false ≡ holds (rule (Judge.running bytes) m)
+module _ (m : Memory) (p : ℕ) (b c r : Bool) (ep : p ≡ at m 248) where
+  pub running-idle : p ≡ 0 → b ≡ holds (same (at m 249) 0) → c ≡ holds (each (lists m 247) (rule (Judge.notHigher bytes) m)) → r ≡ (b && c)
+      → r ≡ holds (rule (Judge.running bytes) m)
   unfolding Judge.running
-  running-odd z eb h = rw (← ep) (both-no _ _ b (when-yes p 0 _ b z eb) h)
+  running-idle z eb ec er = rw (← ep) (both-is _ _ b c r er (when-yes p 0 _ b z eb) (both-yes _ _ true (unless-yes p 0 _ z) c refl ec))
 
-  pub running-idle : (c : Bool) → p ≡ 0 → b ≡ holds (same (at m 249) 0) → b ≡ true → c ≡ holds (each (lists m 247) (rule (Judge.notHigher bytes) m))
-      → c ≡ holds (rule (Judge.running bytes) m)
+  pub running-one : (p ≡ 0 → ⊥) → b ≡ holds (rule (Judge.runner bytes) m p) → c ≡ holds (each (lists m 247) (rule (Judge.notHigher bytes) m))
+      → r ≡ (b && c) → r ≡ holds (rule (Judge.running bytes) m)
   unfolding Judge.running
-  running-idle c z eb h ec =
-      rw (← ep) (both-yes _ _ b (when-yes p 0 _ b z eb) c h (both-yes _ _ true (unless-yes p 0 _ z) c refl ec))
-
-  pub running-bad : (p ≡ 0 → ⊥) → b ≡ holds (rule (Judge.runner bytes) m p) → b ≡ false → false ≡ holds (rule (Judge.running bytes) m)
-  unfolding Judge.running
-  running-bad z eb h = rw (← ep) (both-yes _ _ true (when-no p 0 _ z) false refl (both-no _ _ b (unless-no p 0 _ b z eb) h))
-
-  pub running-good : (c : Bool) → (p ≡ 0 → ⊥) → b ≡ holds (rule (Judge.runner bytes) m p) → b ≡ true
-      → c ≡ holds (each (lists m 247) (rule (Judge.notHigher bytes) m)) → c ≡ holds (rule (Judge.running bytes) m)
-  unfolding Judge.running
-  running-good c z eb h ec = rw (← ep) (both-yes _ _ true (when-no p 0 _ z) c refl (both-yes _ _ b (unless-no p 0 _ b z eb) c h ec))
+  running-one z eb ec er = rw (← ep) (both-yes _ _ true (when-no p 0 _ z) r refl (both-is _ _ b c r er (unless-no p 0 _ b z eb) ec))
 
 -- ---- page 9
-module _ (m : Memory) (i j w : ℕ) (b : Bool) (ej : j ≡ i) (ew : w ≡ at m (289 + j)) (eb : b ≡ holds (among (w / 16) 1 15)) where
-  pub used-bad : b ≡ false → false ≡ holds (rule (Judge.used bytes) m i)
-  unfolding Judge.used
-  used-bad h = rw (← ej, ← ew) (both-no _ _ b eb h)
-
-  pub used-good : (c : Bool) → b ≡ true → c ≡ holds (among (w % 16) 1 12) → c ≡ holds (rule (Judge.used bytes) m i)
-  unfolding Judge.used
-  used-good c h ec = rw (← ej, ← ew) (both-yes _ _ b eb c h ec)
+pub used-is : (m : Memory) (i j w : ℕ) (b c r : Bool) → j ≡ i → w ≡ at m (289 + j) → b ≡ holds (among (w / 16) 1 15) → c ≡ holds (among (w % 16) 1 12)
+    → r ≡ (b && c) → r ≡ holds (rule (Judge.used bytes) m i)
+unfolding Judge.used
+used-is m i j w b c r ej ew eb ec er = rw (← ej, ← ew) (both-is _ _ b c r er eb ec)
 
 module _ (m : Memory) (i f j k : ℕ) (ef : f ≡ at m 288) (ej : j ≡ i) (ek : k ≡ f) where
   pub entry-used : (b : Bool) → j + 2 ≤ k → b ≡ holds (rule (Judge.used bytes) m i) → b ≡ holds (rule (Judge.entry bytes) m i)
@@ -178,48 +125,31 @@ module _ (m : Memory) (i f j k : ℕ) (ef : f ≡ at m 288) (ej : j ≡ i) (ek :
       rw (← ef, ← e) (both-yes _ _ true (least-no (i + 2) f _ (omega arith)) (eqb w 0) refl (least-yes f (i + 1) _ (eqb w 0) (omega arith) (same-is w 0)))
 
 -- ---- that a list ends and holds control pages
-module _ (m : Memory) (a n : ℕ) (en : n ≡ length (lists m a)) where
-  pub list-long : 20 < n → false ≡ holds (rule (Judge.list bytes) m a)
-  unfolding Judge.list
-  list-long h = rw (← en) (both-no _ _ false (most-no n 20 h) refl)
-
-  pub list-ends : (b : Bool) → n ≤ 20 → b ≡ holds (each (lists m a) (rule (Judge.page bytes) m)) → b ≡ holds (rule (Judge.list bytes) m a)
-  unfolding Judge.list
-  list-ends b h eb = rw (← en) (both-yes _ _ true (most-yes n 20 h) b refl eb)
+pub list-is : (m : Memory) (a n : ℕ) (b r : Bool) → n ≡ length (lists m a) → b ≡ holds (each (lists m a) (rule (Judge.page bytes) m)) → r ≡ (leb n 20 && b)
+    → r ≡ holds (rule (Judge.list bytes) m a)
+unfolding Judge.list
+list-is m a n b r en eb er = rw (← en) (both-is _ _ (leb n 20) b r er (most-is n 20) eb)
 
 pub ruleset sentences = (
   test-at,
   deep-at,
-  label-shared,
-  label-unnamed,
-  label-good,
+  label-is,
   quiet-idle,
   quiet-waits,
-  owner-other,
-  owner-flag,
-  owner-good,
-  page-wait-free,
-  page-wait-none,
+  owner-is,
+  page-wait-is,
   grant-none,
   grant-some,
   sized-notice,
   sized-text,
-  message-sender,
-  message-flag,
-  message-good,
+  message-is,
   higher-ready,
   higher-not,
-  runner-unlisted,
-  runner-other,
-  runner-good,
-  running-odd,
+  runner-is,
   running-idle,
-  running-bad,
-  running-good,
-  used-bad,
-  used-good,
+  running-one,
+  used-is,
   entry-used,
   entry-unused,
-  list-long,
-  list-ends,
+  list-is,
 )

@@ -1,9 +1,10 @@
 -- The judge's rules at a memory: those of one number that the code tests along a list or a range, and the tails of
 -- "Well-formed" in its order.
 use Prim.Native.Nat.{ℕ}
-use Rattle.model.specs.Map.{place, q1, q2, ownQueue}
+use Rattle.model.specs.Map.{place, q1, ownQueue}
 use Rattle.model.specs.Store.{bytes}
-use Rattle.model.specs.Rule.{Rule, both}
+use Rattle.model.specs.Rule.{Rule, both, each}
+use Rattle.model.specs.Lists.{range}
 use Rattle.model.specs.Judge as Judge
 use Rattle.model.specs.Bytes.{Memory}
 use Rattle.counts.specs.Reach.{rule}
@@ -33,10 +34,10 @@ ruleOf m Entry = rule (Judge.entry bytes) m
 
 -- of those that look through a list: the lists of Q1 and Q2, of the own queue, what is in Q1 and Q2, who is in the own queue of page p
 unfoldable pub mailLists : Memory → ℕ → Rule
-mailLists m p = both (rule (Judge.list bytes) m (place p q1)) (rule (Judge.list bytes) m (place p q2))
+mailLists m p = each (range 2 1 (place p q1)) (rule (Judge.list bytes) m)
 
 unfoldable pub ownList : Memory → ℕ → Rule
-ownList m p = rule (Judge.list bytes) m (place p ownQueue)
+ownList m p = each (range 1 1 (place p ownQueue)) (rule (Judge.list bytes) m)
 
 abbrev pub deepOf : Memory → Deep → (ℕ → Rule)
 deepOf m MailLists = mailLists m

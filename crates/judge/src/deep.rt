@@ -3,6 +3,7 @@
 use crate::tests::Test;
 use crate::tests::all_in;
 use crate::tests::all_of;
+use counts::both;
 use counts::length_of;
 use model::ControlPage;
 use words::at;
@@ -26,50 +27,52 @@ pub enum Deep {
     Owner(ControlPage),
 }
 
-// The list of the head at a ends, and holds control pages; of word k of page p.
+// The list of the head at a ends, and holds control pages.
 fn list(m: &[u8], a: u16) -> bool
     requires { ⌜ (length (now m) ≡ 8192) × (a < 8192) ⌝ }
     ensures { λ r. ⌜ r ≡ holds (rule (Judge.list bytes) (now (m .entry)) a) ⌝ }
 {
     let n = length_of(m, a);
-    if n <= 20 {
-        return all_of(m, Test::Page, a);
+    both(n <= 20, all_of(m, Test::Page, a))
+}
+
+// The lists of n heads from a on, by steps of d.
+fn lists_from(m: &[u8], n: u8, d: u16, a: u16) -> bool
+    requires { ⌜ (length (now m) ≡ 8192) × (d ≤ 2) × (a + 2 * n < 8192) ⌝ }
+    ensures { λ r. ⌜ r ≡ holds (each (range n d a) (rule (Judge.list bytes) (now (m .entry)))) ⌝ }
+{
+    if n == 0 {
+        return true;
+    }
+    if list(m, a) {
+        return lists_from(m, n - 1, d, a + d);
     }
     false
 }
 
-fn list_in(m: &[u8], p: ControlPage, k: u16) -> bool
-    requires { ⌜ (length (now m) ≡ 8192) × (k < 32) ⌝ }
-    ensures { λ r. ⌜ r ≡ holds (rule (Judge.list bytes) (now (m .entry)) (p .0 * 32 + k)) ⌝ }
-{
-    list(m, p.place(k))
-}
-
+// The lists of Q1 and Q2 of page p, and of its own queue.
 fn mail_lists(m: &[u8], p: ControlPage) -> bool
     requires { ⌜ length (now m) ≡ 8192 ⌝ }
     ensures { λ r. ⌜ r ≡ holds (mailLists (now (m .entry)) (p .0)) ⌝ }
 {
-    if list_in(m, p, 5) {
-        return list_in(m, p, 6);
-    }
-    false
+    lists_from(m, 2, 1, p.place(5))
 }
 
 fn own_list(m: &[u8], p: ControlPage) -> bool
     requires { ⌜ length (now m) ≡ 8192 ⌝ }
     ensures { λ r. ⌜ r ≡ holds (ownList (now (m .entry)) (p .0)) ⌝ }
 {
-    list_in(m, p, 4)
+    lists_from(m, 1, 1, p.place(4))
 }
 
 fn mail(m: &[u8], p: ControlPage) -> bool
     requires { ⌜ length (now m) ≡ 8192 ⌝ }
     ensures { λ r. ⌜ r ≡ holds (rule (Judge.mail bytes) (now (m .entry)) (p .0)) ⌝ }
 {
-    if all_in(m, Test::Message, p, 5) {
-        return all_in(m, Test::Message, p, 6);
-    }
-    false
+    both(
+        all_in(m, Test::Message, p, 5),
+        all_in(m, Test::Message, p, 6),
+    )
 }
 
 // Page x is in the own queue of page p.
@@ -78,13 +81,10 @@ fn owner(m: &[u8], p: ControlPage, x: u8) -> bool
     ensures { λ r. ⌜ r ≡ holds (rule (Judge.owner bytes) (now (m .entry)) (p .0) x) ⌝ }
 {
     let w = p.word(m, 2);
-    if x == p.0 {
-        if w % 16 <= 7 {
-            return all_in(m, Test::Unasked(p), p, 5);
-        }
-        return false;
-    }
-    false
+    both(
+        x == p.0,
+        both(w % 16 <= 7, all_in(m, Test::Unasked(p), p, 5)),
+    )
 }
 
 fn goes(m: &[u8], t: Deep, x: u8) -> bool
@@ -117,20 +117,6 @@ pub fn all_deep(m: &[u8], t: Deep, k: u16, a: u16, left: u8) -> bool
     false
 }
 
-// The lists of n heads from a on, by steps of d.
-fn lists_from(m: &[u8], n: u8, d: u16, a: u16) -> bool
-    requires { ⌜ (length (now m) ≡ 8192) × (d ≤ 2) × (a + 2 * n < 8192) ⌝ }
-    ensures { λ r. ⌜ r ≡ holds (each (range n d a) (rule (Judge.list bytes) (now (m .entry)))) ⌝ }
-{
-    if n == 0 {
-        return true;
-    }
-    if list(m, a) {
-        return lists_from(m, n - 1, d, a + d);
-    }
-    false
-}
-
 // The lists of Q1 and Q2 of the processors, and of their own queues.
 fn mails_listed(m: &[u8]) -> bool
     requires { ⌜ length (now m) ≡ 8192 ⌝ }
@@ -151,37 +137,28 @@ fn uses_listed(m: &[u8]) -> bool
     requires { ⌜ length (now m) ≡ 8192 ⌝ }
     ensures { λ r. ⌜ r ≡ holds (each (uses (Model.lists (now (m .entry)) Map.processorList)) (rule (Judge.list bytes) (now (m .entry)))) ⌝ }
 {
-    if list(m, 247) {
-        if list(m, 244) {
-            if mails_listed(m) {
-                return lists_from(m, 32, 1, 320);
-            }
-            return false;
-        }
-        return false;
-    }
-    false
+    both(
+        list(m, 247),
+        both(
+            list(m, 244),
+            both(mails_listed(m), lists_from(m, 32, 1, 320)),
+        ),
+    )
 }
 
 fn queues_listed(m: &[u8]) -> bool
     requires { ⌜ length (now m) ≡ 8192 ⌝ }
     ensures { λ r. ⌜ r ≡ holds (each (queues (Model.lists (now (m .entry)) Map.processorList)) (rule (Judge.list bytes) (now (m .entry)))) ⌝ }
 {
-    if list(m, 246) {
-        if owns_listed(m) {
-            return lists_from(m, 54, 2, 132);
-        }
-        return false;
-    }
-    false
+    both(
+        list(m, 246),
+        both(owns_listed(m), lists_from(m, 54, 2, 132)),
+    )
 }
 
 pub fn listed(m: &[u8]) -> bool
     requires { ⌜ length (now m) ≡ 8192 ⌝ }
     ensures { λ r. ⌜ r ≡ holds (rule (Judge.listed bytes) (now (m .entry))) ⌝ }
 {
-    if uses_listed(m) {
-        return queues_listed(m);
-    }
-    false
+    both(uses_listed(m), queues_listed(m))
 }

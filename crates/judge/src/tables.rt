@@ -2,6 +2,7 @@
 use crate::tests::Test;
 use crate::tests::all_of;
 use crate::tests::every;
+use counts::both;
 use counts::lies;
 use words::at;
 ghost use mathlib.Core.Path.{_≡_};
@@ -62,16 +63,10 @@ fn codes(m: &[u8]) -> bool
     requires { ⌜ length (now m) ≡ 8192 ⌝ }
     ensures { λ r. ⌜ r ≡ holds (rule (Judge.codes bytes) (now (m .entry))) ⌝ }
 {
-    if every(m, Test::Kind, 16) {
-        if built_in(m, 0) {
-            if built_in(m, 1) {
-                return last_foreign(m);
-            }
-            return false;
-        }
-        return false;
-    }
-    false
+    both(
+        every(m, Test::Kind, 16),
+        both(built_in(m, 0), both(built_in(m, 1), last_foreign(m))),
+    )
 }
 
 fn c0_under(m: &[u8]) -> bool
@@ -86,49 +81,37 @@ fn counters(m: &[u8]) -> bool
     requires { ⌜ length (now m) ≡ 8192 ⌝ }
     ensures { λ r. ⌜ r ≡ holds (rule (Judge.counters bytes) (now (m .entry))) ⌝ }
 {
-    if c0_under(m) {
-        if under_at(m, 241, 10) {
-            if under_at(m, 242, 60) {
-                return under_at(m, 243, 60);
-            }
-            return false;
-        }
-        return false;
-    }
-    false
+    both(
+        c0_under(m),
+        both(
+            under_at(m, 241, 10),
+            both(under_at(m, 242, 60), under_at(m, 243, 60)),
+        ),
+    )
 }
 
 fn clock(m: &[u8]) -> bool
     requires { ⌜ length (now m) ≡ 8192 ⌝ }
     ensures { λ r. ⌜ r ≡ holds (rule (Judge.clock bytes) (now (m .entry))) ⌝ }
 {
-    if counters(m) {
-        if lies_at(m, 251, 1, 255) {
-            return lies_at(m, 239, 16, 47);
-        }
-        return false;
-    }
-    false
+    both(
+        counters(m),
+        both(lies_at(m, 251, 1, 255), lies_at(m, 239, 16, 47)),
+    )
 }
 
 fn faults(m: &[u8]) -> bool
     requires { ⌜ length (now m) ≡ 8192 ⌝ }
     ensures { λ r. ⌜ r ≡ holds (rule (Judge.faults bytes) (now (m .entry))) ⌝ }
 {
-    if lies_at(m, 288, 1, 32) {
-        return every(m, Test::Entry, 31);
-    }
-    false
+    both(lies_at(m, 288, 1, 32), every(m, Test::Entry, 31))
 }
 
 fn zeros(m: &[u8]) -> bool
     requires { ⌜ length (now m) ≡ 8192 ⌝ }
     ensures { λ r. ⌜ r ≡ holds (rule (Judge.zeros bytes) (now (m .entry))) ⌝ }
 {
-    if all_of(m, Test::ZeroBits, 247) {
-        return is_at(m, 250, 0);
-    }
-    false
+    both(all_of(m, Test::ZeroBits, 247), is_at(m, 250, 0))
 }
 
 // "Well-formed", from codes on.
@@ -136,14 +119,5 @@ pub fn tables(m: &[u8]) -> bool
     requires { ⌜ length (now m) ≡ 8192 ⌝ }
     ensures { λ r. ⌜ r ≡ holds (Rules.tables (now (m .entry))) ⌝ }
 {
-    if codes(m) {
-        if clock(m) {
-            if faults(m) {
-                return zeros(m);
-            }
-            return false;
-        }
-        return false;
-    }
-    false
+    both(codes(m), both(clock(m), both(faults(m), zeros(m))))
 }

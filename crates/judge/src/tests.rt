@@ -1,5 +1,6 @@
 // Well-formed: the rules of one number, a page or an index, that look through no list; and each of a list or of a range by one of them.
 use counts::bearers;
+use counts::both;
 use counts::left_of;
 use counts::length_of;
 use counts::less;
@@ -50,13 +51,7 @@ fn label(m: &[u8], p: ControlPage) -> bool
 {
     let w = p.word(m, 7);
     let n = bearers(m, w % 16, 247, 21);
-    if n == 1 {
-        if lies(w % 16, 1, 15) {
-            return lies(w / 16, 1, 15);
-        }
-        return false;
-    }
-    false
+    both(n == 1, both(lies(w % 16, 1, 15), lies(w / 16, 1, 15)))
 }
 
 fn reasoned(m: &[u8], p: ControlPage) -> bool
@@ -132,13 +127,7 @@ fn message(m: &[u8], q: ControlPage) -> bool
     ensures { λ r. ⌜ r ≡ holds (rule (Judge.message bytes) (now (m .entry)) (q .0)) ⌝ }
 {
     let w = q.word(m, 1);
-    if lies(w / 16, 1, 15) {
-        if lies(w % 16, 1, 7) {
-            return sized(m, q);
-        }
-        return false;
-    }
-    false
+    both(lies(w / 16, 1, 15), both(lies(w % 16, 1, 7), sized(m, q)))
 }
 
 fn not_higher(m: &[u8], p: ControlPage) -> bool
@@ -169,11 +158,8 @@ fn page_wait(m: &[u8], p: ControlPage) -> bool
 {
     let n = length_of(m, 244);
     let w = p.word(m, 7);
-    if n == 0 {
-        let g = length_of(m, 320 + wide(w % 16));
-        return g == 0;
-    }
-    false
+    let g = length_of(m, 320 + wide(w % 16));
+    both(n == 0, g == 0)
 }
 
 fn grant(m: &[u8], k: u8) -> bool
@@ -202,10 +188,7 @@ fn used(m: &[u8], i: u8) -> bool
     ensures { λ r. ⌜ r ≡ holds (rule (Judge.used bytes) (now (m .entry)) i) ⌝ }
 {
     let w = at(m, 289 + wide(i));
-    if lies(w / 16, 1, 15) {
-        return lies(w % 16, 1, 12);
-    }
-    false
+    both(lies(w / 16, 1, 15), lies(w % 16, 1, 12))
 }
 
 fn entry(m: &[u8], i: u8) -> bool

@@ -1,7 +1,7 @@
 -- A law for each way through the marks of the lists of heads, and through the waiting bits by them.
 use Prim.Native.Nat.{ℕ, _+_, _-_}
 use mathlib.Core.Path.{_≡_, refl, sym, _∙_}
-use mathlib.Core.Bool.{Bool, true, false}
+use mathlib.Core.Bool.{Bool, _&&_}
 use mathlib.Core.List.{List, [], _∷_, _++_}
 use Rattle.model.specs.Map.{place}
 use Rattle.model.specs.Rule.{each, holds}
@@ -10,7 +10,7 @@ use Rattle.model.specs.Lists.{Lists, range, uses, queues, linkOf}
 use Rattle.model.specs.Bytes.{Memory, at, walk, lists}
 use Rattle.queues.proofs.Laws.{walk-none, walk-end, walk-on}
 use Rattle.counts.specs.Reach.{leftOf, headsOf}
-use Rattle.counts.proofs.Folds.{lists-is, mails-heads, owns-heads, range-zero, range-suc, both-yes, both-no}
+use Rattle.counts.proofs.Folds.{lists-is, mails-heads, owns-heads, range-zero, range-suc, both-is}
 use Rattle.marks.specs.Marks as Marks
 use Rattle.marks.specs.Marks.{Marks, unmarked, marked, markedAll, markedLists, bitBy, waiterBy, marksIn, bits}
 
@@ -81,15 +81,10 @@ module _ (m : Memory) (s t u v r : Marks) (es : s ≡ unmarked) where
       er ∙ rw (owns-heads (lists m 247), eu, et, es) (sym (lists-append (lists m) (headsOf 1 4 (lists m 247)) (range 54 2 132) (markedAll unmarked (lists m 246))))
 
 -- ---- the waiting bits by marks
-module _ (m : Memory) (t : Marks) (b : Bool) (et : t ≡ marksIn m (queues (lists m 247))) (eb : b ≡ holds (each (walk 21 m 1 247) (bitBy m t))) where
-  pub bits-bad : b ≡ false → false ≡ holds (bits m)
-  unfolding Marks.bits Lists.lists Lists.isGrant Lists.linkOf
-  bits-bad h = rw (← et) (both-no _ _ b eb h)
-
-  pub bits-good : (s u : Marks) (c : Bool) → b ≡ true → s ≡ unmarked → u ≡ markedAll s (lists m 247)
-      → c ≡ holds (each (range 20 1 236) (waiterBy t u)) → c ≡ holds (bits m)
-  unfolding Marks.bits Marks.markedLists Lists.lists Lists.isGrant Lists.linkOf
-  bits-good s u c h es eu ec = let k : u ≡ marksIn m (247 ∷ []) = rw es at eu in rw (← et, ← k) (both-yes _ _ b eb c h ec)
+pub bits-is : (m : Memory) (s t u : Marks) (a b r : Bool) → t ≡ marksIn m (queues (lists m 247)) → s ≡ unmarked → u ≡ markedAll s (lists m 247)
+    → a ≡ holds (each (walk 21 m 1 247) (bitBy m t)) → b ≡ holds (each (range 20 1 236) (waiterBy t u)) → r ≡ (a && b) → r ≡ holds (bits m)
+unfolding Marks.bits Marks.markedLists Lists.lists Lists.isGrant Lists.linkOf
+bits-is m s t u a b r et es eu ea eb e = let k : u ≡ marksIn m (247 ∷ []) = rw es at eu in rw (← et, ← k) (both-is _ _ a b r e ea eb)
 
 pub ruleset heads = (
   mark-none,
@@ -103,6 +98,5 @@ pub ruleset heads = (
   words-on,
   uses-marked,
   queues-marked,
-  bits-bad,
-  bits-good,
+  bits-is,
 )

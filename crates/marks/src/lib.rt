@@ -1,4 +1,5 @@
 // "every control page is used once": marks of the twenty control pages, 0, 1 or 2 for never, once, oftener.
+use counts::both;
 use counts::left_of;
 use counts::link_of;
 use model::ControlPage;
@@ -223,9 +224,6 @@ pub fn waiting_bits(m: &[u8]) -> bool
     ensures { λ r. ⌜ r ≡ holds (bits (now (m .entry))) ⌝ }
 {
     let t = queue_marks(m);
-    if all_bits(m, t, 247, 21) {
-        let u = mark_list(m, unmarked(), 247);
-        return all_waiters(t, u, 20, 236);
-    }
-    false
+    let u = mark_list(m, unmarked(), 247);
+    both(all_bits(m, t, 247, 21), all_waiters(t, u, 20, 236))
 }

@@ -5,5 +5,5 @@ use Rattle.counts.proofs.lies.Tie as tie
 
 pub lies-spec : {M : Type 1} → statement M
 lies-spec = tie.close (tie.spec
-    (λ c. search (needs, folds))
+    (λ c κs. search needs)
     (λ c. search (needs, folds)))

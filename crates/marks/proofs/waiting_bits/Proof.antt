@@ -10,5 +10,5 @@ waiting-bits-spec = tie.close (tie.spec
     (λ c κs. search needs)
     (λ c κs. search needs)
     (λ c κs. search needs)
-    (λ c. search (needs, markings))
+    (λ c κs. search needs)
     (λ c. search (needs, markings)))

@@ -7,5 +7,5 @@ pub listed-spec : {M : Type 1} → statement M
 listed-spec = tie.close (tie.spec
     (λ c κs. search needs)
     (λ c κs. search needs)
-    (λ c. search (needs, judges))
+    (λ c κs. search needs)
     (λ c. search (needs, judges)))

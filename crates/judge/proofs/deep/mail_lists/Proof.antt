@@ -9,5 +9,4 @@ unfolding Rules.mailLists
 mail-lists-spec = tie.close (tie.spec
     (λ c κs. search needs)
     (λ c κs. search needs)
-    (λ c. search (needs, judges))
     (λ c. search (needs, judges)))

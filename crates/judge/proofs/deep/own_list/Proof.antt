@@ -8,4 +8,5 @@ pub own-list-spec : {M : Type 1} → statement M
 unfolding Rules.ownList
 own-list-spec = tie.close (tie.spec
     (λ c κs. search needs)
+    (λ c κs. search needs)
     (λ c. search (needs, judges)))

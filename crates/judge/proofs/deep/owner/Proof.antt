@@ -7,6 +7,6 @@ pub owner-spec : {M : Type 1} → statement M
 owner-spec = tie.close (tie.spec
     (λ c κs. search needs)
     (λ c κs. search needs)
-    (λ c. search (needs, judges))
-    (λ c. search (needs, judges))
+    (λ c κs. search needs)
+    (λ c κs. search needs)
     (λ c. search (needs, judges)))

@@ -8,6 +8,6 @@ queues-listed-spec = tie.close (tie.spec
     (λ c κs. search needs)
     (λ c κs. search needs)
     (λ c κs. search needs)
-    (λ c. search (needs, judges))
-    (λ c. search (needs, judges))
+    (λ c κs. search needs)
+    (λ c κs. search needs)
     (λ c. search (needs, judges)))

@@ -9,5 +9,5 @@ unfolding Judge.faults
 faults-spec = tie.close (tie.spec
     (λ c κs. search needs)
     (λ c κs. search needs)
-    (λ c. search (needs, judges))
+    (λ c κs. search needs)
     (λ c. search (needs, judges)))

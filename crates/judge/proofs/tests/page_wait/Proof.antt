@@ -10,5 +10,5 @@ page-wait-spec = tie.close (tie.spec
     (λ c κs. search needs)
     (λ c. search needs)
     (λ c κs. search needs)
-    (λ c. search (needs, judges))
+    (λ c κs. search needs)
     (λ c. search (needs, judges)))
