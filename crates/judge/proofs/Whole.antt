@@ -8,8 +8,9 @@ use Rattle.model.specs.Bytes.{Memory, judged}
 use Rattle.counts.specs.Reach.{rule}
 use Rattle.counts.proofs.Folds.{both-yes, both-no}
 use Rattle.marks.proofs.Counting.{arm, bits-are}
-use Rattle.judge.specs.Rules as Rules
-use Rattle.judge.specs.Rules.{waited, named}
+use Rattle.rules.specs.Rules as Rules
+use Rattle.judge.specs.Tails as Tails
+use Rattle.judge.specs.Tails.{waited, named}
 
 both-left : (r s u : Rule) → holds r ≡ holds s → holds (both r u) ≡ holds (both s u)
 unfolding holds
@@ -30,7 +31,7 @@ module _ (m : Memory) (b : Bool) (eb : b ≡ holds (rule (Judge.listed bytes) m)
     judged-used k = both-yes _ _ b eb false h (both-no _ _ c ec k)
 
     pub judged-named : (d : Bool) → c ≡ true → d ≡ holds (named m) → d ≡ judged m
-    unfolding Judge.judged Judge.wellFormed Rules.named Rules.waited Rules.paged Rules.mailed Rules.tables
+    unfolding Judge.judged Judge.wellFormed Tails.named Tails.waited Tails.paged Tails.mailed Rules.tables
     judged-named d k ed =
         let e : d ≡ holds (both (rule (Judge.names bytes) m) (both (rule (Judge.waitingBits bytes) m) (waited m))) =
         ed ∙ both-right _ _ _ (both-left _ _ _ (bits-are m (sym eb ∙ h) (sym ec ∙ k))) in

@@ -1,27 +1,23 @@
 // Fresh start and well-formed memory: the judge, a function for each rule, in document 01's order, equal to the rules on every memory of
 // 8,192 words.
-mod deep;
-mod tables;
-mod tests;
-
 use counts::both;
 use counts::left_of;
 use counts::length_of;
 use counts::less;
 use counts::link_of;
 use counts::listings;
-use deep::Deep;
-use deep::all_deep;
-use deep::listed;
 use marks::used_once;
 use marks::waiting_bits;
 use model::ControlPage;
 use model::wide;
-use tables::is_at;
-use tables::tables;
-use tests::Test;
-use tests::all_of;
-use tests::every;
+use rules::deep::Deep;
+use rules::deep::all_deep;
+use rules::deep::listed;
+use rules::tables::is_at;
+use rules::tables::tables;
+use rules::tests::Test;
+use rules::tests::all_of;
+use rules::tests::every;
 use words::at;
 ghost use mathlib.Core.Path.{_≡_};
 ghost use Prim.Native.Nat.{_<_, _+_, _*_};
@@ -32,7 +28,7 @@ ghost use Rattle.model.specs.Rule.{holds, each, below};
 ghost use Rattle.model.specs.Judge as Judge;
 ghost use Rattle.model.specs.Bytes as Model;
 ghost use Rattle.counts.specs.Reach.{rule};
-ghost use Rattle.judge.specs.Rules as Rules;
+ghost use Rattle.judge.specs.Tails as Tails;
 
 fn names(m: &[u8]) -> bool
     requires { ⌜ length (now m) ≡ 8192 ⌝ }
@@ -175,21 +171,21 @@ fn running(m: &[u8]) -> bool
 // "Well-formed", from messages on; from page waits on; from reasons on; from names on; all.
 fn mailed(m: &[u8]) -> bool
     requires { ⌜ length (now m) ≡ 8192 ⌝ }
-    ensures { λ r. ⌜ r ≡ holds (Rules.mailed (now (m .entry))) ⌝ }
+    ensures { λ r. ⌜ r ≡ holds (Tails.mailed (now (m .entry))) ⌝ }
 {
     both(messages(m), both(running(m), tables(m)))
 }
 
 fn paged(m: &[u8]) -> bool
     requires { ⌜ length (now m) ≡ 8192 ⌝ }
-    ensures { λ r. ⌜ r ≡ holds (Rules.paged (now (m .entry))) ⌝ }
+    ensures { λ r. ⌜ r ≡ holds (Tails.paged (now (m .entry))) ⌝ }
 {
     both(page_waits(m), both(granted(m), mailed(m)))
 }
 
 fn waited(m: &[u8]) -> bool
     requires { ⌜ length (now m) ≡ 8192 ⌝ }
-    ensures { λ r. ⌜ r ≡ holds (Rules.waited (now (m .entry))) ⌝ }
+    ensures { λ r. ⌜ r ≡ holds (Tails.waited (now (m .entry))) ⌝ }
 {
     both(
         reasons(m),
@@ -199,7 +195,7 @@ fn waited(m: &[u8]) -> bool
 
 fn named(m: &[u8]) -> bool
     requires { ⌜ length (now m) ≡ 8192 ⌝ }
-    ensures { λ r. ⌜ r ≡ holds (Rules.named (now (m .entry))) ⌝ }
+    ensures { λ r. ⌜ r ≡ holds (Tails.named (now (m .entry))) ⌝ }
 {
     both(names(m), both(waiting_bits(m), waited(m)))
 }
