@@ -78,7 +78,9 @@ module _ (m : Memory) (s t u v r : Marks) (es : s ≡ unmarked) where
       → r ≡ marksIn m (queues (lists m 247))
   unfolding Marks.markedLists Lists.lists Lists.isGrant Lists.linkOf
   queues-marked et eu er =
-      er ∙ rw (owns-heads (lists m 247), eu, et, es) (sym (lists-append (lists m) (headsOf 1 4 (lists m 247)) (range 54 2 132) (markedAll unmarked (lists m 246))))
+      er
+      ∙ rw (owns-heads (lists m 247), eu, et, es)
+      (sym (lists-append (lists m) (headsOf 1 4 (lists m 247)) (range 54 2 132) (markedAll unmarked (lists m 246))))
 
 -- ---- the waiting bits by marks
 pub bits-is : (m : Memory) (s t u : Marks) (a b r : Bool) → t ≡ marksIn m (queues (lists m 247)) → s ≡ unmarked → u ≡ markedAll s (lists m 247)

@@ -16,8 +16,16 @@ abbrev μ : Measures 1 kinds.ps ℕ
 μ κs a = a .1 .1 .1 .1 .1 .0
 
 pub +mark-words-spec : {M : Type 1} → statement M
-+mark-words-spec = close μ λ t. lts.spec
-    (at-reads.Asked, at-reads.Learnt, place-reads.Asked, place-reads.Learnt, mark-range-reads.Asked, mark-range-reads.Learnt, and 1 kinds.ps (falls 1 kinds.ps _<_ μ t) own.Pre, own.Post)
++mark-words-spec = close μ λ t. lts.spec (
+  at-reads.Asked,
+  at-reads.Learnt,
+  place-reads.Asked,
+  place-reads.Learnt,
+  mark-range-reads.Asked,
+  mark-range-reads.Learnt,
+  and 1 kinds.ps (falls 1 kinds.ps _<_ μ t) own.Pre,
+  own.Post,
+)
     (and 1 kinds.ps (is 1 kinds.ps μ t) own.Pre)
     own.Post
     (λ c. search (needs, markings))
