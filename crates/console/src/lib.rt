@@ -1,7 +1,5 @@
 // The script program: reads a script line by line, of any length, carries out each order on one memory and prints what came of it.
 mod orders;
-mod print;
-mod show;
 
 use libc::STDERR_FILENO;
 use libc::STDIN_FILENO;

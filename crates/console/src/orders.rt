@@ -1,17 +1,17 @@
 // The orders of a script, each on the 8,200 words m, of which a call is lent the first `lent`.
-use crate::print::address;
-use crate::print::not_allowed;
-use crate::print::not_understood;
-use crate::print::number;
-use crate::print::refused;
-use crate::print::text;
-use crate::print::word;
-use crate::show::state;
 use kernel::judge;
 use model::Answer;
 use model::Held;
 use model::Registers;
 use model::Verdict;
+use print::address;
+use print::not_allowed;
+use print::not_understood;
+use print::number;
+use print::refused;
+use print::text;
+use print::word;
+use screen::state;
 use script::Order;
 use script::Seven;
 use words::guarded;

@@ -1,7 +1,6 @@
 -- The laws that the proofs of the functions search.
-use Rattle.judge.proofs.Folds.{folds}
-use Rattle.judge.proofs.Sentences.{sentences}
-use Rattle.judge.proofs.Heads.{heads}
-use Rattle.judge.proofs.Counting.{used-once, judged-listed, judged-used, judged-named}
+use Rattle.rules.proofs.Laws.{rulings}
+use Rattle.judge.proofs.WhoRuns.{runner-is, running-idle, running-one}
+use Rattle.judge.proofs.Whole.{judged-listed, judged-used, judged-named}
 
-pub ruleset judges = (folds, sentences, heads, used-once, judged-listed, judged-used, judged-named)
+pub ruleset judges = (rulings, runner-is, running-idle, running-one, judged-listed, judged-used, judged-named)

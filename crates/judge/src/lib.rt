@@ -1,28 +1,23 @@
 // Fresh start and well-formed memory: the judge, a function for each rule, in document 01's order, equal to the rules on every memory of
 // 8,192 words.
-mod counts;
-mod deep;
-mod marks;
-mod tables;
-mod tests;
-
+use counts::both;
 use counts::left_of;
 use counts::length_of;
 use counts::less;
 use counts::link_of;
 use counts::listings;
-use deep::Deep;
-use deep::all_deep;
-use deep::listed;
 use marks::used_once;
 use marks::waiting_bits;
 use model::ControlPage;
 use model::wide;
-use tables::is_at;
-use tables::tables;
-use tests::Test;
-use tests::all_of;
-use tests::every;
+use rules::deep::Deep;
+use rules::deep::all_deep;
+use rules::deep::listed;
+use rules::tables::is_at;
+use rules::tables::tables;
+use rules::tests::Test;
+use rules::tests::all_of;
+use rules::tests::every;
 use words::at;
 ghost use mathlib.Core.Path.{_≡_};
 ghost use Prim.Native.Nat.{_<_, _+_, _*_};
@@ -32,8 +27,8 @@ ghost use Rattle.model.specs.Store.{bytes};
 ghost use Rattle.model.specs.Rule.{holds, each, below};
 ghost use Rattle.model.specs.Judge as Judge;
 ghost use Rattle.model.specs.Bytes as Model;
-ghost use Rattle.judge.specs.Rules as Rules;
-ghost use Rattle.judge.specs.Rules.{rule};
+ghost use Rattle.counts.specs.Reach.{rule};
+ghost use Rattle.judge.specs.Tails as Tails;
 
 fn names(m: &[u8]) -> bool
     requires { ⌜ length (now m) ≡ 8192 ⌝ }
@@ -67,13 +62,13 @@ fn reasons(m: &[u8]) -> bool
     requires { ⌜ length (now m) ≡ 8192 ⌝ }
     ensures { λ r. ⌜ r ≡ holds (rule (Judge.reasons bytes) (now (m .entry))) ⌝ }
 {
-    if all_served(m, 54) {
-        if all_of(m, Test::Reasonless, 246) {
-            return all_of(m, Test::Quiet, 247);
-        }
-        return false;
-    }
-    false
+    both(
+        all_served(m, 54),
+        both(
+            all_of(m, Test::Reasonless, 246),
+            all_of(m, Test::Quiet, 247),
+        ),
+    )
 }
 
 // Page p; the processors from the cell at a on; all.
@@ -123,13 +118,10 @@ fn semaphores(m: &[u8]) -> bool
     requires { ⌜ length (now m) ≡ 8192 ⌝ }
     ensures { λ r. ⌜ r ≡ holds (rule (Judge.semaphores bytes) (now (m .entry))) ⌝ }
 {
-    if every(m, Test::InterruptSemaphore, 54) {
-        if all_of(m, Test::MessageSemaphore, 247) {
-            return page_semaphore(m);
-        }
-        return false;
-    }
-    false
+    both(
+        every(m, Test::InterruptSemaphore, 54),
+        both(all_of(m, Test::MessageSemaphore, 247), page_semaphore(m)),
+    )
 }
 
 fn page_waits(m: &[u8]) -> bool
@@ -162,13 +154,7 @@ fn runner(m: &[u8], p: ControlPage) -> bool
     let l = at(m, 249);
     let w = p.word(m, 7);
     let s = p.word(m, 12);
-    if n == 1 {
-        if l == w {
-            return s < 64;
-        }
-        return false;
-    }
-    false
+    both(n == 1, both(l == w, s < 64))
 }
 
 fn running(m: &[u8]) -> bool
@@ -177,71 +163,41 @@ fn running(m: &[u8]) -> bool
 {
     let p = at(m, 248);
     if p == 0 {
-        if is_at(m, 249, 0) {
-            return all_of(m, Test::NotHigher, 247);
-        }
-        return false;
+        return both(is_at(m, 249, 0), all_of(m, Test::NotHigher, 247));
     }
-    if runner(m, ControlPage(p)) {
-        return all_of(m, Test::NotHigher, 247);
-    }
-    false
+    both(runner(m, ControlPage(p)), all_of(m, Test::NotHigher, 247))
 }
 
 // "Well-formed", from messages on; from page waits on; from reasons on; from names on; all.
 fn mailed(m: &[u8]) -> bool
     requires { ⌜ length (now m) ≡ 8192 ⌝ }
-    ensures { λ r. ⌜ r ≡ holds (Rules.mailed (now (m .entry))) ⌝ }
+    ensures { λ r. ⌜ r ≡ holds (Tails.mailed (now (m .entry))) ⌝ }
 {
-    if messages(m) {
-        if running(m) {
-            return tables(m);
-        }
-        return false;
-    }
-    false
+    both(messages(m), both(running(m), tables(m)))
 }
 
 fn paged(m: &[u8]) -> bool
     requires { ⌜ length (now m) ≡ 8192 ⌝ }
-    ensures { λ r. ⌜ r ≡ holds (Rules.paged (now (m .entry))) ⌝ }
+    ensures { λ r. ⌜ r ≡ holds (Tails.paged (now (m .entry))) ⌝ }
 {
-    if page_waits(m) {
-        if granted(m) {
-            return mailed(m);
-        }
-        return false;
-    }
-    false
+    both(page_waits(m), both(granted(m), mailed(m)))
 }
 
 fn waited(m: &[u8]) -> bool
     requires { ⌜ length (now m) ≡ 8192 ⌝ }
-    ensures { λ r. ⌜ r ≡ holds (Rules.waited (now (m .entry))) ⌝ }
+    ensures { λ r. ⌜ r ≡ holds (Tails.waited (now (m .entry))) ⌝ }
 {
-    if reasons(m) {
-        if message_waits(m) {
-            if semaphores(m) {
-                return paged(m);
-            }
-            return false;
-        }
-        return false;
-    }
-    false
+    both(
+        reasons(m),
+        both(message_waits(m), both(semaphores(m), paged(m))),
+    )
 }
 
 fn named(m: &[u8]) -> bool
     requires { ⌜ length (now m) ≡ 8192 ⌝ }
-    ensures { λ r. ⌜ r ≡ holds (Rules.named (now (m .entry))) ⌝ }
+    ensures { λ r. ⌜ r ≡ holds (Tails.named (now (m .entry))) ⌝ }
 {
-    if names(m) {
-        if waiting_bits(m) {
-            return waited(m);
-        }
-        return false;
-    }
-    false
+    both(names(m), both(waiting_bits(m), waited(m)))
 }
 
 pub fn judged(m: &[u8]) -> bool

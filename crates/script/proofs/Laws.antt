@@ -1,25 +1,19 @@
 -- Laws of the parser, a law for each way through the code.
-use Prim.Native.Nat.{ℕ, zero, suc, _+_, _*_, _-_, _%_, _≤_, _<_}
-use mathlib.Core.Path.{_≡_, refl, sym, _∙_, ap}
+use Prim.Native.Nat.{ℕ, zero, suc, _+_, _-_, _≤_, _<_}
+use mathlib.Core.Path.{_≡_, refl}
 use mathlib.Core.Bool.{Bool, true, false, cond}
-use mathlib.Core.List.{List, [], _∷_}
-use lib.ListN.{length, getD, set}
-use lib.Dec.{ltb, leb, eqb}
+use mathlib.Core.List.{List}
+use lib.ListN.{length, getD}
 use borrow.Author.Tests.{eq-eqb, ne-eqb, lt-ltb, le-ltb, le-leb, lt-leb}
 use native.Mathlib.Numerals.{sub-one}
 use native.Mathlib.Omega.{arith}
-use Rattle.script.specs.declared.Seven.{Seven}
-use Rattle.script.specs.declared.Figures.{Figures}
+use Rattle.script.specs.declared.reading.Figures.{Figures}
 use Rattle.script.specs.declared.Order.{Order}
-use Rattle.script.specs.declared.Order.the-variants.{Nothing, NotUnderstood, Fresh, Step, Interrupt, Registers, Set, Judge}
-use Rattle.script.specs.declared.Order.the-variants.{Put, Break, Length, Words, Changes, Show}
-use Rattle.script.specs.Script.{skip, parts, wordEnd, ends, ended, isDigit, more, digits, number, Read, keep, numbers, same, isWord}
+use Rattle.script.specs.declared.Order.the-variants.{Nothing, NotUnderstood}
+use Rattle.script.specs.Script.{skip, parts, wordEnd, ends, ended, isDigit, more, digits, number, keep, numbers, same, isWord}
+use Rattle.script.specs.Script.{counted, values, valued, callOrder, ordered, parse}
 use Rattle.script.specs.Script.Read.{read}
-use Rattle.script.specs.Script.{alone, fresh, interrupt, registers, setting, values, put, putAnywhere, lengthOf, words}
-use Rattle.script.specs.Script.{hostOrder, storeOrder, lookOrder, callOrder, Parsed, ordered, parse}
 use Rattle.script.specs.Script.Parsed.{parsed}
-use Rattle.script.specs.Script.{is-fresh, is-step, is-interrupt, is-registers, is-set, is-judge}
-use Rattle.script.specs.Script.{is-put, is-break, is-length, is-words, is-changes, is-show}
 
 module _ (s : List ℕ) where
   pub skip-none : (n a : ℕ) → n ≡ 0 → a ≡ skip n s a
@@ -125,82 +119,6 @@ module _ (s : List ℕ) where
     unfolding isWord
     isWord-not e h = rw (ne-eqb (e - a) (length w) h)
 
-  module _ (a e : ℕ) (v : List ℕ) (n : ℕ) (b₁ : Bool) (e₁ : b₁ ≡ is-words s a e) where
-    pub hostOrder-words : (r : Order) → b₁ ≡ true → r ≡ words v n → r ≡ hostOrder s a e v n
-    unfolding hostOrder
-    hostOrder-words r h er = rw (← e₁, h) er
-
-    module _ (b₂ : Bool) (h₁ : b₁ ≡ false) (e₂ : b₂ ≡ is-changes s a e) where
-      pub hostOrder-changes : (r : Order) → b₂ ≡ true → r ≡ alone Changes n → r ≡ hostOrder s a e v n
-      unfolding hostOrder
-      hostOrder-changes r h er = rw (← e₁, h₁, ← e₂, h) er
-
-      module _ (b₃ : Bool) (h₂ : b₂ ≡ false) (e₃ : b₃ ≡ is-show s a e) where
-        pub hostOrder-show : (r : Order) → b₃ ≡ true → r ≡ alone Show n → r ≡ hostOrder s a e v n
-        unfolding hostOrder
-        hostOrder-show r h er = rw (← e₁, h₁, ← e₂, h₂, ← e₃, h) er
-
-        pub hostOrder-other : b₃ ≡ false → NotUnderstood ≡ hostOrder s a e v n
-        unfolding hostOrder
-        hostOrder-other h = rw (← e₁, h₁, ← e₂, h₂, ← e₃, h)
-
-  module _ (a e : ℕ) (v : List ℕ) (n : ℕ) (b₁ : Bool) (e₁ : b₁ ≡ is-put s a e) where
-    pub storeOrder-put : (r : Order) → b₁ ≡ true → r ≡ put v n → r ≡ storeOrder s a e v n
-    unfolding storeOrder
-    storeOrder-put r h er = rw (← e₁, h) er
-
-    module _ (b₂ : Bool) (h₁ : b₁ ≡ false) (e₂ : b₂ ≡ is-break s a e) where
-      pub storeOrder-break : (r : Order) → b₂ ≡ true → r ≡ putAnywhere v n → r ≡ storeOrder s a e v n
-      unfolding storeOrder
-      storeOrder-break r h er = rw (← e₁, h₁, ← e₂, h) er
-
-      module _ (b₃ : Bool) (h₂ : b₂ ≡ false) (e₃ : b₃ ≡ is-length s a e) where
-        pub storeOrder-length : (r : Order) → b₃ ≡ true → r ≡ lengthOf v n → r ≡ storeOrder s a e v n
-        unfolding storeOrder
-        storeOrder-length r h er = rw (← e₁, h₁, ← e₂, h₂, ← e₃, h) er
-
-        pub storeOrder-other : (r : Order) → b₃ ≡ false → r ≡ hostOrder s a e v n → r ≡ storeOrder s a e v n
-        unfolding storeOrder
-        storeOrder-other r h er = rw (← e₁, h₁, ← e₂, h₂, ← e₃, h) er
-
-  module _ (a e : ℕ) (v : List ℕ) (n : ℕ) (b₁ : Bool) (e₁ : b₁ ≡ is-registers s a e) where
-    pub lookOrder-registers : (r : Order) → b₁ ≡ true → r ≡ alone Registers n → r ≡ lookOrder s a e v n
-    unfolding lookOrder
-    lookOrder-registers r h er = rw (← e₁, h) er
-
-    module _ (b₂ : Bool) (h₁ : b₁ ≡ false) (e₂ : b₂ ≡ is-set s a e) where
-      pub lookOrder-set : (r : Order) → b₂ ≡ true → r ≡ setting v n → r ≡ lookOrder s a e v n
-      unfolding lookOrder
-      lookOrder-set r h er = rw (← e₁, h₁, ← e₂, h) er
-
-      module _ (b₃ : Bool) (h₂ : b₂ ≡ false) (e₃ : b₃ ≡ is-judge s a e) where
-        pub lookOrder-judge : (r : Order) → b₃ ≡ true → r ≡ alone Judge n → r ≡ lookOrder s a e v n
-        unfolding lookOrder
-        lookOrder-judge r h er = rw (← e₁, h₁, ← e₂, h₂, ← e₃, h) er
-
-        pub lookOrder-other : (r : Order) → b₃ ≡ false → r ≡ storeOrder s a e v n → r ≡ lookOrder s a e v n
-        unfolding lookOrder
-        lookOrder-other r h er = rw (← e₁, h₁, ← e₂, h₂, ← e₃, h) er
-
-  module _ (a e : ℕ) (v : List ℕ) (n : ℕ) (b₁ : Bool) (e₁ : b₁ ≡ is-fresh s a e) where
-    pub callOrder-fresh : (r : Order) → b₁ ≡ true → r ≡ fresh v n → r ≡ callOrder s a e v n
-    unfolding callOrder
-    callOrder-fresh r h er = rw (← e₁, h) er
-
-    module _ (b₂ : Bool) (h₁ : b₁ ≡ false) (e₂ : b₂ ≡ is-step s a e) where
-      pub callOrder-step : (r : Order) → b₂ ≡ true → r ≡ alone Step n → r ≡ callOrder s a e v n
-      unfolding callOrder
-      callOrder-step r h er = rw (← e₁, h₁, ← e₂, h) er
-
-      module _ (b₃ : Bool) (h₂ : b₂ ≡ false) (e₃ : b₃ ≡ is-interrupt s a e) where
-        pub callOrder-interrupt : (r : Order) → b₃ ≡ true → r ≡ interrupt v n → r ≡ callOrder s a e v n
-        unfolding callOrder
-        callOrder-interrupt r h er = rw (← e₁, h₁, ← e₂, h₂, ← e₃, h) er
-
-        pub callOrder-other : (r : Order) → b₃ ≡ false → r ≡ lookOrder s a e v n → r ≡ callOrder s a e v n
-        unfolding callOrder
-        callOrder-other r h er = rw (← e₁, h₁, ← e₂, h₂, ← e₃, h) er
-
   pub ordered-is : (a e n : ℕ) (v w : List ℕ) (o : Order) → e ≡ wordEnd (length s - a) s a → read n w ≡ numbers 33 s e v → o ≡ callOrder s a e w n
       → parsed o w ≡ ordered s a v
   unfolding ordered
@@ -220,22 +138,21 @@ module _ (s : List ℕ) where
       unfolding parse
       parse-is o w h e = rw (le-ltb 255 (length s) l, ← ea, ← eb, h) e
 
-module _ (v : List ℕ) (n k : ℕ) (e : k ≡ values n) where
-  pub put-none : k ≡ 0 → NotUnderstood ≡ put v n
-  unfolding put
-  put-none z = rw (← e, eq-eqb k 0 z)
+-- Of the orders of a line, one by one: it is this; it is none of these yet.
+module _ (b c : Bool) (x y r : Order) (e : c ≡ b) where
+  pub order-this : c ≡ true → r ≡ x → r ≡ cond b x y
+  order-this h er = rw (← e, h) er
 
-  pub put-is : (k ≡ 0 → ⊥) → Put (getD v 0 0) k ≡ put v n
-  unfolding put
-  put-is z = rw (← e, ne-eqb k 0 z)
+  pub order-later : c ≡ false → r ≡ y → r ≡ cond b x y
+  order-later h er = rw (← e, h) er
 
-  pub putAnywhere-none : k ≡ 0 → NotUnderstood ≡ putAnywhere v n
-  unfolding putAnywhere
-  putAnywhere-none z = rw (← e, eq-eqb k 0 z)
+-- The order o as the code holds it, its parts in locals, for the order p of the definition.
+module _ (o p r : Order) (n k : ℕ) where
+  pub counted-parts : r ≡ counted o n k → o ≡ p → r ≡ counted p n k
+  counted-parts e eo = cc
 
-  pub putAnywhere-is : (k ≡ 0 → ⊥) → Break (getD v 0 0) k ≡ putAnywhere v n
-  unfolding putAnywhere
-  putAnywhere-is z = rw (← e, ne-eqb k 0 z)
+  pub valued-parts : r ≡ valued o k → k ≡ values n → o ≡ p → r ≡ valued p (values n)
+  valued-parts e ek eo = cc
 
 -- How a test in code is answered.
 pub ruleset tests = (lt-ltb, le-ltb, le-leb, lt-leb, eq-eqb, ne-eqb)
@@ -266,26 +183,10 @@ pub ruleset reads = (
 
 -- Orders and lines.
 pub ruleset orders = (
-  put-none,
-  put-is,
-  putAnywhere-none,
-  putAnywhere-is,
-  hostOrder-words,
-  hostOrder-changes,
-  hostOrder-show,
-  hostOrder-other,
-  storeOrder-put,
-  storeOrder-break,
-  storeOrder-length,
-  storeOrder-other,
-  lookOrder-registers,
-  lookOrder-set,
-  lookOrder-judge,
-  lookOrder-other,
-  callOrder-fresh,
-  callOrder-step,
-  callOrder-interrupt,
-  callOrder-other,
+  order-this,
+  order-later,
+  counted-parts,
+  valued-parts,
   ordered-is,
   parse-long,
   parse-nothing,

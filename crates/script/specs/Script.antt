@@ -5,7 +5,7 @@ use mathlib.Core.List.{List, [], _∷_}
 use lib.ListN.{length, getD, set}
 use lib.Dec.{eqb, ltb, leb}
 use Rattle.script.specs.declared.Seven.{Seven}
-use Rattle.script.specs.declared.Figures.{Figures}
+use Rattle.script.specs.declared.reading.Figures.{Figures}
 use Rattle.script.specs.declared.Order.{Order}
 use Rattle.script.specs.declared.Order.the-variants.{Nothing, NotUnderstood, Fresh, Step, Interrupt, Registers, Set, Judge}
 use Rattle.script.specs.declared.Order.the-variants.{Put, Break, Length, Words, Changes, Show}
@@ -81,15 +81,12 @@ unfoldable pub isWord : List ℕ → ℕ → ℕ → List ℕ → Bool
 isWord s a e w = cond (eqb (e - a) (length w)) (same (length w) s a w) false
 
 -- ---- the orders, by how many numbers they have: "A line that .. has a number too many, too few .. not understood"
-unfoldable pub alone : Order → ℕ → Order
-alone o n = cond (eqb n 0) o NotUnderstood
-
-unfoldable pub fresh : List ℕ → ℕ → Order
-fresh v n = cond (eqb n 2) (Fresh (getD v 0 0) (getD v 1 0)) NotUnderstood
+unfoldable pub counted : Order → ℕ → ℕ → Order
+counted o n k = cond (eqb n k) o NotUnderstood
 
 -- "`interrupt K` is `interrupt K 0`"
 unfoldable pub interrupt : List ℕ → ℕ → Order
-interrupt v n = cond (eqb n 1) (Interrupt (getD v 0 0) 0) (cond (eqb n 2) (Interrupt (getD v 0 0) (getD v 1 0)) NotUnderstood)
+interrupt v n = cond (eqb n 1) (Interrupt (getD v 0 0) 0) (counted (Interrupt (getD v 0 0) (getD v 1 0)) n 2)
 
 unfoldable pub registers : List ℕ → Seven
 registers v = record {
@@ -102,24 +99,12 @@ registers v = record {
   w = getD v 6 0;
 }
 
-unfoldable pub setting : List ℕ → ℕ → Order
-setting v n = cond (eqb n 7) (Set (registers v)) NotUnderstood
-
 -- "1 to 32 values"; "`put` and `break` with no value, or with more than 32, are not understood"
 unfoldable pub values : ℕ → ℕ
 values n = cond (ltb n 2) 0 (cond (ltb 33 n) 0 (n - 1))
 
-unfoldable pub put : List ℕ → ℕ → Order
-put v n = cond (eqb (values n) 0) NotUnderstood (Put (getD v 0 0) (values n))
-
-unfoldable pub putAnywhere : List ℕ → ℕ → Order
-putAnywhere v n = cond (eqb (values n) 0) NotUnderstood (Break (getD v 0 0) (values n))
-
-unfoldable pub lengthOf : List ℕ → ℕ → Order
-lengthOf v n = cond (eqb n 1) (Length (getD v 0 0)) NotUnderstood
-
-unfoldable pub words : List ℕ → ℕ → Order
-words v n = cond (eqb n 2) (Words (getD v 0 0) (getD v 1 0)) NotUnderstood
+unfoldable pub valued : Order → ℕ → Order
+valued o k = cond (eqb k 0) NotUnderstood o
 
 -- ---- the words of the orders, each in its letters' numbers
 -- "fresh"
@@ -172,19 +157,25 @@ is-show s a e = isWord s a e (115 ∷ 104 ∷ 111 ∷ 119 ∷ [])
 
 -- ---- the orders: s has a word from a to e, and behind it the n numbers v
 unfoldable pub hostOrder : List ℕ → ℕ → ℕ → List ℕ → ℕ → Order
-hostOrder s a e v n = cond (is-words s a e) (words v n) (cond (is-changes s a e) (alone Changes n) (cond (is-show s a e) (alone Show n) NotUnderstood))
+hostOrder s a e v n =
+    cond (is-words s a e) (counted (Words (getD v 0 0) (getD v 1 0)) n 2)
+    (cond (is-changes s a e) (counted Changes n 0) (cond (is-show s a e) (counted Show n 0) NotUnderstood))
 
 unfoldable pub storeOrder : List ℕ → ℕ → ℕ → List ℕ → ℕ → Order
 storeOrder s a e v n =
-    cond (is-put s a e) (put v n) (cond (is-break s a e) (putAnywhere v n) (cond (is-length s a e) (lengthOf v n) (hostOrder s a e v n)))
+    cond (is-put s a e) (valued (Put (getD v 0 0) (values n)) (values n))
+    (cond (is-break s a e) (valued (Break (getD v 0 0) (values n)) (values n))
+    (cond (is-length s a e) (counted (Length (getD v 0 0)) n 1) (hostOrder s a e v n)))
 
 unfoldable pub lookOrder : List ℕ → ℕ → ℕ → List ℕ → ℕ → Order
 lookOrder s a e v n =
-    cond (is-registers s a e) (alone Registers n) (cond (is-set s a e) (setting v n) (cond (is-judge s a e) (alone Judge n) (storeOrder s a e v n)))
+    cond (is-registers s a e) (counted Registers n 0)
+    (cond (is-set s a e) (counted (Set (registers v)) n 7) (cond (is-judge s a e) (counted Judge n 0) (storeOrder s a e v n)))
 
 unfoldable pub callOrder : List ℕ → ℕ → ℕ → List ℕ → ℕ → Order
 callOrder s a e v n =
-    cond (is-fresh s a e) (fresh v n) (cond (is-step s a e) (alone Step n) (cond (is-interrupt s a e) (interrupt v n) (lookOrder s a e v n)))
+    cond (is-fresh s a e) (counted (Fresh (getD v 0 0) (getD v 1 0)) n 2)
+    (cond (is-step s a e) (counted Step n 0) (cond (is-interrupt s a e) (interrupt v n) (lookOrder s a e v n)))
 
 -- ---- the line
 pub data Parsed : Type 0 where

@@ -10,6 +10,6 @@ semaphores-spec = tie.close (tie.spec
     (λ c κs. search needs)
     (λ c κs. search needs)
     (λ c κs. search needs)
-    (λ c. search (needs, judges))
-    (λ c. search (needs, judges))
+    (λ c κs. search needs)
+    (λ c κs. search needs)
     (λ c. search (needs, judges)))

@@ -1,12 +1,16 @@
 use borrow.Author.Needs.{needs}
+use Rattle.script.specs.Script as Script
 use Rattle.script.proofs.Laws.{orders}
 use Rattle.script.proofs.call_order.Statement.{statement}
 use Rattle.script.proofs.call_order.Tie as tie
 
 pub call-order-spec : {M : Type 1} → statement M
+unfolding Script.callOrder
 call-order-spec = tie.close (tie.spec
     (λ c. search needs)
     (λ c κs. search needs)
+    (λ c. search needs)
+    (λ c. search needs)
     (λ c κs. search needs)
     (λ c. search (needs, orders))
     (λ c. search needs)

@@ -11,5 +11,5 @@ interrupt-spec = tie.close (tie.spec
     (λ c. search (needs, tests))
     (λ c. search needs)
     (λ c. search needs)
-    (λ c. search (needs, tests))
+    (λ c κs. search needs)
     (λ c. search (needs, tests)))

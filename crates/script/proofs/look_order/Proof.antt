@@ -1,15 +1,18 @@
 use borrow.Author.Needs.{needs}
+use Rattle.script.specs.Script as Script
 use Rattle.script.proofs.Laws.{orders}
 use Rattle.script.proofs.look_order.Statement.{statement}
 use Rattle.script.proofs.look_order.Tie as tie
 
 pub look-order-spec : {M : Type 1} → statement M
+unfolding Script.lookOrder
 look-order-spec = tie.close (tie.spec
     (λ c. search needs)
     (λ c κs. search needs)
     (λ c κs. search needs)
     (λ c. search (needs, orders))
     (λ c. search needs)
+    (λ c κs. search needs)
     (λ c κs. search needs)
     (λ c κs. search needs)
     (λ c. search (needs, orders))

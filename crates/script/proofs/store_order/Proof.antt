@@ -1,20 +1,26 @@
 use borrow.Author.Needs.{needs}
+use Rattle.script.specs.Script as Script
 use Rattle.script.proofs.Laws.{orders}
 use Rattle.script.proofs.store_order.Statement.{statement}
 use Rattle.script.proofs.store_order.Tie as tie
 
 pub store-order-spec : {M : Type 1} → statement M
+unfolding Script.storeOrder
 store-order-spec = tie.close (tie.spec
+    (λ c κs. search needs)
     (λ c. search needs)
     (λ c κs. search needs)
+    (λ c. search needs)
     (λ c κs. search needs)
     (λ c. search (needs, orders))
     (λ c. search needs)
     (λ c κs. search needs)
+    (λ c. search needs)
     (λ c κs. search needs)
     (λ c. search (needs, orders))
     (λ c. search needs)
     (λ c κs. search needs)
+    (λ c. search needs)
     (λ c κs. search needs)
     (λ c. search (needs, orders))
     (λ c κs. search needs)

@@ -4,8 +4,8 @@ use borrow.Fn.PlainCycle.{Measures, is, falls, and}
 use Rattle.console.proofs.orders.tell_words.Reads as own
 use Rattle.console.proofs.orders.tell_words.Kinds as kinds
 use Rattle.console.proofs.orders.+tell_words.Lts-tell_words as lts
-use Rattle.console.proofs.print.text.Reads as text-reads
-use Rattle.console.proofs.print.word.Reads as word-reads
+use Rattle.print.proofs.text.Reads as text-reads
+use Rattle.print.proofs.word.Reads as word-reads
 use Rattle.console.proofs.orders.+tell_words.{statement}
 use Rattle.console.proofs.orders.+tell_words.Tie.{close}
 

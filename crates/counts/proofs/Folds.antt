@@ -1,0 +1,294 @@
+-- Laws of the rules' parts, and of the folds along a walk and over a range, a law for each way out: they serve every rule. And that the
+-- list of a head, a grant too, is a walk.
+use Prim.Native.Nat.{ℕ, zero, suc, _+_, _*_, _-_, _%_, _≤_, _<_}
+use mathlib.Core.Path.{_≡_, refl}
+use mathlib.Core.Bool.{Bool, true, false, cond, _&&_}
+use mathlib.Core.List.{List, [], _∷_}
+use native.Mathlib.Omega.{arith}
+use native.Mathlib.Numerals.{sub-one}
+use lib.ListN.{length}
+use lib.Dec.{eqb, leb}
+use borrow.Author.Tests.{eq-eqb, ne-eqb, le-leb, lt-leb}
+use Rattle.model.specs.Map.{place}
+use Rattle.model.specs.Queue as Queue
+use Rattle.model.specs.Rule.{Rule, same, most, both, each, below, whenSame, unlessSame, whenMost, among, holds, all, every}
+use Rattle.model.specs.Lists as Lists
+use Rattle.model.specs.Lists.{count, each-of, range, some, mails, owns, isGrant, linkOf}
+use Rattle.model.specs.Bytes.{Memory, at, word, walk, lists, name}
+use Rattle.queues.proofs.Laws.{walk-none, walk-end, walk-on}
+use Rattle.counts.specs.Reach as Reach
+use Rattle.counts.specs.Reach.{leftOf, headsOf}
+
+-- ---- the parts of a rule
+module _ (r s : Rule) (b : Bool) (e : b ≡ holds r) where
+  pub both-yes : (c : Bool) → b ≡ true → c ≡ holds s → c ≡ holds (both r s)
+  unfolding holds
+  both-yes c h k = rw (← e, h, holds) k
+
+  pub both-no : b ≡ false → false ≡ holds (both r s)
+  unfolding holds
+  both-no h = rw (← e, h, holds)
+
+pub both-true : (r s : Rule) (b : Bool) → b ≡ holds r → true ≡ holds s → b ≡ holds (both r s)
+both-true r s true e k = both-yes r s true e true refl k
+both-true r s false e k = both-no r s false e refl
+
+-- the parts as a conjunction, for laws that move them
+if-and : (b c : Bool) → elim b [ true ↦ c | false ↦ false ] ≡ (b && c)
+if-and true c = refl
+if-and false c = refl
+
+pub both-and : (r s : Rule) → holds (both r s) ≡ (holds r && holds s)
+unfolding holds
+both-and r s = if-and (holds r) (holds s)
+
+-- two parts, both tested
+pub both-is : (r s : Rule) (a b c : Bool) → c ≡ (a && b) → a ≡ holds r → b ≡ holds s → c ≡ holds (both r s)
+both-is r s a b c e ea eb = rw (both-and r s, ← ea, ← eb) e
+
+pub each-nil : (f : ℕ → Rule) → holds (each [] f) ≡ true
+unfolding holds all
+each-nil f = refl
+
+pub cons-and : (f : ℕ → Rule) (x : ℕ) (xs : List ℕ) → holds (each (x ∷ xs) f) ≡ (holds (f x) && holds (each xs f))
+unfolding holds all
+cons-and f x xs = if-and (holds (f x)) (holds (each xs f))
+
+pub cons-is : (f : ℕ → Rule) (x : ℕ) (xs : List ℕ) (a b c : Bool) → c ≡ (a && b) → a ≡ holds (f x) → b ≡ holds (each xs f) → c ≡ holds (each (x ∷ xs) f)
+cons-is f x xs a b c e ea eb = rw (cons-and f x xs, ← ea, ← eb) e
+
+module _ (x y : ℕ) where
+  pub same-is : eqb x y ≡ holds (same x y)
+  unfolding holds
+  same-is = refl
+
+  pub most-is : leb x y ≡ holds (most x y)
+  unfolding holds
+  most-is = refl
+
+  module _ (r : Rule) where
+    pub when-yes : (c : Bool) → x ≡ y → c ≡ holds r → c ≡ holds (whenSame x y r)
+    unfolding holds
+    when-yes c h k = rw (eq-eqb x y h, holds) k
+
+    pub when-no : (x ≡ y → ⊥) → true ≡ holds (whenSame x y r)
+    unfolding holds
+    when-no h = rw (ne-eqb x y h, holds)
+
+    pub unless-yes : x ≡ y → true ≡ holds (unlessSame x y r)
+    unfolding holds
+    unless-yes h = rw (eq-eqb x y h, holds)
+
+    pub unless-no : (c : Bool) → (x ≡ y → ⊥) → c ≡ holds r → c ≡ holds (unlessSame x y r)
+    unfolding holds
+    unless-no c h k = rw (ne-eqb x y h, holds) k
+
+    pub least-yes : (c : Bool) → x ≤ y → c ≡ holds r → c ≡ holds (whenMost x y r)
+    unfolding holds
+    least-yes c h k = rw (le-leb x y h, holds) k
+
+    pub least-no : y < x → true ≡ holds (whenMost x y r)
+    unfolding holds
+    least-no h = rw (lt-leb x y h, holds)
+
+pub lies-is : (x lo hi : ℕ) (r : Bool) → r ≡ (leb lo x && leb x hi) → r ≡ holds (among x lo hi)
+lies-is x lo hi r e = both-is (most lo x) (most x hi) (leb lo x) (leb x hi) r e (most-is lo x) (most-is x hi)
+
+-- ---- each of a list
+module _ (f : ℕ → Rule) (b : Bool) where
+  pub cons-yes : (x : ℕ) (xs : List ℕ) (c : Bool) → b ≡ holds (f x) → b ≡ true → c ≡ holds (each xs f) → c ≡ holds (each (x ∷ xs) f)
+  unfolding holds all
+  cons-yes x xs c e h k = rw (← e, h, all) k
+
+  pub cons-no : (x : ℕ) (xs : List ℕ) → b ≡ holds (f x) → b ≡ false → false ≡ holds (each (x ∷ xs) f)
+  unfolding holds all
+  cons-no x xs e h = rw (← e, h, all)
+
+-- ---- each along a walk
+module _ (n : ℕ) (m : Memory) (k a : ℕ) (f : ℕ → Rule) where
+  pub each-none : n ≡ 0 → true ≡ holds (each (walk n m k a) f)
+  unfolding holds all
+  each-none e = rw (walk-none n m k a e)
+
+  pub each-end : (w : ℕ) → w ≡ at m a → w ≡ 0 → true ≡ holds (each (walk n m k a) f)
+  unfolding holds all
+  each-end w e h = rw (walk-end n m k a w e h)
+
+  pub each-bad : (w : ℕ) (b : Bool) → (n ≡ 0 → ⊥) → w ≡ at m a → (w ≡ 0 → ⊥) → b ≡ holds (f w) → b ≡ false → false ≡ holds (each (walk n m k a) f)
+  each-bad w b o e z eb h = rw (walk-on n m k a w (place w k) o e z refl) (cons-no f b w (walk (n - 1) m k (place w k)) eb h)
+
+  pub each-on : (w c : ℕ) (b r : Bool) → (n ≡ 0 → ⊥) → w ≡ at m a → (w ≡ 0 → ⊥) → b ≡ holds (f w) → b ≡ true → c ≡ place w k
+      → r ≡ holds (each (walk (n - 1) m k c) f) → r ≡ holds (each (walk n m k a) f)
+  each-on w c b r o e z eb h ec er = rw (walk-on n m k a w c o e z ec) (cons-yes f b w (walk (n - 1) m k c) r eb h er)
+
+-- ---- each of a range, of heads or of pages; each of 0 .. n - 1
+pub range-zero : (n d a : ℕ) → n ≡ 0 → range n d a ≡ []
+unfolding range
+range-zero zero d a e = refl
+range-zero (suc n) d a e = absurd (omega arith)
+
+pub range-suc : (n d a : ℕ) → (n ≡ 0 → ⊥) → range n d a ≡ a ∷ range (n - 1) d (a + d)
+unfolding range
+range-suc zero d a o = absurd (o refl)
+range-suc (suc n) d a o = rw sub-one
+
+module _ (f : ℕ → Rule) (n d a : ℕ) where
+  pub range-none : n ≡ 0 → true ≡ holds (each (range n d a) f)
+  unfolding holds all
+  range-none e = rw (range-zero n d a e)
+
+  pub range-bad : (b : Bool) → (n ≡ 0 → ⊥) → b ≡ holds (f a) → b ≡ false → false ≡ holds (each (range n d a) f)
+  range-bad b o eb h = rw (range-suc n d a o) (cons-no f b a (range (n - 1) d (a + d)) eb h)
+
+  pub range-on : (b r : Bool) → (n ≡ 0 → ⊥) → b ≡ holds (f a) → b ≡ true → r ≡ holds (each (range (n - 1) d (a + d)) f) → r ≡ holds (each (range n d a) f)
+  range-on b r o eb h er = rw (range-suc n d a o) (cons-yes f b a (range (n - 1) d (a + d)) r eb h er)
+
+pub below-none : (f : ℕ → Rule) (n : ℕ) → n ≡ 0 → true ≡ holds (below n f)
+unfolding holds every
+below-none f zero e = refl
+below-none f (suc n) e = absurd (omega arith)
+
+pub below-bad : (f : ℕ → Rule) (n : ℕ) (b : Bool) → (n ≡ 0 → ⊥) → b ≡ holds (f (n - 1)) → b ≡ false → false ≡ holds (below n f)
+unfolding holds every
+below-bad f zero b o e h = absurd (o refl)
+below-bad f (suc n) b o e h = let g : b ≡ holds (f n) = simp sub-one at e in rw (← g, h, every)
+
+pub below-on : (f : ℕ → Rule) (n : ℕ) (b r : Bool) → (n ≡ 0 → ⊥) → b ≡ holds (f (n - 1)) → b ≡ true → r ≡ holds (below (n - 1) f) → r ≡ holds (below n f)
+unfolding holds every
+below-on f zero b r o e h er = absurd (o refl)
+below-on f (suc n) b r o e h er = let g : b ≡ holds (f n) = simp sub-one at e in rw (← g, h, every) (simp sub-one at er)
+
+-- ---- the list of a head
+some-walk : (w : ℕ) → some w ≡ elim (eqb w 0) [ true ↦ [] | false ↦ w ∷ [] ]
+some-walk zero = refl
+some-walk (suc n) = rw (ne-eqb (suc n) 0 (λ e. omega arith))
+
+pub lists-is : (m : Memory) (a : ℕ) → lists m a ≡ walk (leftOf a) m (linkOf a) a
+unfolding Lists.lists Reach.leftOf Queue.walk
+lists-is m a = go (isGrant a)
+  where
+    go : (b : Bool) → elim b [ true ↦ some (at m a) | false ↦ walk 21 m (linkOf a) a ] ≡ walk (cond b 1 21) m (linkOf a) a
+    go true = some-walk (at m a)
+    go false = refl
+
+module _ (m : Memory) (a k n : ℕ) (ek : k ≡ linkOf a) (en : n ≡ leftOf a) where
+  pub lists-each : (f : ℕ → Rule) (r : Bool) → r ≡ holds (each (walk n m k a) f) → r ≡ holds (each (lists m a) f)
+  lists-each f r e = rw (lists-is m a, ← ek, ← en) e
+
+  pub lists-length : (r : ℕ) → r ≡ length (walk n m k a) → r ≡ length (lists m a)
+  lists-length r e = rw (lists-is m a, ← ek, ← en) e
+
+-- Q1 and Q2, and the own queue, as heads in words from 5 and from 4 on
+pub mails-heads : (ps : List ℕ) → mails ps ≡ headsOf 2 5 ps
+unfolding range
+mails-heads [] = refl
+mails-heads (p ∷ ps) = let e : place p 5 + 1 ≡ place p 6 = omega arith in rw (e, mails-heads ps)
+
+pub owns-heads : (ps : List ℕ) → owns ps ≡ headsOf 1 4 ps
+unfolding range
+owns-heads [] = refl
+owns-heads (p ∷ ps) = rw (owns-heads ps)
+
+-- at a place, and at the header of interrupt i + 1, as the code reckons them
+pub place-each : (m : Memory) (c p k : ℕ) (f : ℕ → Rule) (r : Bool) → c ≡ place p k → r ≡ holds (each (lists m c) f) → r ≡ holds (each (lists m (place p k)) f)
+place-each m c p k f r e h = rw (← e) h
+
+pub header-each : (m : Memory) (j i : ℕ) (f : ℕ → Rule) (r : Bool) → j ≡ i → r ≡ holds (each (lists m (132 + 2 * j)) f)
+    → r ≡ holds (each (lists m (132 + 2 * i)) f)
+header-each m j i f r e h = rw (← e) h
+
+pub link-list : (a : ℕ) → a ≡ 247 → 1 ≡ linkOf a
+unfolding Lists.linkOf
+link-list a h = rw (eq-eqb a 247 h)
+
+pub link-other : (a : ℕ) → (a ≡ 247 → ⊥) → 0 ≡ linkOf a
+unfolding Lists.linkOf
+link-other a h = rw (ne-eqb a 247 h)
+
+pub left-low : (a : ℕ) → a < 320 → 21 ≡ leftOf a
+unfolding Reach.leftOf Lists.isGrant
+left-low a h = rw (lt-leb 320 a h)
+
+pub left-grant : (a : ℕ) → 320 ≤ a → a < 352 → 1 ≡ leftOf a
+unfolding Reach.leftOf Lists.isGrant
+left-grant a h k = rw (le-leb 320 a h, le-leb (suc a) 352 k)
+
+pub left-high : (a : ℕ) → 352 ≤ a → 21 ≡ leftOf a
+unfolding Reach.leftOf Lists.isGrant
+left-high a h = rw (le-leb 320 a (omega arith), lt-leb (suc a) 352 (omega arith))
+
+-- ---- how long, how often
+module _ (n : ℕ) (m : Memory) (k a : ℕ) where
+  pub length-none : n ≡ 0 → 0 ≡ length (walk n m k a)
+  length-none e = rw (walk-none n m k a e)
+
+  pub length-end : (w : ℕ) → w ≡ at m a → w ≡ 0 → 0 ≡ length (walk n m k a)
+  length-end w e h = rw (walk-end n m k a w e h)
+
+  pub length-on : (w c r : ℕ) → (n ≡ 0 → ⊥) → w ≡ at m a → (w ≡ 0 → ⊥) → c ≡ place w k → r ≡ length (walk (n - 1) m k c) → r + 1 ≡ length (walk n m k a)
+  length-on w c r o e z ec er = rw (walk-on n m k a w c o e z ec) (omega arith)
+
+  module _ (z : ℕ) where
+    pub count-none : n ≡ 0 → 0 ≡ count z (walk n m k a)
+    count-none e = rw (walk-none n m k a e)
+
+    pub count-end : (w : ℕ) → w ≡ at m a → w ≡ 0 → 0 ≡ count z (walk n m k a)
+    count-end w e h = rw (walk-end n m k a w e h)
+
+    module _ (w c r : ℕ) (o : n ≡ 0 → ⊥) (e : w ≡ at m a) (nz : w ≡ 0 → ⊥) (ec : c ≡ place w k) (er : r ≡ count z (walk (n - 1) m k c)) where
+      pub count-here : z ≡ w → r + 1 ≡ count z (walk n m k a)
+      count-here h = rw (walk-on n m k a w c o e nz ec, eq-eqb z w h) (omega arith)
+
+      pub count-other : (z ≡ w → ⊥) → r ≡ count z (walk n m k a)
+      count-other h = rw (walk-on n m k a w c o e nz ec, ne-eqb z w h) (omega arith)
+
+  module _ (z : ℕ) where
+    pub name-none : n ≡ 0 → 0 ≡ count z (each-of (name m) (walk n m k a))
+    name-none e = rw (walk-none n m k a e)
+
+    pub name-end : (w : ℕ) → w ≡ at m a → w ≡ 0 → 0 ≡ count z (each-of (name m) (walk n m k a))
+    name-end w e h = rw (walk-end n m k a w e h)
+
+    module _ (w x c r : ℕ) (o : n ≡ 0 → ⊥) (e : w ≡ at m a) (nz : w ≡ 0 → ⊥) (ex : x ≡ word m w 7) (ec : c ≡ place w k) where
+      module _ (er : r ≡ count z (each-of (name m) (walk (n - 1) m k c))) where
+        pub name-here : z ≡ x % 16 → r + 1 ≡ count z (each-of (name m) (walk n m k a))
+        name-here h = rw (walk-on n m k a w c o e nz ec, ← ex, eq-eqb z (x % 16) h) (omega arith)
+
+        pub name-other : (z ≡ x % 16 → ⊥) → r ≡ count z (each-of (name m) (walk n m k a))
+        name-other h = rw (walk-on n m k a w c o e nz ec, ← ex, ne-eqb z (x % 16) h) (omega arith)
+
+pub ruleset folds = (
+  both-is,
+  lies-is,
+  cons-is,
+  each-none,
+  each-end,
+  each-bad,
+  each-on,
+  range-none,
+  range-bad,
+  range-on,
+  below-none,
+  below-bad,
+  below-on,
+  lists-each,
+  lists-length,
+  place-each,
+  header-each,
+  link-list,
+  link-other,
+  left-low,
+  left-grant,
+  left-high,
+  length-none,
+  length-end,
+  length-on,
+  count-none,
+  count-end,
+  count-here,
+  count-other,
+  name-none,
+  name-end,
+  name-here,
+  name-other,
+)

@@ -1,0 +1,122 @@
+// The lists of the judge: how long they are, how often a page or a name stands in the processor list.
+use model::ControlPage;
+use model::wide;
+use words::at;
+ghost use mathlib.Core.Path.{_≡_};
+ghost use mathlib.Core.Bool.{_&&_};
+ghost use Prim.Native.Nat.{_<_, _≤_, _+_};
+ghost use lib.ListN.{length};
+ghost use Rattle.model.specs.Map as Map;
+ghost use Rattle.model.specs.Rule.{holds, among};
+ghost use Rattle.model.specs.Lists.{count, each-of, linkOf};
+ghost use Rattle.model.specs.Bytes as Model;
+ghost use Rattle.counts.specs.Reach.{leftOf};
+
+// Whether both hold; a rule that is two is tested so.
+pub fn both(a: bool, b: bool) -> bool
+    ensures { λ r. ⌜ r ≡ (a && b) ⌝ }
+{
+    if a {
+        return b;
+    }
+    false
+}
+
+// Whether x lies in low-high.
+pub fn lies(x: u8, low: u8, high: u8) -> bool
+    ensures { λ r. ⌜ r ≡ holds (among x low high) ⌝ }
+{
+    both(low <= x, x <= high)
+}
+
+// a - b as a signed byte.
+pub fn less(a: u8, b: u8) -> u8
+    ensures { λ r. ⌜ r ≡ Map.less a b ⌝ }
+{
+    ((256 + wide(a) - wide(b)) % 256) as u8
+}
+
+// The word that links the list of the head at a.
+pub fn link_of(a: u16) -> u16
+    ensures { λ r. ⌜ (r ≡ linkOf a) × (r < 32) ⌝ }
+{
+    if a == 247 {
+        return 1;
+    }
+    0
+}
+
+// How far it goes: one page more than there are, and one page for a grant.
+pub fn left_of(a: u16) -> u8
+    ensures { λ r. ⌜ r ≡ leftOf a ⌝ }
+{
+    if a < 320 {
+        return 21;
+    }
+    if a < 352 {
+        return 1;
+    }
+    21
+}
+
+// How many pages hang from the cell at a.
+fn how_many(m: &[u8], k: u16, a: u16, left: u8) -> u8
+    requires { ⌜ (length (now m) ≡ 8192) × (k < 32) × (a < 8192) ⌝ }
+    ensures { λ r. ⌜ (r ≡ length (Model.walk left (now (m .entry)) k a)) × (r ≤ left) ⌝ }
+{
+    if left == 0 {
+        return 0;
+    }
+    let w = at(m, a);
+    if w == 0 {
+        return 0;
+    }
+    how_many(m, k, ControlPage(w).place(k), left - 1) + 1
+}
+
+// How long the list of the head at a is.
+pub fn length_of(m: &[u8], a: u16) -> u8
+    requires { ⌜ (length (now m) ≡ 8192) × (a < 8192) ⌝ }
+    ensures { λ r. ⌜ r ≡ length (Model.lists (now (m .entry)) a) ⌝ }
+{
+    how_many(m, link_of(a), a, left_of(a))
+}
+
+// How often z stands in the processor list, from the cell at a on.
+pub fn listings(m: &[u8], z: u8, a: u16, left: u8) -> u8
+    requires { ⌜ (length (now m) ≡ 8192) × (a < 8192) ⌝ }
+    ensures { λ r. ⌜ (r ≡ count z (Model.walk left (now (m .entry)) Map.listLink a)) × (r ≤ left) ⌝ }
+{
+    if left == 0 {
+        return 0;
+    }
+    let w = at(m, a);
+    if w == 0 {
+        return 0;
+    }
+    let n = listings(m, z, ControlPage(w).place(1), left - 1);
+    if z == w {
+        return n + 1;
+    }
+    n
+}
+
+// How many of the processor list, from the cell at a on, are named k.
+pub fn bearers(m: &[u8], k: u8, a: u16, left: u8) -> u8
+    requires { ⌜ (length (now m) ≡ 8192) × (a < 8192) ⌝ }
+    ensures { λ r. ⌜ (r ≡ count k (each-of (Model.name (now (m .entry))) (Model.walk left (now (m .entry)) Map.listLink a))) × (r ≤ left) ⌝ }
+{
+    if left == 0 {
+        return 0;
+    }
+    let w = at(m, a);
+    if w == 0 {
+        return 0;
+    }
+    let x = ControlPage(w).word(m, 7);
+    let n = bearers(m, k, ControlPage(w).place(1), left - 1);
+    if k == x % 16 {
+        return n + 1;
+    }
+    n
+}

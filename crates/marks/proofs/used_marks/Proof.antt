@@ -1,0 +1,13 @@
+use borrow.Author.Needs.{needs}
+use Rattle.marks.proofs.Laws.{markings}
+use Rattle.marks.proofs.used_marks.Statement.{statement}
+use Rattle.marks.proofs.used_marks.Tie as tie
+
+pub used-marks-spec : {M : Type 1} → statement M
+used-marks-spec = tie.close (tie.spec
+    (λ c κs. search needs)
+    (λ c κs. search needs)
+    (λ c κs. search needs)
+    (λ c κs. search needs)
+    (λ c κs. search needs)
+    (λ c. search (needs, markings)))

@@ -1,0 +1,6 @@
+-- The laws that the proofs of the functions search.
+use Rattle.counts.proofs.Folds.{folds}
+use Rattle.rules.proofs.Sentences.{sentences}
+use Rattle.rules.proofs.Heads.{heads}
+
+pub ruleset rulings = (folds, sentences, heads)

@@ -1,0 +1,134 @@
+-- A law for each way through the rules that read a word or count before they test, and one for each choice of a rule. Premises stand in the
+-- code's order.
+use Prim.Native.Nat.{ℕ, suc, _+_, _/_, _%_, _≤_, _<_}
+use mathlib.Core.Path.{_≡_, refl}
+use mathlib.Core.Bool.{Bool, true, _&&_}
+use native.Mathlib.Omega.{arith}
+use lib.ListN.{length}
+use lib.Dec.{eqb, leb}
+use Rattle.model.specs.Map.{place}
+use Rattle.model.specs.Store.{bytes}
+use Rattle.model.specs.Rule.{each, among, holds}
+use Rattle.model.specs.Lists as Lists
+use Rattle.model.specs.Lists.{count, each-of}
+use Rattle.model.specs.Judge as Judge
+use Rattle.model.specs.Bytes.{Memory, at, word, walk, lists, name}
+use Rattle.counts.specs.Reach.{rule}
+use Rattle.rules.specs.declared.tests.Test.{Test}
+use Rattle.rules.specs.declared.deep.Deep.{Deep}
+use Rattle.rules.specs.Rules.{ruleOf, deepOf}
+use Rattle.counts.proofs.Folds.{both-yes, both-true, both-is, same-is, most-is, when-yes, when-no, unless-yes, unless-no, least-yes, least-no}
+
+-- ---- which rule
+pub test-at : (m : Memory) (t u : Test) (x : ℕ) (b : Bool) → t ≡ u → b ≡ holds (ruleOf m u x) → b ≡ holds (ruleOf m t x)
+test-at m t u x b e h = rw e h
+
+pub deep-at : (m : Memory) (t u : Deep) (x : ℕ) (b : Bool) → t ≡ u → b ≡ holds (deepOf m u x) → b ≡ holds (deepOf m t x)
+deep-at m t u x b e h = rw e h
+
+-- ---- names
+pub label-is : (m : Memory) (p w n : ℕ) (b c d r : Bool) → w ≡ word m p 7 → n ≡ count (w % 16) (each-of (name m) (walk 21 m 1 247))
+    → b ≡ holds (among (w % 16) 1 15) → c ≡ holds (among (w / 16) 1 15) → d ≡ (b && c) → r ≡ (eqb n 1 && d) → r ≡ holds (rule (Judge.label bytes) m p)
+unfolding Judge.label Lists.lists Lists.isGrant Lists.linkOf
+label-is m p w n b c d r ew en eb ec ed er = rw (← ew, ← en) (both-is _ _ (eqb n 1) d r er (same-is n 1) (both-is _ _ b c d ed eb ec))
+
+-- ---- reasons
+module _ (m : Memory) (p w : ℕ) (ew : w ≡ word m p 12) where
+  pub quiet-idle : (b : Bool) → w % 128 / 64 ≡ 0 → b ≡ holds (rule (Judge.reasonless bytes) m p) → b ≡ holds (rule (Judge.quiet bytes) m p)
+  unfolding Judge.quiet
+  quiet-idle b h eb = rw (← ew) (when-yes _ _ _ b h eb)
+
+  pub quiet-waits : (w % 128 / 64 ≡ 0 → ⊥) → true ≡ holds (rule (Judge.quiet bytes) m p)
+  unfolding Judge.quiet
+  quiet-waits h = rw (← ew) (when-no _ _ _ h)
+
+-- ---- message waits: x is in the own queue of p
+pub owner-is : (m : Memory) (p x w : ℕ) (b d r : Bool) → w ≡ word m p 2 → b ≡ holds (each (lists m (place p 5)) (rule (Judge.unasked bytes) m p))
+    → d ≡ (leb (w % 16) 7 && b) → r ≡ (eqb x p && d) → r ≡ holds (rule (Judge.owner bytes) m p x)
+unfolding Judge.owner
+owner-is m p x w b d r ew eb ed er = rw (← ew) (both-is _ _ (eqb x p) d r er (same-is x p) (both-is _ _ (leb (w % 16) 7) b d ed (most-is (w % 16) 7) eb))
+
+-- ---- pages
+pub page-wait-is : (m : Memory) (p n w i g : ℕ) (r : Bool) → n ≡ length (lists m 244) → w ≡ word m p 7 → i ≡ w % 16 → g ≡ length (lists m (320 + i))
+    → r ≡ (eqb n 0 && eqb g 0) → r ≡ holds (rule (Judge.pageWait bytes) m p)
+unfolding Judge.pageWait
+page-wait-is m p n w i g r en ew ei eg er = rw (← en, ← ew, ← ei, ← eg) (both-is _ _ (eqb n 0) (eqb g 0) r er (same-is n 0) (same-is g 0))
+
+module _ (m : Memory) (k i g : ℕ) (ei : i ≡ k) (eg : g ≡ length (lists m (320 + i))) where
+  pub grant-none : g ≡ 0 → true ≡ holds (rule (Judge.grant bytes) m k)
+  unfolding Judge.grant
+  grant-none h = let e : g ≡ length (lists m (320 + k)) = rw ei at eg in rw (← e) (unless-yes g 0 _ h)
+
+  pub grant-some : (n : ℕ) → (g ≡ 0 → ⊥) → n ≡ count k (each-of (name m) (walk 21 m 1 247)) → eqb n 1 ≡ holds (rule (Judge.grant bytes) m k)
+  unfolding Judge.grant Lists.lists Lists.isGrant Lists.linkOf
+  grant-some n h en = let e : g ≡ length (lists m (320 + k)) = rw ei at eg in rw (← e, ← en) (unless-no g 0 _ (eqb n 1) h (same-is n 1))
+
+-- ---- messages
+module _ (m : Memory) (q w : ℕ) (ew : w ≡ word m q 2) where
+  pub sized-notice : w ≡ 128 → true ≡ holds (rule (Judge.sized bytes) m q)
+  unfolding Judge.sized
+  sized-notice h = rw (← ew) (unless-yes w 128 _ h)
+
+  pub sized-text : (w ≡ 128 → ⊥) → leb w 29 ≡ holds (rule (Judge.sized bytes) m q)
+  unfolding Judge.sized
+  sized-text h = rw (← ew) (unless-no w 128 _ (leb w 29) h (most-is w 29))
+
+pub message-is : (m : Memory) (q w : ℕ) (b c d e r : Bool) → w ≡ word m q 1 → b ≡ holds (among (w / 16) 1 15) → c ≡ holds (among (w % 16) 1 7)
+    → d ≡ holds (rule (Judge.sized bytes) m q) → e ≡ (c && d) → r ≡ (b && e) → r ≡ holds (rule (Judge.message bytes) m q)
+unfolding Judge.message
+message-is m q w b c d e r ew eb ec ed ee er = rw (← ew) (both-is _ _ b e r er eb (both-is _ _ c d e ee ec ed))
+
+-- ---- who runs
+module _ (m : Memory) (p s : ℕ) (es : s ≡ word m p 12) where
+  pub higher-ready : (w l : ℕ) → s < 64 → w ≡ word m p 7 → l ≡ at m 249 → leb (w / 16) (l / 16) ≡ holds (rule (Judge.notHigher bytes) m p)
+  unfolding Judge.notHigher
+  higher-ready w l h ew el = rw (← es, ← ew, ← el) (least-yes (suc s) 64 _ (leb (w / 16) (l / 16)) h (most-is (w / 16) (l / 16)))
+
+  pub higher-not : 64 ≤ s → true ≡ holds (rule (Judge.notHigher bytes) m p)
+  unfolding Judge.notHigher
+  higher-not h = rw (← es) (least-no (suc s) 64 _ (omega arith))
+
+-- ---- page 9
+pub used-is : (m : Memory) (i j w : ℕ) (b c r : Bool) → j ≡ i → w ≡ at m (289 + j) → b ≡ holds (among (w / 16) 1 15) → c ≡ holds (among (w % 16) 1 12)
+    → r ≡ (b && c) → r ≡ holds (rule (Judge.used bytes) m i)
+unfolding Judge.used
+used-is m i j w b c r ej ew eb ec er = rw (← ej, ← ew) (both-is _ _ b c r er eb ec)
+
+module _ (m : Memory) (i f j k : ℕ) (ef : f ≡ at m 288) (ej : j ≡ i) (ek : k ≡ f) where
+  pub entry-used : (b : Bool) → j + 2 ≤ k → b ≡ holds (rule (Judge.used bytes) m i) → b ≡ holds (rule (Judge.entry bytes) m i)
+  unfolding Judge.entry
+  entry-used b h eb =
+      rw (← ef) (both-true _ _ b (least-yes (i + 2) f _ b (omega arith) eb) (least-no f (i + 1) _ (omega arith)))
+
+  pub entry-unused : (l w : ℕ) → k < j + 2 → l ≡ i → w ≡ at m (289 + l) → eqb w 0 ≡ holds (rule (Judge.entry bytes) m i)
+  unfolding Judge.entry
+  entry-unused l w h el ew =
+      let e : w ≡ at m (289 + i) = rw el at ew in
+      rw (← ef, ← e) (both-yes _ _ true (least-no (i + 2) f _ (omega arith)) (eqb w 0) refl (least-yes f (i + 1) _ (eqb w 0) (omega arith) (same-is w 0)))
+
+-- ---- that a list ends and holds control pages
+pub list-is : (m : Memory) (a n : ℕ) (b r : Bool) → n ≡ length (lists m a) → b ≡ holds (each (lists m a) (rule (Judge.page bytes) m)) → r ≡ (leb n 20 && b)
+    → r ≡ holds (rule (Judge.list bytes) m a)
+unfolding Judge.list
+list-is m a n b r en eb er = rw (← en) (both-is _ _ (leb n 20) b r er (most-is n 20) eb)
+
+pub ruleset sentences = (
+  test-at,
+  deep-at,
+  label-is,
+  quiet-idle,
+  quiet-waits,
+  owner-is,
+  page-wait-is,
+  grant-none,
+  grant-some,
+  sized-notice,
+  sized-text,
+  message-is,
+  higher-ready,
+  higher-not,
+  used-is,
+  entry-used,
+  entry-unused,
+  list-is,
+)

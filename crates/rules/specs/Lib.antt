@@ -1,0 +1,2 @@
+-- What the code of the rules names beyond the model.
+pub mod Rules

@@ -1,0 +1,123 @@
+// Well-formed: the words of pages 7, 8 and 9, from "kinds 0-2" to the end.
+use crate::tests::Test;
+use crate::tests::all_of;
+use crate::tests::every;
+use counts::both;
+use counts::lies;
+use words::at;
+ghost use mathlib.Core.Path.{_≡_};
+ghost use Prim.Native.Nat.{_<_, _+_, _*_};
+ghost use lib.ListN.{length};
+ghost use lib.Dec.{eqb};
+ghost use Rattle.model.specs.Map as Map;
+ghost use Rattle.model.specs.Store.{bytes};
+ghost use Rattle.model.specs.Rule.{holds, same, never, among, under};
+ghost use Rattle.model.specs.Judge as Judge;
+ghost use Rattle.model.specs.Bytes as Model;
+ghost use Rattle.counts.specs.Reach.{rule};
+ghost use Rattle.rules.specs.Rules as Rules;
+
+// The word at an address: v; in low-high; below an end.
+pub fn is_at(m: &[u8], a: u16, v: u8) -> bool
+    requires { ⌜ (length (now m) ≡ 8192) × (a < 8192) ⌝ }
+    ensures { λ r. ⌜ r ≡ holds (same (Model.at (now (m .entry)) a) v) ⌝ }
+{
+    let w = at(m, a);
+    w == v
+}
+
+fn lies_at(m: &[u8], a: u16, low: u8, high: u8) -> bool
+    requires { ⌜ (length (now m) ≡ 8192) × (a < 8192) ⌝ }
+    ensures { λ r. ⌜ r ≡ holds (among (Model.at (now (m .entry)) a) low high) ⌝ }
+{
+    let w = at(m, a);
+    lies(w, low, high)
+}
+
+fn under_at(m: &[u8], a: u16, end: u8) -> bool
+    requires { ⌜ (length (now m) ≡ 8192) × (a < 8192) ⌝ }
+    ensures { λ r. ⌜ r ≡ holds (under (Model.at (now (m .entry)) a) end) ⌝ }
+{
+    let w = at(m, a);
+    w < end
+}
+
+// Code c is built in; code 15 is not.
+fn built_in(m: &[u8], c: u16) -> bool
+    requires { ⌜ (length (now m) ≡ 8192) × (c < 16) ⌝ }
+    ensures { λ r. ⌜ r ≡ holds (same (Map.top (Model.at (now (m .entry)) (Map.codeWord c))) 1) ⌝ }
+{
+    let w = at(m, 256 + 2 * c);
+    w / 32 == 1
+}
+
+fn last_foreign(m: &[u8]) -> bool
+    requires { ⌜ length (now m) ≡ 8192 ⌝ }
+    ensures { λ r. ⌜ r ≡ holds (never (eqb (Map.top (Model.at (now (m .entry)) (Map.codeWord 15))) 1)) ⌝ }
+{
+    let w = at(m, 286);
+    w / 32 != 1
+}
+
+fn codes(m: &[u8]) -> bool
+    requires { ⌜ length (now m) ≡ 8192 ⌝ }
+    ensures { λ r. ⌜ r ≡ holds (rule (Judge.codes bytes) (now (m .entry))) ⌝ }
+{
+    both(
+        every(m, Test::Kind, 16),
+        both(built_in(m, 0), both(built_in(m, 1), last_foreign(m))),
+    )
+}
+
+fn c0_under(m: &[u8]) -> bool
+    requires { ⌜ length (now m) ≡ 8192 ⌝ }
+    ensures { λ r. ⌜ r ≡ holds (under (Model.at (now (m .entry)) Map.c0) (Model.at (now (m .entry)) Map.divider)) ⌝ }
+{
+    let d = at(m, 251);
+    under_at(m, 240, d)
+}
+
+fn counters(m: &[u8]) -> bool
+    requires { ⌜ length (now m) ≡ 8192 ⌝ }
+    ensures { λ r. ⌜ r ≡ holds (rule (Judge.counters bytes) (now (m .entry))) ⌝ }
+{
+    both(
+        c0_under(m),
+        both(
+            under_at(m, 241, 10),
+            both(under_at(m, 242, 60), under_at(m, 243, 60)),
+        ),
+    )
+}
+
+fn clock(m: &[u8]) -> bool
+    requires { ⌜ length (now m) ≡ 8192 ⌝ }
+    ensures { λ r. ⌜ r ≡ holds (rule (Judge.clock bytes) (now (m .entry))) ⌝ }
+{
+    both(
+        counters(m),
+        both(lies_at(m, 251, 1, 255), lies_at(m, 239, 16, 47)),
+    )
+}
+
+fn faults(m: &[u8]) -> bool
+    requires { ⌜ length (now m) ≡ 8192 ⌝ }
+    ensures { λ r. ⌜ r ≡ holds (rule (Judge.faults bytes) (now (m .entry))) ⌝ }
+{
+    both(lies_at(m, 288, 1, 32), every(m, Test::Entry, 31))
+}
+
+fn zeros(m: &[u8]) -> bool
+    requires { ⌜ length (now m) ≡ 8192 ⌝ }
+    ensures { λ r. ⌜ r ≡ holds (rule (Judge.zeros bytes) (now (m .entry))) ⌝ }
+{
+    both(all_of(m, Test::ZeroBits, 247), is_at(m, 250, 0))
+}
+
+// "Well-formed", from codes on.
+pub fn tables(m: &[u8]) -> bool
+    requires { ⌜ length (now m) ≡ 8192 ⌝ }
+    ensures { λ r. ⌜ r ≡ holds (Rules.tables (now (m .entry))) ⌝ }
+{
+    both(codes(m), both(clock(m), both(faults(m), zeros(m))))
+}

@@ -1,0 +1,12 @@
+use borrow.Author.Needs.{needs}
+use Rattle.script.specs.Script as Script
+use Rattle.script.proofs.Laws.{tests}
+use Rattle.script.proofs.reading.ends.Statement.{statement}
+use Rattle.script.proofs.reading.ends.Tie as tie
+
+pub ends-spec : {M : Type 1} → statement M
+unfolding Script.ends
+ends-spec = tie.close (tie.spec
+    (λ c. search (needs, tests))
+    (λ c. search needs)
+    (λ c. search (needs, tests)))
