@@ -1,9 +1,11 @@
 use borrow.Author.Needs.{needs}
+use Rattle.model.specs.Call as Call
 use Rattle.kernel.proofs.Laws.{calls}
 use Rattle.kernel.proofs.instruction.Statement.{statement}
 use Rattle.kernel.proofs.instruction.Tie as tie
 
 pub instruction-spec : {M : Type 1} → statement M
+unfolding Call.instruction
 instruction-spec = tie.close (tie.spec
     (λ c. search (needs, calls))
     (λ c κs. search needs)

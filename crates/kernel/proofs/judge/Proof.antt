@@ -1,9 +1,11 @@
 use borrow.Author.Needs.{needs}
+use Rattle.model.specs.Call as Call
 use Rattle.kernel.proofs.Laws.{calls}
 use Rattle.kernel.proofs.judge.Statement.{statement}
 use Rattle.kernel.proofs.judge.Tie as tie
 
 pub judge-spec : {M : Type 1} → statement M
+unfolding Call.judge
 judge-spec = tie.close (tie.spec
     (λ c. search (needs, calls))
     (λ c κs. search needs)
