@@ -9,7 +9,6 @@ use borrow.Author.Tests.{leb-true}
 use native.Mathlib.Omega.{arith}
 use Rattle.model.specs.Rule as Rule
 use Rattle.model.specs.Rule.{all}
-use Rattle.model.specs.Map.{aWord}
 use Rattle.model.specs.Instruction.{lengths, argumentCounts, shapes, limits, lengthFor, countFor, shapeFor, limitFor, rowLength}
 
 -- inside a table the default does not matter

@@ -5,7 +5,7 @@ use words::address_at;
 use words::at;
 use words::wrapped;
 ghost use mathlib.Core.Path.{_≡_};
-ghost use Prim.Native.Nat.{_<_, _≤_, _+_, _-_, _*_, _/_, _%_};
+ghost use Prim.Native.Nat.{_<_, _≤_};
 ghost use lib.ListN.{length};
 ghost use Rattle.model.specs.Instruction as Instruction;
 ghost use Rattle.model.specs.Bytes as Model;

@@ -10,7 +10,7 @@ use model::Held;
 use model::Registers;
 use model::Verdict;
 ghost use mathlib.Core.Path.{_≡_};
-ghost use Prim.Native.Nat.{_<_, _+_, _*_};
+ghost use Prim.Native.Nat.{_<_};
 ghost use Rattle.model.specs.Answer.{answerOf, memoryOf};
 ghost use Rattle.model.specs.Bytes as Model;
 ghost use Rattle.host.specs.Encoded.{encoded, encodedHeld, encodedVerdict, lowPart, packed};

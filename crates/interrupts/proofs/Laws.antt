@@ -1,29 +1,15 @@
 -- A law for each way through an interrupt and the clock.
-use Prim.Native.Nat.{ℕ, zero, suc, _+_, _*_, _-_, _%_, _≤_, _<_}
+use Prim.Native.Nat.{ℕ, zero, suc, _-_}
 use mathlib.Core.Path.{_≡_, refl}
 use mathlib.Core.Bool.{Bool, true, false, cond}
-use borrow.Author.Tests.{lt-ltb, le-ltb, eq-eqb, ne-eqb}
+use borrow.Author.Tests.{eq-eqb, ne-eqb}
 use native.Mathlib.Numerals.{sub-one}
 use native.Mathlib.Omega.{arith}
-use Rattle.model.specs.Map.{raised, lowered, link, reason, wordA, semaphoreOf, clockLine, c0, c1, c2, c3, divider, firstClassed, lastOuter}
-use Rattle.model.specs.Map.{c0Interrupt, c1Interrupt, c2Interrupt, c3Interrupt, c1End, c2End, c3End}
+use Rattle.model.specs.Map.{raised, lowered, link, reason, semaphoreOf, clockLine}
 use Rattle.model.specs.Interrupt as Interrupt
-use Rattle.model.specs.Bytes.{Memory, word, store, at, wake, classed, struck, servedFrom, serve, counts, ends, turns, c0Counts, c1Counts, c2Counts}
-use Rattle.model.specs.Bytes.{c3Counts, delivered}
+use Rattle.model.specs.Bytes.{Memory, word, store, at, wake, classed, struck, servedFrom, serve, counts, ends, turns, c0Counts, delivered}
 
 module _ (m : Memory) (k c p : ℕ) where
-  pub class-low : k < firstClassed → m ≡ classed m k c p
-  unfolding Interrupt.classed
-  class-low h = rw (lt-ltb k firstClassed h)
-
-  pub class-high : firstClassed ≤ k → lastOuter < k → m ≡ classed m k c p
-  unfolding Interrupt.classed
-  class-high h g = rw (le-ltb k firstClassed h, lt-ltb lastOuter k g)
-
-  pub class-is : (m₁ : Memory) → firstClassed ≤ k → k ≤ lastOuter → m₁ ≡ store m p wordA c → m₁ ≡ classed m k c p
-  unfolding Interrupt.classed
-  class-is m₁ h g e₁ = rw (le-ltb k firstClassed h, le-ltb lastOuter k g) e₁
-
   -- i is k made wide
   module _ (w : ℕ) (ew : w ≡ word m p reason) where
     pub struck-wakes : (m₁ m₂ : Memory) (i : ℕ) → w ≡ 1 → i ≡ k → m₁ ≡ wake m (semaphoreOf i) p → m₂ ≡ classed m₁ k c p → m₂ ≡ struck m k c p
@@ -85,9 +71,6 @@ module _ (m m₁ : Memory) where
     delivered-plain z e₁ = rw (← el, ne-eqb k l z) e₁
 
 pub ruleset interrupts = (
-  class-low,
-  class-high,
-  class-is,
   struck-wakes,
   struck-falls,
   served-none,

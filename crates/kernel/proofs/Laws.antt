@@ -1,28 +1,23 @@
--- A law for each way through a public call, and that a call allows one outcome only.
-use Prim.Native.Nat.{ℕ, _≤_, _<_, _+_, _*_, _/_, _%_}
+-- What a public call comes to behind its refusals, and that a call allows one outcome only.
+use Prim.Native.Nat.{ℕ, _≤_, _%_}
 use mathlib.Core.Path.{_≡_, refl, sym, _∙_}
-use mathlib.Core.Bool.{Bool, true, false, cond, true≢false, false≢true}
+use mathlib.Core.Bool.{Bool, true, false, cond, false≢true}
 use lib.Dec.{eqb, ltb}
-use lib.ListN.{length}
-use borrow.Author.Tests.{eq-eqb, ne-eqb, ltb-false}
+use borrow.Author.Tests.{ltb-false}
 use native.Mathlib.Omega.{arith}
-use Rattle.model.specs.declared.Answer.{Answer}
-use Rattle.model.specs.declared.Answer.the-variants.{Done, Refused}
+use Rattle.model.specs.declared.Answer.the-variants.{Done}
 use Rattle.model.specs.declared.Registers.{Registers}
 use Rattle.model.specs.declared.Held.{Held}
 use Rattle.model.specs.declared.Held.the-variants as Held
 use Rattle.model.specs.declared.Verdict.the-variants as Verdict
-use Rattle.model.specs.Map.{memorySize, low}
-use Rattle.model.specs.Processor.{inRange}
-use Rattle.model.specs.Address.{unless}
-use Rattle.model.specs.Answer.{Outcome, noInterrupt, wrongClass, outOfRange}
+use Rattle.model.specs.Map.{low}
+use Rattle.model.specs.Answer.{Outcome}
 use Rattle.model.specs.Answer.Outcome.{gives}
 use Rattle.model.specs.Fresh as Fresh
 use Rattle.model.specs.Fresh.{startable}
 use Rattle.model.specs.Call as Call
 use Rattle.model.specs.Call.{isOuter, isClass}
-use Rattle.model.specs.Bytes.{Memory, Step, running, lr, registersOf, setRegistersOf, whoRuns, delivered, fetched, started, judged, fresh, instruction}
-use Rattle.model.specs.Bytes.{interruptJudged, interrupt, readRegisters, setJudged, setRegisters, judge}
+use Rattle.model.specs.Bytes.{Memory, Step, running, lr, registersOf, setRegistersOf, whoRuns, delivered, fetched, started}
 
 -- ---- what a range that was tested says
 start-range : (l d : ℕ) → startable l d ≡ true → (l ≤ 47) × (d ≤ 255)
@@ -52,30 +47,6 @@ class-range k c h = go (ltb 31 c) refl h
     go : (a : Bool) → ltb 31 c ≡ a → cond a false (cond (ltb k 48) (eqb c 0) true) ≡ true → c ≤ 31
     go true p h = absurd (false≢true h)
     go false p h = ltb-false 31 c p
-
--- ---- "Refusals .., first that applies": of every call, r being the refusal and x what stands behind it
-module _ {A : Type 0} (r x : A) where
-  -- by a test t that was found to be b
-  module _ (b t : Bool) (eb : b ≡ t) where
-    pub refused : b ≡ false → r ≡ unless t r x
-    refused h = rw (← eb, h)
-
-    pub passed : (o : A) → b ≡ true → o ≡ x → o ≡ unless t r x
-    passed o h e = rw (← eb, h) e
-
-  module _ (m : Memory) where
-    pub length-refused : (length m ≡ memorySize → ⊥) → r ≡ unless (eqb (length m) memorySize) r x
-    length-refused z = rw (ne-eqb (length m) memorySize z)
-
-    pub length-passed : (o : A) → length m ≡ memorySize → o ≡ x → o ≡ unless (eqb (length m) memorySize) r x
-    length-passed o z e = rw (eq-eqb (length m) memorySize z) e
-
-    module _ (p : ℕ) (ep : p ≡ running m) where
-      pub idle-refused : p ≡ 0 → r ≡ cond (eqb (running m) 0) r x
-      idle-refused z = rw (← ep, eq-eqb p 0 z)
-
-      pub idle-passed : (o : A) → (p ≡ 0 → ⊥) → o ≡ x → o ≡ cond (eqb (running m) 0) r x
-      idle-passed o z e = rw (← ep, ne-eqb p 0 z) e
 
 -- ---- what stands behind the refusals
 module _ (m : Memory) where
@@ -113,16 +84,4 @@ module _ (m : Memory) where
 pub one-outcome : {A : Type 0} (a b : A) (m n : Memory) (f : Outcome A Memory) → gives a m ≡ f → gives b n ≡ f → (a ≡ b) × (m ≡ n)
 one-outcome a b m n f p q = let e : gives a m ≡ gives b n = p ∙ sym q in (cc, cc)
 
-pub ruleset calls = (
-  refused,
-  passed,
-  length-refused,
-  length-passed,
-  idle-refused,
-  idle-passed,
-  started-is,
-  fetched-is,
-  delivered-is,
-  registers-are,
-  registers-set,
-)
+pub ruleset calls = (started-is, fetched-is, delivered-is, registers-are, registers-set)
