@@ -9,10 +9,9 @@ use borrow.Author.Tests.{le-leb, lt-leb}
 use native.Mathlib.Numerals.{sub-one}
 use native.Mathlib.Omega.{arith}
 use Rattle.model.specs.declared.Arguments.{Arguments}
-use Rattle.model.specs.Address.{wrapped}
 use Rattle.model.specs.Instruction as Instruction
 use Rattle.model.specs.Instruction.{limitFor, arguments, countedArguments}
-use Rattle.model.specs.Bytes.{Memory, at, addressAt}
+use Rattle.model.specs.Bytes.{Memory, argument}
 use Rattle.model.specs.Bytes.{within}
 
 -- seven shapes, or none
@@ -44,13 +43,6 @@ module _ (r : Arguments) where
   pub counted-of : (k l c d : ℕ) → r ≡ countedArguments k c → k ≡ l → c ≡ d → r ≡ countedArguments l d
   counted-of k l c d e ek ec = rw (← ek, ← ec) e
 
-module _ (m : Memory) (a b v : ℕ) (ea : a ≡ b) where
-  pub word-of : v ≡ at m a → v ≡ at m b
-  word-of e = rw (← ea) e
-
-  pub address-of : v ≡ addressAt m a → v ≡ addressAt m b
-  address-of e = rw (← ea) e
-
 module _ (m : Memory) (e s : ℕ) where
   pub within-none : (n : ℕ) → n ≡ 0 → true ≡ within n m e s
   unfolding Instruction.within
@@ -58,20 +50,20 @@ module _ (m : Memory) (e s : ℕ) where
   within-none (suc n) z = absurd (omega arith)
 
   -- i is n - 1 made wide
-  pub within-on : (n i a v l : ℕ) (r : Bool) → (n ≡ 0 → ⊥) → i ≡ n - 1 → a ≡ wrapped e i → v ≡ at m a → l ≡ limitFor s (n - 1) → v ≤ l
+  pub within-on : (n i v l : ℕ) (r : Bool) → (n ≡ 0 → ⊥) → i ≡ n - 1 → v ≡ argument m e i → l ≡ limitFor s (n - 1) → v ≤ l
       → r ≡ within (n - 1) m e s
       → r ≡ within n m e s
   unfolding Instruction.within
-  within-on zero i a v l r o ei ea ev el h er = absurd (o refl)
-  within-on (suc n) i a v l r o ei ea ev el h er =
+  within-on zero i v l r o ei ev el h er = absurd (o refl)
+  within-on (suc n) i v l r o ei ev el h er =
       let g : i ≡ n = omega arith in
-      rw (← g, ← ea, ← ev, g, ← (simp sub-one at el), le-leb v l h, Instruction.within) (simp sub-one at er)
+      rw (← g, ← ev, g, ← (simp sub-one at el), le-leb v l h, Instruction.within) (simp sub-one at er)
 
-  pub within-bad : (n i a v l : ℕ) → (n ≡ 0 → ⊥) → i ≡ n - 1 → a ≡ wrapped e i → v ≡ at m a → l ≡ limitFor s (n - 1) → l < v → false ≡ within n m e s
+  pub within-bad : (n i v l : ℕ) → (n ≡ 0 → ⊥) → i ≡ n - 1 → v ≡ argument m e i → l ≡ limitFor s (n - 1) → l < v → false ≡ within n m e s
   unfolding Instruction.within
-  within-bad zero i a v l o ei ea ev el h = absurd (o refl)
-  within-bad (suc n) i a v l o ei ea ev el h =
+  within-bad zero i v l o ei ev el h = absurd (o refl)
+  within-bad (suc n) i v l o ei ev el h =
       let g : i ≡ n = omega arith in
-      rw (← g, ← ea, ← ev, g, ← (simp sub-one at el), lt-leb v l h, Instruction.within)
+      rw (← g, ← ev, g, ← (simp sub-one at el), lt-leb v l h, Instruction.within)
 
-pub ruleset arguing = (row, row-none, arguments-of, counted-of, word-of, address-of, within-none, within-on, within-bad)
+pub ruleset arguing = (row, row-none, arguments-of, counted-of, within-none, within-on, within-bad)
