@@ -1,39 +1,27 @@
 -- The arguments by shape, and whether EXI's lie within their fields.
 use Prim.Native.Nat.{ℕ, zero, suc, _-_, _≤_, _<_}
 use mathlib.Core.Path.{_≡_, refl}
-use mathlib.Core.Logic.{_⊎_, inl, inr, ⊎-elim}
 use mathlib.Core.Bool.{Bool, true, false}
 use mathlib.Core.List.{List, [], _∷_}
-use lib.ListN.{getD}
+use lib.ListN.{getD, List·getD-eq-default}
 use borrow.Author.Tests.{le-leb, lt-leb}
 use native.Mathlib.Numerals.{sub-one}
 use native.Mathlib.Omega.{arith}
 use Rattle.model.specs.declared.Arguments.{Arguments}
 use Rattle.model.specs.Instruction as Instruction
 use Rattle.model.specs.Instruction.{limitFor, arguments, countedArguments}
-use Rattle.model.specs.Bytes.{Memory, argument}
-use Rattle.model.specs.Bytes.{within}
-
--- seven shapes, or none
-past : (s : ℕ) → (s ≡ 1 → ⊥) → (s ≡ 2 → ⊥) → (s ≡ 3 → ⊥) → (s ≡ 4 → ⊥) → (s ≡ 5 → ⊥) → (s ≡ 6 → ⊥)
-    → (s ≡ 0) ⊎ ((k : ℕ) × (s ≡ suc (suc (suc (suc (suc (suc (suc k))))))))
-past zero a b c d e f = inl refl
-past (suc zero) a b c d e f = absurd (a refl)
-past (suc (suc zero)) a b c d e f = absurd (b refl)
-past (suc (suc (suc zero))) a b c d e f = absurd (c refl)
-past (suc (suc (suc (suc zero)))) a b c d e f = absurd (d refl)
-past (suc (suc (suc (suc (suc zero))))) a b c d e f = absurd (e refl)
-past (suc (suc (suc (suc (suc (suc zero)))))) a b c d e f = absurd (f refl)
-past (suc (suc (suc (suc (suc (suc (suc s))))))) a b c d e f = inr (s, refl)
+use Rattle.model.specs.Bytes.{Memory, argument, within}
 
 -- ---- the arguments by shape, direct and for EXI: the row of shape s, the first where there is none
-module _ (s : ℕ) (r : Arguments) where
-  pub row : (k : ℕ) (d : Arguments) (xs : List Arguments) → s ≡ k → r ≡ getD xs k d → r ≡ getD xs s d
-  row k d xs e h = rw e h
+pub row : (s k : ℕ) (r d : Arguments) (xs : List Arguments) → s ≡ k → r ≡ getD xs k d → r ≡ getD xs s d
+row s k r d xs e h = rw e h
 
-  pub row-none : (d t u v w x y : Arguments) → (s ≡ 1 → ⊥) → (s ≡ 2 → ⊥) → (s ≡ 3 → ⊥) → (s ≡ 4 → ⊥) → (s ≡ 5 → ⊥) → (s ≡ 6 → ⊥) → r ≡ d
-      → r ≡ getD (d ∷ t ∷ u ∷ v ∷ w ∷ x ∷ y ∷ []) s d
-  row-none d t u v w x y a b c e f g h = ⊎-elim (λ z. rw z h) (λ z. rw (z .1) h) (past s a b c e f g)
+pub row-none : (s : ℕ) (r d t u v w x y : Arguments) → (s ≡ 1 → ⊥) → (s ≡ 2 → ⊥) → (s ≡ 3 → ⊥) → (s ≡ 4 → ⊥) → (s ≡ 5 → ⊥) → (s ≡ 6 → ⊥) → r ≡ d
+    → r ≡ getD (d ∷ t ∷ u ∷ v ∷ w ∷ x ∷ y ∷ []) s d
+row-none zero r d t u v w x y a b c e f g h = h
+row-none (suc s) r d t u v w x y a b c e f g h =
+    let q : 7 ≤ suc s = omega arith in
+    rw (List·getD-eq-default (d ∷ t ∷ u ∷ v ∷ w ∷ x ∷ y ∷ []) d q) h
 
 -- ---- what was found, in its place
 module _ (r : Arguments) where

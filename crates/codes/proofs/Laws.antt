@@ -1,12 +1,15 @@
 -- What WIN and code 13 come to behind their faults.
-use Prim.Native.Nat.{ℕ, zero, suc, _≤_, _<_}
-use mathlib.Core.Path.{_≡_, refl}
+use Prim.Native.Nat.{ℕ, _≤_, _<_}
+use mathlib.Core.Path.{_≡_}
+use mathlib.Core.List.{[], _∷_}
+use lib.ListN.{List·getD-eq-default}
 use borrow.Author.Tests.{lt-leb, le-leb}
+use native.Mathlib.Omega.{arith}
 use Rattle.model.specs.Map.{semaphoreOf, xRegister, indexNumber}
 use Rattle.model.specs.Address.{wrapped}
 use Rattle.model.specs.Instruction as Instruction
 use Rattle.model.specs.Operate as Operate
-use Rattle.model.specs.Bytes.{Memory, Step, addressAt, lr, advance, jumps, waits, worked, returnTo, reaches, follows, indexed}
+use Rattle.model.specs.Bytes.{Memory, Step, addressAt, lr, advance, jumps, waits, adds, storesA, ands, increments, worked, returnTo, reaches, follows, indexed}
 
 -- i is k made wide
 pub win-waits : (m m₁ : Memory) (o : Step) (k c i len : ℕ) → m₁ ≡ advance m len → i ≡ k → o ≡ waits m₁ (semaphoreOf i) c
@@ -15,17 +18,14 @@ win-waits m m₁ o k c i len e₁ ei e = rw (← e₁, ← ei) e
 
 -- ---- code 13
 module _ (m : Memory) where
-  module _ (o a : ℕ) (m₁ : Memory) where
-    pub work-at : (k : ℕ) → o ≡ k → m₁ ≡ worked m k a → m₁ ≡ worked m o a
-    work-at k e h = rw e h
+  pub work-at : (m₁ : Memory) (o a k : ℕ) → o ≡ k → m₁ ≡ worked m k a → m₁ ≡ worked m o a
+  work-at m₁ o a k e h = rw e h
 
   pub work-none : (o a : ℕ) → (o ≡ 0 → ⊥) → (o ≡ 1 → ⊥) → (o ≡ 2 → ⊥) → (o ≡ 3 → ⊥) → m ≡ worked m o a
   unfolding Operate.worked
-  work-none zero a w x y z = absurd (w refl)
-  work-none (suc zero) a w x y z = absurd (x refl)
-  work-none (suc (suc zero)) a w x y z = absurd (y refl)
-  work-none (suc (suc (suc zero))) a w x y z = absurd (z refl)
-  work-none (suc (suc (suc (suc o)))) a w x y z = refl
+  work-none o a w x y z =
+      let q : 4 ≤ o = omega arith in
+      rw (List·getD-eq-default (adds m a ∷ storesA m a ∷ ands m a ∷ increments m a ∷ []) m q)
 
   module _ (r : Step) (o a len : ℕ) where
     pub vep-jumps : (m₁ : Memory) (l n : ℕ) → l ≡ lr m → n ≡ wrapped l len → m₁ ≡ returnTo m n → r ≡ jumps m₁ a → r ≡ jumps (returnTo m (wrapped (lr m) len)) a

@@ -9,16 +9,15 @@ use Rattle.model.specs.Map.{raised, lowered, link, reason, semaphoreOf, clockLi
 use Rattle.model.specs.Interrupt as Interrupt
 use Rattle.model.specs.Bytes.{Memory, word, store, at, wake, classed, struck, servedFrom, serve, counts, ends, turns, c0Counts, delivered}
 
-module _ (m : Memory) (k c p : ℕ) where
-  -- i is k made wide
-  module _ (w : ℕ) (ew : w ≡ word m p reason) where
-    pub struck-wakes : (m₁ m₂ : Memory) (i : ℕ) → w ≡ 1 → i ≡ k → m₁ ≡ wake m (semaphoreOf i) p → m₂ ≡ classed m₁ k c p → m₂ ≡ struck m k c p
-    unfolding Interrupt.struck
-    struck-wakes m₁ m₂ i z ei e₁ e₂ = rw (← ew, eq-eqb w 1 z, ← ei, ← e₁, ei) e₂
+-- i is k made wide
+module _ (m : Memory) (k c p w : ℕ) (ew : w ≡ word m p reason) where
+  pub struck-wakes : (m₁ m₂ : Memory) (i : ℕ) → w ≡ 1 → i ≡ k → m₁ ≡ wake m (semaphoreOf i) p → m₂ ≡ classed m₁ k c p → m₂ ≡ struck m k c p
+  unfolding Interrupt.struck
+  struck-wakes m₁ m₂ i z ei e₁ e₂ = rw (← ew, eq-eqb w 1 z, ← ei, ← e₁, ei) e₂
 
-    pub struck-falls : (m₁ : Memory) (v : ℕ) → (w ≡ 1 → ⊥) → v ≡ lowered w → m₁ ≡ store m p reason v → m₁ ≡ struck m k c p
-    unfolding Interrupt.struck
-    struck-falls m₁ v z ev e₁ = rw (← ew, ne-eqb w 1 z, ← ev) e₁
+  pub struck-falls : (m₁ : Memory) (v : ℕ) → (w ≡ 1 → ⊥) → v ≡ lowered w → m₁ ≡ store m p reason v → m₁ ≡ struck m k c p
+  unfolding Interrupt.struck
+  struck-falls m₁ v z ev e₁ = rw (← ew, ne-eqb w 1 z, ← ev) e₁
 
 pub served-none : (n : ℕ) (m : Memory) (k c p : ℕ) → n ≡ 0 → m ≡ servedFrom n m k c p
 unfolding Interrupt.servedFrom
@@ -60,15 +59,14 @@ pub counter-last : (m m₁ : Memory) (c e k : ℕ) (b : Bool) → b ≡ ends m c
     → m₁ ≡ cond (ends m c e) (turns m c k) (counts m c)
 counter-last m m₁ c e k b eb e₁ = rw (← eb) e₁
 
-module _ (m m₁ : Memory) where
-  module _ (k c l : ℕ) (el : l ≡ at m clockLine) where
-    pub delivered-clock : (m₂ : Memory) → k ≡ l → m₁ ≡ serve m k c → m₂ ≡ c0Counts m₁ → m₂ ≡ delivered m k c
-    unfolding Interrupt.delivered
-    delivered-clock m₂ z e₁ e₂ = rw (← el, eq-eqb k l z, ← e₁) e₂
+module _ (m m₁ : Memory) (k c l : ℕ) (el : l ≡ at m clockLine) where
+  pub delivered-clock : (m₂ : Memory) → k ≡ l → m₁ ≡ serve m k c → m₂ ≡ c0Counts m₁ → m₂ ≡ delivered m k c
+  unfolding Interrupt.delivered
+  delivered-clock m₂ z e₁ e₂ = rw (← el, eq-eqb k l z, ← e₁) e₂
 
-    pub delivered-plain : (k ≡ l → ⊥) → m₁ ≡ serve m k c → m₁ ≡ delivered m k c
-    unfolding Interrupt.delivered
-    delivered-plain z e₁ = rw (← el, ne-eqb k l z) e₁
+  pub delivered-plain : (k ≡ l → ⊥) → m₁ ≡ serve m k c → m₁ ≡ delivered m k c
+  unfolding Interrupt.delivered
+  delivered-plain z e₁ = rw (← el, ne-eqb k l z) e₁
 
 pub ruleset interrupts = (
   struck-wakes,

@@ -7,9 +7,7 @@ use borrow.Author.Tests.{ltb-false}
 use native.Mathlib.Omega.{arith}
 use Rattle.model.specs.declared.Answer.the-variants.{Done}
 use Rattle.model.specs.declared.Registers.{Registers}
-use Rattle.model.specs.declared.Held.{Held}
 use Rattle.model.specs.declared.Held.the-variants as Held
-use Rattle.model.specs.declared.Verdict.the-variants as Verdict
 use Rattle.model.specs.Map.{low}
 use Rattle.model.specs.Answer.{Outcome}
 use Rattle.model.specs.Answer.Outcome.{gives}
@@ -19,34 +17,26 @@ use Rattle.model.specs.Call as Call
 use Rattle.model.specs.Call.{isOuter, isClass}
 use Rattle.model.specs.Bytes.{Memory, Step, running, lr, registersOf, setRegistersOf, whoRuns, delivered, fetched, started}
 
--- ---- what a range that was tested says
+-- ---- what a range that was tested says: a test b did not refuse, and the next, x, is passed
+past : (b x : Bool) → cond b false x ≡ true → (b ≡ false) × (x ≡ true)
+past true x h = absurd (false≢true h)
+past false x h = (refl, h)
+
 start-range : (l d : ℕ) → startable l d ≡ true → (l ≤ 47) × (d ≤ 255)
 unfolding Fresh.startable
-start-range l d h = go (ltb l 16) (ltb 47 l) (eqb d 0) (ltb 255 d) refl refl h
-  where
-    go : (a b c e : Bool) → ltb 47 l ≡ b → ltb 255 d ≡ e → cond a false (cond b false (cond c false (cond e false true))) ≡ true → (l ≤ 47) × (d ≤ 255)
-    go true b c e p q h = absurd (false≢true h)
-    go false true c e p q h = absurd (false≢true h)
-    go false false true e p q h = absurd (false≢true h)
-    go false false false true p q h = absurd (false≢true h)
-    go false false false false p q h = (ltb-false 47 l p, ltb-false 255 d q)
+start-range l d h =
+    let z : Bool = cond (ltb 255 d) false true in
+    let y : Bool = cond (eqb d 0) false z in
+    let u : (ltb 47 l ≡ false) × (y ≡ true) = past (ltb 47 l) y ((past (ltb l 16) (cond (ltb 47 l) false y) h) .1) in
+    (ltb-false 47 l (u .0), ltb-false 255 d ((past (ltb 255 d) true ((past (eqb d 0) z (u .1)) .1)) .0))
 
 outer-range : (k : ℕ) → isOuter k ≡ true → k ≤ 50
 unfolding Call.isOuter
-outer-range k h = go (ltb k 16) (ltb 50 k) refl h
-  where
-    go : (a b : Bool) → ltb 50 k ≡ b → cond a false (cond b false true) ≡ true → k ≤ 50
-    go true b p h = absurd (false≢true h)
-    go false true p h = absurd (false≢true h)
-    go false false p h = ltb-false 50 k p
+outer-range k h = ltb-false 50 k ((past (ltb 50 k) true ((past (ltb k 16) (cond (ltb 50 k) false true) h) .1)) .0)
 
 class-range : (k c : ℕ) → isClass k c ≡ true → c ≤ 31
 unfolding Call.isClass
-class-range k c h = go (ltb 31 c) refl h
-  where
-    go : (a : Bool) → ltb 31 c ≡ a → cond a false (cond (ltb k 48) (eqb c 0) true) ≡ true → c ≤ 31
-    go true p h = absurd (false≢true h)
-    go false p h = ltb-false 31 c p
+class-range k c h = ltb-false 31 c ((past (ltb 31 c) (cond (ltb k 48) (eqb c 0) true) h) .0)
 
 -- ---- what stands behind the refusals
 module _ (m : Memory) where

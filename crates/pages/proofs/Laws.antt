@@ -1,4 +1,4 @@
--- A law for each way a page is taken and given back.
+-- How a page is taken and given back.
 use Prim.Native.Nat.{ℕ}
 use mathlib.Core.Path.{_≡_}
 use borrow.Author.Tests.{eq-eqb, ne-eqb}

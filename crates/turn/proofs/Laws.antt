@@ -1,4 +1,4 @@
--- A law for each way through who runs.
+-- What who runs is found by, step by step.
 use Prim.Native.Nat.{ℕ, zero, suc, _+_, _-_, _≤_, _<_}
 use mathlib.Core.Path.{_≡_, refl}
 use mathlib.Core.List.{List}
