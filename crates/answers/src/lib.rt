@@ -9,7 +9,7 @@ use processors::set_lr;
 use processors::stop;
 use turn::who_runs;
 ghost use mathlib.Core.Path.{_≡_};
-ghost use Prim.Native.Nat.{_<_, _≤_, _+_, _*_, _/_, _%_};
+ghost use Prim.Native.Nat.{_<_};
 ghost use lib.ListN.{length};
 ghost use Rattle.model.specs.Map as Map;
 ghost use Rattle.model.specs.Answer.Outcome.{gives};

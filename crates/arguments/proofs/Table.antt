@@ -10,10 +10,10 @@ use native.Mathlib.Omega.{arith}
 use Rattle.model.specs.Rule as Rule
 use Rattle.model.specs.Rule.{all}
 use Rattle.model.specs.Map.{aWord}
-use Rattle.model.specs.Instruction.{lengths, argumentCounts, shapes, limits, lengthFor, countFor, shapeFor, limitFor, rowLength}
+use Rattle.model.specs.Instruction.{limits, limitFor, rowLength}
 
 -- inside a table the default does not matter
-read : (xs : List ℕ) (c d e : ℕ) → c < length xs → getD xs c d ≡ getD xs c e
+pub read : (xs : List ℕ) (c d e : ℕ) → c < length xs → getD xs c d ≡ getD xs c e
 read [] c d e h = absurd (omega arith)
 read (x ∷ xs) zero d e h = refl
 read (x ∷ xs) (suc c) d e h = read xs c d e (omega arith)
@@ -30,32 +30,18 @@ test-at t (x ∷ xs) c d a h = go (t x) refl a (λ i b. test-at t xs i d b) c h
     go true e a f (suc c) h = f c a (omega arith)
     go false e a f c h = absurd (false≢true a)
 
-pub length-in : (c : ℕ) → c < 15 → (getD lengths c 0 ≡ lengthFor c) × (2 ≤ getD lengths c 0) × (getD lengths c 0 ≤ 5)
-unfolding Rule.all
-length-in c h = (
-  read lengths c 0 2 h,
-  leb-true 2 (getD lengths c 0) (test-at (leb 2) lengths c 0 refl h),
-  leb-true (getD lengths c 0) 5 (test-at (λ x. leb x 5) lengths c 0 refl h),
-)
+module _ (xs : List ℕ) (c : ℕ) (h : c < length xs) where
+  pub at-least : (l : ℕ) → all (leb l) xs ≡ true → l ≤ getD xs c 0
+  at-least l a = leb-true l (getD xs c 0) (test-at (leb l) xs c 0 a h)
 
-pub length-out : (c : ℕ) → 15 ≤ c → 2 ≡ lengthFor c
-length-out c h = sym (List·getD-eq-default lengths 2 h)
+  pub at-most : (l : ℕ) → all (λ x. leb x l) xs ≡ true → getD xs c 0 ≤ l
+  at-most l a = leb-true (getD xs c 0) l (test-at (λ x. leb x l) xs c 0 a h)
 
-pub count-in : (c : ℕ) → c < 15 → (getD argumentCounts c 0 ≡ countFor c) × (getD argumentCounts c 0 ≤ 5)
-unfolding Rule.all
-count-in c h = (refl, leb-true (getD argumentCounts c 0) 5 (test-at (λ x. leb x 5) argumentCounts c 0 refl h))
-
-pub count-out : (c : ℕ) → 15 ≤ c → 0 ≡ countFor c
-count-out c h = sym (List·getD-eq-default argumentCounts 0 h)
-
-pub shape-in : (c : ℕ) → c < 15 → (getD shapes c 0 ≡ shapeFor c) × (getD shapes c 0 ≤ 6)
-unfolding Rule.all
-shape-in c h = (refl, leb-true (getD shapes c 0) 6 (test-at (λ x. leb x 6) shapes c 0 refl h))
-
-pub shape-out : (c : ℕ) → 15 ≤ c → 0 ≡ shapeFor c
-shape-out c h = sym (List·getD-eq-default shapes 0 h)
+-- behind a table stands its default
+pub beyond : (xs : List ℕ) (c d : ℕ) → length xs ≤ c → d ≡ getD xs c d
+beyond xs c d h = sym (List·getD-eq-default xs d h)
 
 pub limit-in : (s i : ℕ) → s ≤ 6 → i < 5 → getD limits (s * rowLength + i) 0 ≡ limitFor s i
-limit-in s i h g = read limits (s * 5 + i) 0 255 (omega arith)
+limit-in s i h g = read limits (s * rowLength + i) 0 aWord (omega arith)
 
-pub ruleset tables = (length-in, length-out, count-in, count-out, shape-in, shape-out, limit-in)
+pub ruleset tables = (read, at-least, at-most, beyond, limit-in)

@@ -5,8 +5,9 @@ use words::address_at;
 use words::at;
 use words::wrapped;
 ghost use mathlib.Core.Path.{_≡_};
-ghost use Prim.Native.Nat.{_<_, _≤_, _+_, _-_, _*_, _/_, _%_};
+ghost use Prim.Native.Nat.{_<_, _≤_};
 ghost use lib.ListN.{length};
+ghost use Rattle.model.specs.Address.{wrapped};
 ghost use Rattle.model.specs.Instruction as Instruction;
 ghost use Rattle.model.specs.Bytes as Model;
 
@@ -119,34 +120,42 @@ fn counted_arguments(k: u8, c: u8) -> Arguments
     }
 }
 
-// The parts of the instruction at n: its field, the three bits and the address behind it.
-fn field_at(m: &[u8], n: u16) -> u8
-    requires { ⌜ (length (now m) ≡ 8192) × (n < 8192) ⌝ }
-    ensures { λ r. ⌜ (r ≡ Model.fieldAt (now (m .entry)) n) × (r < 16) ⌝ }
+// Of the words from n on: word i, its low four bits, and the address in words i and i + 1.
+fn argument(m: &[u8], n: u16, i: u16) -> u8
+    requires { ⌜ (length (now m) ≡ 8192) × (n < 8192) × (i < 8192) ⌝ }
+    ensures { λ r. ⌜ r ≡ Model.argument (now (m .entry)) n i ⌝ }
 {
-    at(m, wrapped(n, 1)) % 16
+    at(m, wrapped(n, i))
 }
 
+fn four_at(m: &[u8], n: u16, i: u16) -> u8
+    requires { ⌜ (length (now m) ≡ 8192) × (n < 8192) × (i < 8192) ⌝ }
+    ensures { λ r. ⌜ (r ≡ Model.fourAt (now (m .entry)) n i) × (r < 16) ⌝ }
+{
+    argument(m, n, i) % 16
+}
+
+fn address_from(m: &[u8], n: u16, i: u16) -> u16
+    requires { ⌜ (length (now m) ≡ 8192) × (n < 8192) × (i < 8192) ⌝ }
+    ensures { λ r. ⌜ (r ≡ Model.addressAt (now (m .entry)) (wrapped n i)) × (r < 8192) ⌝ }
+{
+    address_at(m, wrapped(n, i))
+}
+
+// The instruction at n has its field in word 1, three bits and an address in words 2 and 3.
 fn three_at(m: &[u8], n: u16) -> u8
     requires { ⌜ (length (now m) ≡ 8192) × (n < 8192) ⌝ }
     ensures { λ r. ⌜ (r ≡ Model.threeAt (now (m .entry)) n) × (r < 16) ⌝ }
 {
-    at(m, wrapped(n, 2)) / 32
-}
-
-fn address_of(m: &[u8], n: u16) -> u16
-    requires { ⌜ (length (now m) ≡ 8192) × (n < 8192) ⌝ }
-    ensures { λ r. ⌜ (r ≡ Model.addressOf (now (m .entry)) n) × (r < 8192) ⌝ }
-{
-    address_at(m, wrapped(n, 2))
+    argument(m, n, 2) / 32
 }
 
 fn direct_counted(m: &[u8], n: u16) -> Arguments
     requires { ⌜ (length (now m) ≡ 8192) × (n < 8192) ⌝ }
     ensures { λ r. ⌜ (r ≡ Model.directCounted (now (m .entry)) n) × (r .field < 16) × (r .second < 16) × (r .w < 16) × (r .address < 8192) ⌝ }
 {
-    let k = at(m, wrapped(n, 2));
-    let c = at(m, wrapped(n, 3));
+    let k = argument(m, n, 2);
+    let c = argument(m, n, 3);
     counted_arguments(k, c)
 }
 
@@ -154,9 +163,9 @@ fn direct_creating(m: &[u8], n: u16) -> Arguments
     requires { ⌜ (length (now m) ≡ 8192) × (n < 8192) ⌝ }
     ensures { λ r. ⌜ (r ≡ Model.directCreating (now (m .entry)) n) × (r .field < 16) × (r .second < 16) × (r .w < 16) × (r .address < 8192) ⌝ }
 {
-    let f = field_at(m, n);
-    let w = at(m, wrapped(n, 2));
-    let a = address_at(m, wrapped(n, 3));
+    let f = four_at(m, n, 1);
+    let w = argument(m, n, 2);
+    let a = address_from(m, n, 3);
     arguments(f, w / 16, w % 16, a)
 }
 
@@ -166,29 +175,22 @@ pub fn direct(m: &[u8], n: u16, s: u8) -> Arguments
     ensures { λ r. ⌜ (r ≡ Model.direct (now (m .entry)) n s) × (r .field < 16) × (r .second < 16) × (r .w < 16) × (r .address < 8192) ⌝ }
 {
     match s {
-        1 => arguments(field_at(m, n), 0, 0, 0),
-        2 => arguments(field_at(m, n), 0, 0, address_of(m, n)),
+        1 => arguments(four_at(m, n, 1), 0, 0, 0),
+        2 => arguments(four_at(m, n, 1), 0, 0, address_from(m, n, 2)),
         3 => direct_counted(m, n),
-        4 => arguments(field_at(m, n), three_at(m, n), 0, 0),
-        5 => arguments(field_at(m, n), three_at(m, n), 0, address_of(m, n)),
+        4 => arguments(four_at(m, n, 1), three_at(m, n), 0, 0),
+        5 => arguments(four_at(m, n, 1), three_at(m, n), 0, address_from(m, n, 2)),
         6 => direct_creating(m, n),
         _ => arguments(0, 0, 0, 0),
     }
 }
 
-// EXI's argument words at e: four bits of word i, the flag or CODE1, and an address in words i and i + 1.
-fn four_at(m: &[u8], e: u16, i: u16) -> u8
-    requires { ⌜ (length (now m) ≡ 8192) × (e < 8192) × (i < 8192) ⌝ }
-    ensures { λ r. ⌜ (r ≡ Model.fourAt (now (m .entry)) e i) × (r < 16) ⌝ }
-{
-    at(m, wrapped(e, i)) % 16
-}
-
+// EXI has the flag or CODE1 in word 1 of the arguments at e.
 fn flag_at(m: &[u8], e: u16) -> u8
     requires { ⌜ (length (now m) ≡ 8192) × (e < 8192) ⌝ }
     ensures { λ r. ⌜ (r ≡ Model.flagAt (now (m .entry)) e) × (r < 16) ⌝ }
 {
-    at(m, wrapped(e, 1)) % 8
+    argument(m, e, 1) % 8
 }
 
 fn pointed_creating(m: &[u8], e: u16) -> Arguments
@@ -198,7 +200,7 @@ fn pointed_creating(m: &[u8], e: u16) -> Arguments
     let f = four_at(m, e, 0);
     let b = four_at(m, e, 1);
     let w = four_at(m, e, 2);
-    let a = address_at(m, wrapped(e, 3));
+    let a = address_from(m, e, 3);
     arguments(f, b, w, a)
 }
 
@@ -209,15 +211,10 @@ pub fn pointed(m: &[u8], e: u16, s: u8) -> Arguments
 {
     match s {
         1 => arguments(four_at(m, e, 0), 0, 0, 0),
-        2 => arguments(four_at(m, e, 0), 0, 0, address_at(m, wrapped(e, 1))),
-        3 => counted_arguments(at(m, wrapped(e, 0)), at(m, wrapped(e, 1))),
+        2 => arguments(four_at(m, e, 0), 0, 0, address_from(m, e, 1)),
+        3 => counted_arguments(argument(m, e, 0), argument(m, e, 1)),
         4 => arguments(four_at(m, e, 0), flag_at(m, e), 0, 0),
-        5 => arguments(
-            four_at(m, e, 0),
-            flag_at(m, e),
-            0,
-            address_at(m, wrapped(e, 2)),
-        ),
+        5 => arguments(four_at(m, e, 0), flag_at(m, e), 0, address_from(m, e, 2)),
         6 => pointed_creating(m, e),
         _ => arguments(0, 0, 0, 0),
     }
@@ -231,7 +228,7 @@ pub fn within(m: &[u8], e: u16, s: u8, n: u8) -> bool
     if n == 0 {
         return true;
     }
-    let v = at(m, wrapped(e, wide(n - 1)));
+    let v = argument(m, e, wide(n - 1));
     if v <= limit_for(s, n - 1) {
         return within(m, e, s, n - 1);
     }

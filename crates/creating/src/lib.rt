@@ -17,7 +17,7 @@ use queues::page_of;
 use sending::wait_for_page;
 use words::zero;
 ghost use mathlib.Core.Path.{_≡_};
-ghost use Prim.Native.Nat.{_<_, _≤_, _+_, _*_, _/_, _%_};
+ghost use Prim.Native.Nat.{_<_};
 ghost use lib.ListN.{length};
 ghost use Rattle.model.specs.Processor as Processor;
 ghost use Rattle.model.specs.Answer.Outcome.{gives};

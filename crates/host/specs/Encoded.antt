@@ -30,6 +30,10 @@ lowPart r = r .a * 256 + r .s * 65536 + r .p * 16777216 + r .z * 33554432 + r .c
 unfoldable pub packed : Registers → ℕ
 packed r = lowPart r + r .lr * 134217728 + r .w * 1099511627776 + r .stopped * 17592186044416
 
+-- those that a host sets: it does not name the stopped bit
+abbrev pub setTo : ℕ → ℕ → ℕ → ℕ → ℕ → ℕ → ℕ → Registers
+setTo a s p z ci lr w = record { a = a; s = s; p = p; z = z; ci = ci; lr = lr; w = w; stopped = 0 }
+
 unfoldable pub encodedHeld : Held → ℕ
 encodedHeld (Held.Has r) = packed r
 encodedHeld (Held.Refused k) = k

@@ -10,10 +10,10 @@ use model::Held;
 use model::Registers;
 use model::Verdict;
 ghost use mathlib.Core.Path.{_≡_};
-ghost use Prim.Native.Nat.{_<_, _+_, _*_};
+ghost use Prim.Native.Nat.{_<_};
 ghost use Rattle.model.specs.Answer.{answerOf, memoryOf};
 ghost use Rattle.model.specs.Bytes as Model;
-ghost use Rattle.host.specs.Encoded.{encoded, encodedHeld, encodedVerdict, lowPart, packed};
+ghost use Rattle.host.specs.Encoded.{encoded, encodedHeld, encodedVerdict, lowPart, packed, setTo};
 
 fn byte(x: u8) -> u64
     ensures { λ r. ⌜ (r ≡ x) × (r < 256) ⌝ }
@@ -120,8 +120,8 @@ pub extern "C" fn wik_set_registers(
     lr: u16,
     w: u16,
 ) -> u64
-    ensures { λ r. ⌜ r ≡ encoded (answerOf (Model.setRegisters (now (memory .entry)) (record { a = a; s = s; p = p; z = z; ci = ci; lr = lr; w = w; stopped = 0 }))) ⌝ }
-    ensures { λ _. ⌜ now (memory .exit) ≡ memoryOf (Model.setRegisters (now (memory .entry)) (record { a = a; s = s; p = p; z = z; ci = ci; lr = lr; w = w; stopped = 0 })) ⌝ }
+    ensures { λ r. ⌜ r ≡ encoded (answerOf (Model.setRegisters (now (memory .entry)) (setTo a s p z ci lr w))) ⌝ }
+    ensures { λ _. ⌜ now (memory .exit) ≡ memoryOf (Model.setRegisters (now (memory .entry)) (setTo a s p z ci lr w)) ⌝ }
 {
     let r = Registers {
         a,

@@ -7,7 +7,8 @@ use words::lowered;
 use words::raised;
 use words::write;
 ghost use mathlib.Core.Path.{_≡_};
-ghost use Prim.Native.Nat.{_<_, _≤_, _+_, _*_, _/_, _%_};
+ghost use mathlib.Core.Bool.{cond};
+ghost use Prim.Native.Nat.{_<_, _≤_};
 ghost use lib.ListN.{length};
 ghost use Rattle.model.specs.Bytes as Model;
 
@@ -64,29 +65,20 @@ pub fn serve(m: &mut [u8], k: u8, c: u8)
     serve_from(m, k, c, ControlPage(p), 20);
 }
 
-// A counter counts; whether it comes to its end; there it is 0 and interrupt k is served.
-fn count(m: &mut [u8], c: u16)
-    requires { ⌜ (length (now m) ≡ 8192) × (c < 8192) ⌝ }
-    ensures { λ _. ⌜ now (m .exit) ≡ Model.counts (now (m .entry)) c ⌝ }
-{
-    let v = at(m, c);
-    write(m, c, raised(v));
-}
-
-fn ends(m: &[u8], c: u16, e: u8) -> bool
-    requires { ⌜ (length (now m) ≡ 8192) × (c < 8192) ⌝ }
-    ensures { λ r. ⌜ r ≡ Model.ends (now (m .entry)) c e ⌝ }
-{
-    let v = at(m, c);
-    raised(v) == e
-}
-
-fn turn(m: &mut [u8], c: u16, k: u8)
+// A counter counts. Whether it came to its end: there it is 0 and interrupt k is served.
+fn tick(m: &mut [u8], c: u16, end: u8, k: u8) -> bool
     requires { ⌜ (length (now m) ≡ 8192) × (c < 8192) × (k ≤ 54) ⌝ }
-    ensures { λ _. ⌜ now (m .exit) ≡ Model.turns (now (m .entry)) c k ⌝ }
+    ensures { λ r. ⌜ (r ≡ Model.ends (now (m .entry)) c end)
+        × (now (m .exit) ≡ cond r (Model.turns (now (m .entry)) c k) (Model.counts (now (m .entry)) c)) ⌝ }
 {
-    write(m, c, 0);
-    serve(m, k, 0);
+    let v = raised(at(m, c));
+    if v == end {
+        write(m, c, 0);
+        serve(m, k, 0);
+        return true;
+    }
+    write(m, c, v);
+    false
 }
 
 // The counters C3 to C0.
@@ -94,35 +86,25 @@ fn c3_counts(m: &mut [u8])
     requires { ⌜ length (now m) ≡ 8192 ⌝ }
     ensures { λ _. ⌜ now (m .exit) ≡ Model.c3Counts (now (m .entry)) ⌝ }
 {
-    if ends(m, 243, 60) {
-        turn(m, 243, 54);
-        return;
-    }
-    count(m, 243);
+    tick(m, 243, 60, 54);
 }
 
 fn c2_counts(m: &mut [u8])
     requires { ⌜ length (now m) ≡ 8192 ⌝ }
     ensures { λ _. ⌜ now (m .exit) ≡ Model.c2Counts (now (m .entry)) ⌝ }
 {
-    if ends(m, 242, 60) {
-        turn(m, 242, 53);
+    if tick(m, 242, 60, 53) {
         c3_counts(m);
-        return;
     }
-    count(m, 242);
 }
 
 fn c1_counts(m: &mut [u8])
     requires { ⌜ length (now m) ≡ 8192 ⌝ }
     ensures { λ _. ⌜ now (m .exit) ≡ Model.c1Counts (now (m .entry)) ⌝ }
 {
-    if ends(m, 241, 10) {
-        turn(m, 241, 52);
+    if tick(m, 241, 10, 52) {
         c2_counts(m);
-        return;
     }
-    count(m, 241);
 }
 
 fn c0_counts(m: &mut [u8])
@@ -130,12 +112,9 @@ fn c0_counts(m: &mut [u8])
     ensures { λ _. ⌜ now (m .exit) ≡ Model.c0Counts (now (m .entry)) ⌝ }
 {
     let d = at(m, 251);
-    if ends(m, 240, d) {
-        turn(m, 240, 51);
+    if tick(m, 240, d, 51) {
         c1_counts(m);
-        return;
     }
-    count(m, 240);
 }
 
 // Interrupt k from outside; on the clock line it is served, then C0 counts.

@@ -13,7 +13,6 @@ use processors::running;
 use turn::who_runs;
 use words::low;
 ghost use mathlib.Core.Path.{_≡_};
-ghost use Prim.Native.Nat.{_<_, _%_};
 ghost use lib.ListN.{length};
 ghost use Rattle.model.specs.Call as Call;
 ghost use Rattle.model.specs.Answer.Outcome.{gives};

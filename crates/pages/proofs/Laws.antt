@@ -1,21 +1,15 @@
--- A law for each way a page is taken and given back.
-use Prim.Native.Nat.{ℕ, _+_, _*_, _%_}
-use mathlib.Core.Path.{_≡_, refl}
+-- How a page is taken and given back.
+use Prim.Native.Nat.{ℕ}
+use mathlib.Core.Path.{_≡_}
 use borrow.Author.Tests.{eq-eqb, ne-eqb}
 use Rattle.model.specs.Map.{freeList, pageQueue, grantFor}
 use Rattle.model.specs.Page as Page
 use Rattle.model.specs.Page.{Taken}
 use Rattle.model.specs.Page.Taken.{took}
-use Rattle.model.specs.Bytes.{Memory, at, write, name, takeFree, firstFree, takePage, freePage, grantPage, giveBack}
+use Rattle.model.specs.Bytes.{Memory, at, write, name, takeFree, firstFree, takePage, grantPage}
 
-module _ (m : Memory) (q : ℕ) (eq : q ≡ at m freeList) where
-  pub free-none : q ≡ 0 → took 0 m ≡ firstFree m
-  unfolding Page.firstFree
-  free-none z = rw (← eq, eq-eqb q 0 z)
-
-  pub free-first : (m₁ : Memory) → (q ≡ 0 → ⊥) → m₁ ≡ takeFree m q → took q m₁ ≡ firstFree m
-  unfolding Page.firstFree
-  free-first m₁ z e₁ = rw (← eq, ne-eqb q 0 z, ← e₁)
+pub free-first : (m m₁ : Memory) (q : ℕ) → q ≡ at m freeList → m₁ ≡ takeFree m q → took q m₁ ≡ took (at m freeList) (takeFree m (at m freeList))
+free-first m m₁ q eq e₁ = rw (← eq, ← e₁)
 
 -- i is the name, w it made wide
 module _ (m : Memory) (p i w q : ℕ) (ei : i ≡ name m p) (ew : w ≡ i) (eq : q ≡ at m (grantFor w)) where
@@ -27,13 +21,7 @@ module _ (m : Memory) (p i w q : ℕ) (ei : i ≡ name m p) (ew : w ≡ i) (eq :
   unfolding Page.takePage
   take-grant m₁ z e₁ = rw (← ei, ← ew, ← eq, ne-eqb q 0 z, ← e₁)
 
-module _ (m m₁ : Memory) (q p : ℕ) (ep : p ≡ at m pageQueue) where
-  pub back-free : p ≡ 0 → m₁ ≡ freePage m q → m₁ ≡ giveBack m q
-  unfolding Page.giveBack
-  back-free z e₁ = rw (← ep, eq-eqb p 0 z) e₁
+pub grant-first : (m m₁ : Memory) (q p : ℕ) → p ≡ at m pageQueue → m₁ ≡ grantPage m p q → m₁ ≡ grantPage m (at m pageQueue) q
+grant-first m m₁ q p ep e₁ = rw (← ep) e₁
 
-  pub back-grant : (p ≡ 0 → ⊥) → m₁ ≡ grantPage m p q → m₁ ≡ giveBack m q
-  unfolding Page.giveBack
-  back-grant z e₁ = rw (← ep, ne-eqb p 0 z) e₁
-
-pub ruleset pages = (free-none, free-first, take-free, take-grant, back-free, back-grant)
+pub ruleset pages = (free-first, take-free, take-grant, grant-first)

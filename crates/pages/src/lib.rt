@@ -10,7 +10,6 @@ use words::lowered;
 use words::raised;
 use words::write;
 ghost use mathlib.Core.Path.{_≡_};
-ghost use Prim.Native.Nat.{_<_, _≤_, _+_, _*_, _/_, _%_};
 ghost use lib.ListN.{length};
 ghost use Rattle.model.specs.Page.Taken.{took};
 ghost use Rattle.model.specs.Bytes as Model;

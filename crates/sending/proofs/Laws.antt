@@ -1,17 +1,16 @@
 -- A law for each way through SME, WNM, RME and TME.
-use Prim.Native.Nat.{ℕ, _+_, _*_, _/_, _%_, _≤_, _<_}
-use mathlib.Core.Path.{_≡_, refl}
+use Prim.Native.Nat.{ℕ, _+_, _≤_, _<_}
+use mathlib.Core.Path.{_≡_}
 use mathlib.Core.Bool.{Bool, true, false}
 use borrow.Author.Tests.{lt-ltb, le-ltb, eq-eqb, ne-eqb}
 use Rattle.model.specs.Map.{place, pair, lengthIn, ownSemaphore, link, q2, size, longest, headWords, controlPages}
-use Rattle.model.specs.Address.{wrapped, guarded, clear}
+use Rattle.model.specs.Address.{wrapped, clear}
 use Rattle.model.specs.Page.Taken.{took}
 use Rattle.model.specs.Mail.Tested.{tested}
 use Rattle.model.specs.Answer.{badArgument, protected, noMatch}
 use Rattle.model.specs.Operate as Operate
 use Rattle.model.specs.Bytes.{Memory, Step, at, word, running, pageOf, done, jumps, waits, fault, takePage, deliver, makeNotice, writeMessage}
-use Rattle.model.specs.Bytes.{waitsForPage, posted}
-use Rattle.model.specs.Bytes.{leave, giveBack, copyOut, sent, smeText, sme, inQ1, inQ2, move, wnm, received, rme, testQ1, tmeQ1, tme}
+use Rattle.model.specs.Bytes.{waitsForPage, posted, leave, giveBack, copyOut, sent, smeText, inQ1, inQ2, move, wnm, received, rme, testQ1, tmeQ1}
 
 module _ (m m₁ m₂ : Memory) (q n f a l p : ℕ) (ep : p ≡ pageOf m n) where
   pub posted-notice : (r : ℕ) → p ≡ 0 → r ≡ running m → m₁ ≡ makeNotice m q n f → m₂ ≡ deliver m₁ r q → m₂ ≡ posted m q n f a l
@@ -51,23 +50,6 @@ module _ (m : Memory) (o : Step) (n f a len : ℕ) where
       unfolding Operate.smeText
       text-guarded z e = rw (← el, le-ltb longest l h, ← eb, ← ec, z) e
 
-  pub sme-nobody : n ≡ 0 → o ≡ fault m badArgument → o ≡ sme m n f a len
-  unfolding Operate.sme
-  sme-nobody z e = rw (eq-eqb n 0 z) e
-
-  pub sme-flag : (n ≡ 0 → ⊥) → f ≡ 0 → o ≡ fault m badArgument → o ≡ sme m n f a len
-  unfolding Operate.sme
-  sme-flag y z e = rw (ne-eqb n 0 y, eq-eqb f 0 z) e
-
-  module _ (b : Bool) (y : n ≡ 0 → ⊥) (z : f ≡ 0 → ⊥) (eb : b ≡ guarded a) where
-    pub sme-guarded : b ≡ true → o ≡ fault m protected → o ≡ sme m n f a len
-    unfolding Operate.sme
-    sme-guarded h e = rw (ne-eqb n 0 y, ne-eqb f 0 z, ← eb, h) e
-
-    pub sme-text : b ≡ false → o ≡ smeText m n f a len → o ≡ sme m n f a len
-    unfolding Operate.sme
-    sme-text h e = rw (ne-eqb n 0 y, ne-eqb f 0 z, ← eb, h) e
-
   module _ (r q : ℕ) (er : r ≡ running m) (eq : q ≡ inQ1 m n f) where
     pub wnm-waits : (s : ℕ) → q ≡ 0 → s ≡ place r ownSemaphore → o ≡ waits m s (pair n f) → o ≡ wnm m n f len
     unfolding Operate.wnm
@@ -91,14 +73,6 @@ module _ (m : Memory) (o : Step) (n f a len : ℕ) where
       unfolding Operate.rme
       rme-guarded h e = rw (← eq, ne-eqb q 0 z, ← el, ← ec, h) e
 
-    pub tme-q1 : q ≡ 0 → o ≡ tmeQ1 m n f a len → o ≡ tme m n f a len
-    unfolding Operate.tme
-    tme-q1 z e = rw (← eq, eq-eqb q 0 z) e
-
-    pub tme-q2 : (q ≡ 0 → ⊥) → o ≡ jumps m a → o ≡ tme m n f a len
-    unfolding Operate.tme
-    tme-q2 z e = rw (← eq, ne-eqb q 0 z) e
-
   module _ (m₁ : Memory) (r : ℕ) (b : Bool) (er : r ≡ running m) (eb : tested b m₁ ≡ testQ1 controlPages m r n f) where
     pub q1-found : b ≡ true → o ≡ jumps m₁ a → o ≡ tmeQ1 m n f a len
     unfolding Operate.tmeQ1
@@ -116,18 +90,12 @@ pub ruleset sends = (
   text-long,
   text-sent,
   text-guarded,
-  sme-nobody,
-  sme-flag,
-  sme-guarded,
-  sme-text,
   wnm-waits,
   wnm-moves,
   received-is,
   rme-none,
   rme-done,
   rme-guarded,
-  tme-q1,
-  tme-q2,
   q1-found,
   q1-none,
 )

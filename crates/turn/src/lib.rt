@@ -6,7 +6,9 @@ use processors::running;
 use words::at;
 use words::write;
 ghost use mathlib.Core.Path.{_≡_};
-ghost use Prim.Native.Nat.{_<_, _≤_, _+_, _*_, _/_, _%_};
+ghost use mathlib.Core.Bool.{cond};
+ghost use Prim.Native.Nat.{_<_, _≤_};
+ghost use lib.Dec.{eqb};
 ghost use lib.ListN.{length};
 ghost use Rattle.model.specs.Map as Map;
 ghost use Rattle.model.specs.Turn as Turn;
@@ -228,17 +230,23 @@ fn load(m: &mut [u8], p: ControlPage)
     restore(m, w, 19);
 }
 
+// The priority and name of page p; of page 0, 0.
+fn label(m: &[u8], p: ControlPage) -> u8
+    requires { ⌜ length (now m) ≡ 8192 ⌝ }
+    ensures { λ r. ⌜ r ≡ cond (eqb (p .0) 0) 0 (Model.word (now (m .entry)) (p .0) Map.label) ⌝ }
+{
+    if p.0 == 0 {
+        return 0;
+    }
+    p.word(m, 7)
+}
+
 // Page p runs; page 0: nobody.
 pub fn runs(m: &mut [u8], p: ControlPage)
     requires { ⌜ length (now m) ≡ 8192 ⌝ }
     ensures { λ _. ⌜ now (m .exit) ≡ Model.runs (now (m .entry)) (p .0) ⌝ }
 {
-    if p.0 == 0 {
-        write(m, 248, p.0);
-        write(m, 249, 0);
-        return;
-    }
-    let w = p.word(m, 7);
+    let w = label(m, p);
     write(m, 248, p.0);
     write(m, 249, w);
 }

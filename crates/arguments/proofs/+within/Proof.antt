@@ -5,10 +5,9 @@ use borrow.Fn.PlainCycle.{Measures, is, falls, and}
 use Rattle.arguments.proofs.within.Reads as own
 use Rattle.arguments.proofs.within.Kinds as kinds
 use Rattle.arguments.proofs.+within.Lts-within as lts
+use Rattle.arguments.proofs.argument.Reads as argument-reads
 use Rattle.arguments.proofs.limit_for.Reads as limit-for-reads
 use Rattle.model.proofs.wide.Reads as wide-reads
-use Rattle.words.proofs.at.Reads as at-reads
-use Rattle.words.proofs.wrapped.Reads as wrapped-reads
 use Rattle.arguments.proofs.+within.{statement}
 use Rattle.arguments.proofs.+within.Tie.{close}
 
@@ -20,10 +19,8 @@ pub +within-spec : {M : Type 1} → statement M
 +within-spec = close μ λ t. lts.spec (
   wide-reads.Asked,
   wide-reads.Learnt,
-  wrapped-reads.Asked,
-  wrapped-reads.Learnt,
-  at-reads.Asked,
-  at-reads.Learnt,
+  argument-reads.Asked,
+  argument-reads.Learnt,
   limit-for-reads.Asked,
   limit-for-reads.Learnt,
   and 1 kinds.ps (falls 1 kinds.ps _<_ μ t) own.Pre,
@@ -33,7 +30,6 @@ pub +within-spec : {M : Type 1} → statement M
     own.Post
     (λ c. search (needs, arguing))
     (λ c. search needs)
-    (λ c κs. search needs)
     (λ c κs. search needs)
     (λ c κs. search needs)
     (λ c. search needs)

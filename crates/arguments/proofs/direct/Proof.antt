@@ -1,9 +1,11 @@
 use borrow.Author.Needs.{needs}
+use Rattle.model.specs.Instruction as Instruction
 use Rattle.arguments.proofs.Laws.{arguing}
 use Rattle.arguments.proofs.direct.Statement.{statement}
 use Rattle.arguments.proofs.direct.Tie as tie
 
 pub direct-spec : {M : Type 1} → statement M
+unfolding Instruction.direct
 direct-spec = tie.close (tie.spec
     (λ c κs. search needs)
     (λ c κs. search needs)

@@ -8,5 +8,4 @@ returns c = (cc, search needs)
 pub four-at-spec : {M : Type 1} → statement M
 four-at-spec = tie.close (tie.spec
     (λ c κs. search needs)
-    (λ c κs. search needs)
     returns)

@@ -14,5 +14,4 @@ pointed-creating-spec = tie.close (tie.spec
     (λ c κs. search needs)
     (λ c κs. search needs)
     (λ c κs. search needs)
-    (λ c κs. search needs)
     returns)

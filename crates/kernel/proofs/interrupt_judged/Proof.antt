@@ -1,9 +1,12 @@
 use borrow.Author.Needs.{needs}
+use Rattle.model.specs.Call as Call
+use Rattle.processors.proofs.Ways.{ways}
 use Rattle.kernel.proofs.Laws.{calls}
 use Rattle.kernel.proofs.interrupt_judged.Statement.{statement}
 use Rattle.kernel.proofs.interrupt_judged.Tie as tie
 
 pub interrupt-judged-spec : {M : Type 1} → statement M
+unfolding Call.interruptJudged
 interrupt-judged-spec = tie.close (tie.spec
     (λ c κs. search needs)
     (λ c κs. search needs)
@@ -12,6 +15,6 @@ interrupt-judged-spec = tie.close (tie.spec
     (λ c κs. search needs)
     (λ c κs. search needs)
     (λ c. search needs)
-    (λ c. search (needs, calls))
-    (λ c. search (needs, calls))
-    (λ c. search (needs, calls)))
+    (λ c. search (needs, ways, calls))
+    (λ c. search (needs, ways, calls))
+    (λ c. search (needs, ways, calls)))

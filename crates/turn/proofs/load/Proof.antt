@@ -1,12 +1,15 @@
 use borrow.Author.Needs.{needs}
+use Rattle.model.specs.Turn as Turn
+use Rattle.processors.proofs.Ways.{ways}
 use Rattle.turn.proofs.Laws.{turns}
 use Rattle.turn.proofs.load.Statement.{statement}
 use Rattle.turn.proofs.load.Tie as tie
 
 pub load-spec : {M : Type 1} → statement M
+unfolding Turn.load
 load-spec = tie.close (tie.spec
-    (λ c. search (needs, turns))
+    (λ c. search (needs, ways, turns))
     (λ c κs. search needs)
     (λ c κs. search needs)
     (λ c. search needs)
-    (λ c. search (needs, turns)))
+    (λ c. search (needs, ways, turns)))
