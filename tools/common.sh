@@ -12,6 +12,26 @@ verdict() {
     [ "$failed" -eq 0 ]
 }
 
+# add FILE: adds the last line of what a command printed to the count; where there is none, that failed too.
+add() {
+    line=$(grep -E '^[0-9]+ passed, [0-9]+ failed$' "$1" | tail -n 1)
+    passed=$((passed + ${line%% *}+0))
+    line=${line#* passed, }
+    failed=$((failed + ${line%% *}+0))
+    [ -n "$line" ] || fail
+}
+
+# lane N COMMAND ITEM..: runs the command on every second item; two lanes, 0 and 1, are two at a time.
+lane() {
+    mine=$1 command=$2
+    shift 2
+    turn=0
+    for item; do
+        [ $((turn % 2)) -ne "$mine" ] || "$command" "$item"
+        turn=$((turn + 1))
+    done
+}
+
 # agree ONE OTHER ERRORS ELSE: counts whether two files are the same and the third is empty; if not, the line ELSE, what differs first, and the errors.
 agree() {
     if cmp -s "$1" "$2" && [ ! -s "$3" ]; then
