@@ -8,7 +8,7 @@ use lib.ListN.{length, getD, set, length-set, length-append}
 use lib.Seq.{getD-set-same}
 use Rattle.model.specs.Bytes.{join, leave}
 use Rattle.model.specs.Lists.{count, Lists, some, linkOf, isGrant}
-use Rattle.laws.specs.Count.{hit-self, hit-or, count-append}
+use Rattle.laws.specs.Count.{hit-self, hit-or, count-append, zero-or}
 use Rattle.laws.specs.Chain.{Page, Chain, chain-move, last, last-in, join-is, leave-is, off-page}
 use Rattle.laws.specs.Queues.{upd, upd-same, upd-other, link-le, link-procs, link-other, rep-join, rep-leave}
 use Rattle.laws.specs.Heads.{Place, Seat, seat-of}
@@ -18,7 +18,7 @@ use Rattle.laws.specs.Uses.{Head, head-place, Sep, proc-page, list-short
 use Rattle.laws.specs.Places.{grant-is, all-pages}
 use Rattle.laws.specs.Inv.{View, Reads, Mem}
 use Rattle.laws.specs.Frames.{other}
-use Rattle.laws.specs.Stores.{col-off}
+use Rattle.laws.specs.Stores.{words-off, fixed-off}
 
 -- ---- a cell is no judged word
 pub record Unread (b : ℕ) : Type 0 where
@@ -32,19 +32,9 @@ pub record Unread (b : ℕ) : Type 0 where
 
 pub reads-unread : {m : List ℕ} {ps : List ℕ} {L : Lists} {W : View} (b v : ℕ) → Sep ps L → Unread b → Reads m ps W → Reads (set m b v) ps W
 reads-unread {m} {ps} {L} {W} b v s u r = record {
-  words = record {
-    note = λ p h n. other m b v (p * 32 + 1) (u .page p 1 h (omega arith) (omega arith)) ∙ r .words .note p h n;
-    reason = col-off m b v 2 (W .reason) (λ p h. u .page p 2 h (omega arith) (omega arith)) (r .words .reason);
-    label = col-off m b v 7 (W .label) (λ p h. u .high p 7 h (omega arith) (omega arith)) (r .words .label);
-    state = col-off m b v 12 (W .state) (λ p h. u .high p 12 h (omega arith) (omega arith)) (r .words .state);
-  };
-  fixed = record {
-    clock = λ a h i. other m b v a (u .clock a h i) ∙ r .fixed .clock a h i;
-    turn = λ a h i. other m b v a (u .turn a h i) ∙ r .fixed .turn a h i;
-    code = λ k h. other m b v (256 + 2 * k) (u .rest (256 + 2 * k) (omega arith) (omega arith)) ∙ r .fixed .code k h;
-    next = other m b v 288 (u .rest 288 (omega arith) (omega arith)) ∙ r .fixed .next;
-    entry = λ i h. other m b v (289 + i) (u .rest (289 + i) (omega arith) (omega arith)) ∙ r .fixed .entry i h;
-  };
+  words = words-off b v (λ p h. u .page p 1 h (omega arith) (omega arith)) (λ p h. u .page p 2 h (omega arith) (omega arith))
+      (λ p h. u .high p 7 h (omega arith) (omega arith)) (λ p h. u .high p 12 h (omega arith) (omega arith)) (r .words);
+  fixed = fixed-off b v (u .clock) (u .turn) (u .rest) (r .fixed);
   sems = λ a h. other m b v a (sem a (seat-of ps a h)) ∙ r .sems a h;
 }
   where
@@ -53,54 +43,44 @@ reads-unread {m} {ps} {L} {W} b v s u r = record {
     sem a (page e) = rw e (u .asking)
     sem a (own p i e) = rw e (u .page p 3 (proc-page s p i) (omega arith) (omega arith))
 
-pub unread-link : (x b : ℕ) → Page x → b ≡ x * 32 + 0 → Unread b
-unread-link x b g e = record {
-  page = λ c1 c2 c3 c4 c5. omega arith;
+unread-word : (x j b : ℕ) → Page x → j ≤ 6 → (1 ≤ j → 4 ≤ j) → b ≡ x * 32 + j → Unread b
+unread-word x j b g u n e = record {
+  page = λ p k h i v. go p k h i v (zero-or j);
   high = λ c1 c2 c3 c4 c5. omega arith;
   clock = λ c1 c2 c3. omega arith;
   turn = λ c1 c2 c3. omega arith;
   asking = omega arith;
   line = λ c1 c2. omega arith;
   rest = λ c1 c2 c3. omega arith;
+}
+  where
+    go : (p k : ℕ) → Page p → 1 ≤ k → k ≤ 3 → (j ≡ 0) ⊎ (1 ≤ j) → p * 32 + k ≢ b
+    go p k h i v (inl z) = omega arith
+    go p k h i v (inr l) = let d = n l in omega arith
+
+pub unread-link : (x b : ℕ) → Page x → b ≡ x * 32 + 0 → Unread b
+unread-link x b g e = unread-word x 0 b g (omega arith) (λ i. absurd (omega arith)) e
+
+unread-low : (b : ℕ) → b < 7552 → ((a : ℕ) → 239 ≤ a → a ≤ 243 → a ≢ b) → ((a : ℕ) → 248 ≤ a → a ≤ 251 → a ≢ b) → 245 ≢ b
+    → ((k : ℕ) → k < 54 → 131 + 2 * k ≢ b) → ((a : ℕ) → 256 ≤ a → a < 320 → a ≢ b) → Unread b
+unread-low b u c t a l r = record {
+  page = λ c1 c2 c3 c4 c5. omega arith;
+  high = λ c1 c2 c3 c4 c5. omega arith;
+  clock = c;
+  turn = t;
+  asking = a;
+  line = l;
+  rest = r;
 }
 
 pub unread-place : {ps : List ℕ} {L : Lists} → Sep ps L → (b : ℕ) → Place ps b → Unread b
-unread-place s b (int n hn e) = record {
-  page = λ c1 c2 c3 c4 c5. omega arith;
-  high = λ c1 c2 c3 c4 c5. omega arith;
-  clock = λ c1 c2 c3. omega arith;
-  turn = λ c1 c2 c3. omega arith;
-  asking = omega arith;
-  line = λ c1 c2. omega arith;
-  rest = λ c1 c2 c3. omega arith;
-}
-unread-place s b (three x y z) = record {
-  page = λ c1 c2 c3 c4 c5. omega arith;
-  high = λ c1 c2 c3 c4 c5. omega arith;
-  clock = λ c1 c2 c3. omega arith;
-  turn = λ c1 c2 c3. omega arith;
-  asking = omega arith;
-  line = λ c1 c2. omega arith;
-  rest = λ c1 c2 c3. omega arith;
-}
-unread-place s b (grant x y) = record {
-  page = λ c1 c2 c3 c4 c5. omega arith;
-  high = λ c1 c2 c3 c4 c5. omega arith;
-  clock = λ c1 c2 c3. omega arith;
-  turn = λ c1 c2 c3. omega arith;
-  asking = omega arith;
-  line = λ c1 c2. omega arith;
-  rest = λ c1 c2 c3. omega arith;
-}
-unread-place s b (slot t) = let g = proc-page s (t .page) (t .proc) in record {
-  page = λ c1 c2 c3 c4 c5. omega arith;
-  high = λ c1 c2 c3 c4 c5. omega arith;
-  clock = λ c1 c2 c3. omega arith;
-  turn = λ c1 c2 c3. omega arith;
-  asking = omega arith;
-  line = λ c1 c2. omega arith;
-  rest = λ c1 c2 c3. omega arith;
-}
+unread-place s b (int n hn e) =
+    unread-low b (omega arith) (λ c1 c2 c3. omega arith) (λ c1 c2 c3. omega arith) (omega arith) (λ c1 c2. omega arith) (λ c1 c2 c3. omega arith)
+unread-place s b (three x y z) =
+    unread-low b (omega arith) (λ c1 c2 c3. omega arith) (λ c1 c2 c3. omega arith) (omega arith) (λ c1 c2. omega arith) (λ c1 c2 c3. omega arith)
+unread-place s b (grant x y) =
+    unread-low b (omega arith) (λ c1 c2 c3. omega arith) (λ c1 c2 c3. omega arith) (omega arith) (λ c1 c2. omega arith) (λ c1 c2 c3. omega arith)
+unread-place s b (slot t) = unread-word (t .page) (t .word) b (proc-page s (t .page) (t .proc)) (omega arith) (λ i. omega arith) (t .is)
 
 -- ---- a list with links in word 0
 module _ {m : List ℕ} {ps : List ℕ} {L : Lists} {W : View} (s : Sep ps L) (x : Mem m ps L W) (a : ℕ) (ha : Head ps a) (na : a ≢ 247) where

@@ -21,7 +21,7 @@ use Rattle.laws.specs.Places.{in-free, in-asking, asking-once, grant-onc
 use Rattle.laws.specs.Inv.{View, Facts, Base}
 use Rattle.laws.specs.Views.{put1, withSem}
 use Rattle.laws.specs.Cells.{chain0, grant-mem}
-use Rattle.laws.specs.Changes.{uses-upd, queue-same, uses-sep, facts-uses, facts-same, stock-same, hand-page, page-sem}
+use Rattle.laws.specs.Changes.{uses-upd, queue-same, uses-sep, facts-uses, stock-same, hand-page, page-sem}
 use Rattle.laws.specs.Wake.{woken, woken-proc, facts-wake, wake-mem}
 use Rattle.laws.specs.Hands.{take-free, give-free, take-grant}
 
@@ -104,7 +104,7 @@ module _ {m : List ℕ} {ps : List ℕ} {L : Lists} {W : View} {hs : List ℕ} {
   facts-grant =
       let i = grant-once s n (omega arith) in
       let o : (c : ℕ) → c ≢ 320 + n → K c ≡ A c = λ c d. upd-other A (320 + n) c (some q) d in
-      facts-same (facts-uses K (woken W 245 p .sem) (record {
+      facts-uses K (woken W 245 p .sem) (record {
         sep = uses-sep (fw .sep) (320 + n) i (omega arith) (some q) (λ z. omega (arith, more z, b .all z));
         same = queue-same (fw .sep) (320 + n) i (omega arith) (some q);
         sems = λ a h. rw (stock-same A K (o 244 (omega arith)) a) (fw .sems a h);
@@ -112,7 +112,7 @@ module _ {m : List ℕ} {ps : List ℕ} {L : Lists} {W : View} {hs : List ℕ} {
         known = λ k h d c. known k h d c (hit-or k n);
         mail = λ y w h u v. rw (o (y * 32 + w) (let t = proc-page s y h in omega arith)) (fw .mail y w h u v);
         none = λ y x h j. rw (o (y * 32 + 5) (let t = proc-page s y h in omega arith)) (fw .own y h x j .none);
-      }) fw)
+      }) fw
     where
       known : (k : ℕ) → k < 32 → k ≢ g → length (K (320 + k)) ≢ 0 → (k ≡ n) ⊎ (k ≢ n) → count k (each-of (λ y. W .label y % 16) ps) ≡ 1
       known k h d c (inl t) = rw t (b .facts .names .differ p waiter-proc)

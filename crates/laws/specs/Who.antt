@@ -291,22 +291,8 @@ module _ {m : List ℕ} {ps : List ℕ} {L : Lists} {W : View} {hs : List ℕ} {
   unfolding Turn.switch Turn.runs
   switched t f = go (eqb r t) refl
     where
-      same : Best ps W → Best ps (withLow W (W .low))
-      same h = record { ready = h .ready; top = h .top }
-
-      alike : Base m ps L W hs g → Base m ps L (withLow W (W .low)) hs g
-      alike x =
-          let y = x .mem in
-          let rd = y .reads in
-          let fc = x .facts in
-          record {
-            mem = record { size = y .size; holds = y .holds; reads = record { words = rd .words; fixed = rd .fixed; sems = rd .sems } };
-            facts = facts-low (W .low) (fc .runs) (fc .clock) fc;
-            all = x .all;
-          }
-
       go : (x : Bool) → eqb r t ≡ x → Turned (switch m r t)
-      go true e = rw e (record { low = W .low; base = alike b; best = same (best-stays t (sym (eqb-true r t e)) f) })
+      go true e = rw e (record { low = W .low; base = b; best = best-stays t (sym (eqb-true r t e)) f })
       go false e =
           let m2 = load (save m r) t in
           let k : Kept m m2 = load-kept (save m r) t (save-kept m r (λ n. proc-page s r (running-in n)) (kept-refl m)) in
