@@ -27,7 +27,7 @@ use Rattle.laws.specs.Grants.{give-back, some-is}
 use Rattle.laws.specs.Mails.{mail-queue}
 use Rattle.laws.specs.Leave.{Bag}
 use Rattle.laws.specs.Simple.{named-in}
-use Rattle.laws.specs.Who.{label-at, listed}
+use Rattle.laws.specs.Who.{label-at, listed, Busy, busy}
 use Rattle.laws.specs.Delete.{Queue, Drained, drain, tot-short, facts-whole}
 use Rattle.history.specs.Letter.{waitingFor, Same, posts, waits-same, procs-same}
 use Rattle.history.specs.Put.{Log, of, putting, notices, depMail}
@@ -167,11 +167,7 @@ delete-after xs p ys {m} {L} {W} b hp d =
 
 -- ---- the instruction
 module _ {m : List ℕ} (w : WellFormed m) (d : getD m 248 0 ≢ 0) where
-  iv : Inv m (lists m 247) (lists m) (view m)
-  iv = invariant w
-
-  b : Base m (lists m 247) (lists m) (view m) [] 32
-  b = iv .base
+  open Busy (busy w d) using (base as b, ready)
 
   module _ (p : ℕ) (h : 1 ≤ count p (lists m 247)) (n : getD m 248 0 ≢ p) where
     abbrev letters : Log
@@ -231,7 +227,7 @@ module _ {m : List ℕ} (w : WellFormed m) (d : getD m 248 0 ≢ 0) where
   others p e q =
       let l = leb-true 128 (getD m (p * 32 + 12) 0) e in
       let c = ap (λ (y : ℕ). getD m (y * 32 + 12) 0) q in
-      omega (arith, iv .best .ready d)
+      omega (arith, ready)
 
   pub dep-told : (n len : ℕ) → n < 16 → Told m (memoryOf (Model.named m 12 n len)) (depMail m n)
   unfolding Operate.named Operate.onPage Operate.dep depMail

@@ -32,7 +32,7 @@ use Rattle.laws.specs.Hands.{in-hand, hand-base}
 use Rattle.laws.specs.Grants.{Gave, Takes, take-page}
 use Rattle.laws.specs.Grants.Takes.{gets, lacks}
 use Rattle.laws.specs.Still.{Aside, aside-hand}
-use Rattle.laws.specs.Who.{running-at, running-in, listed}
+use Rattle.laws.specs.Who.{running-at, running-in, listed, Busy, busy}
 use Rattle.laws.specs.Create.{made, z12, z11, z, headed-is, only, below, created-base, nobody}
 use Rattle.history.specs.Letter.{Mine, Same, Posts, Agree, same-then, same-on, posts, posts-on, posts-then, agrees, waitingFor, waits-same}
 use Rattle.history.specs.Letter.{procs-same}
@@ -162,17 +162,13 @@ module _ {m : List ℕ} {ps : List ℕ} {L : Lists} {W : View} {hs : List ℕ} {
   created-empty = rw (empty-queue 5 (omega arith) (omega arith), empty-queue 6 (omega arith) (omega arith))
 
 module _ {m : List ℕ} (w : WellFormed m) (d : getD m 248 0 ≢ 0) where
-  iv : Inv m (lists m 247) (lists m) (view m)
-  iv = invariant w
-
-  b : Base m (lists m 247) (lists m) (view m) [] 32
-  b = iv .base
+  open Busy (busy w d) using (base as b, runs as hr, ready)
 
   -- "with none, they wait in the page queue, LR staying"
   pub page-waits : lists m 244 ≡ [] → length (lists m (320 + getD m (getD m 248 0 * 32 + 7) 0 % 16)) ≡ 0
       → Same (lists m 247) (lists m) m (memoryOf (waitsForPage m))
   unfolding Operate.waitsForPage
-  page-waits f g = calm-waits b 245 0 d (page-sem (lists m 247)) (omega (arith, iv .best .ready d)) (record {
+  page-waits f g = calm-waits b 245 0 d (page-sem (lists m 247)) (omega (arith, ready)) (record {
     line = λ k h e. absurd (omega arith);
     page = λ e. (refl, ap length f, g);
     own = λ y h e. let t = proc-page (b .facts .sep) y h in absurd (omega arith);
@@ -183,13 +179,13 @@ module _ {m : List ℕ} (w : WellFormed m) (d : getD m 248 0 ≢ 0) where
 
   crp-page : (n r v a len : ℕ) → 1 ≤ n → n ≤ 15 → 1 ≤ r → r ≤ 15 → pageOf m n ≡ 0 → Told m (memoryOf (Model.crpPage m n r v a len)) nothing
   unfolding Operate.crpPage
-  crp-page n r v a len n1 n2 r1 r2 free = go (take-page (getD m 248 0) (running-in b d) b)
+  crp-page n r v a len n1 n2 r1 r2 free = go (take-page (getD m 248 0) hr b)
     where
       go : Takes m (getD m 248 0) (lists m 247) (lists m) (view m) [] 32 → Told m (memoryOf (Model.crpPage m n r v a len)) nothing
       go (lacks e f2 g2) = rw e (told-same b (memoryOf (waitsForPage m)) (page-waits f2 g2))
       go (gets q m1 e z t k) =
           let c = created-base (t .base) n r v a n1 n2 r1 r2 (rw k (nobody b n free)) in
-          let s1 = calm-takes b (getD m 248 0) (running-in b d) q m1 e in
+          let s1 = calm-takes b (getD m 248 0) hr q m1 e in
           let ag = agrees b (posts s1) (t .base) in
           let m2 = created m1 q n r v a in
           let m3 = memoryOf (Model.done m2 len) in

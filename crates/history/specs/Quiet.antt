@@ -33,7 +33,7 @@ use Rattle.laws.specs.Cells.{chain0}
 use Rattle.laws.specs.Changes.{int-sem}
 use Rattle.laws.specs.Wake.{seat-head, not-procs}
 use Rattle.laws.specs.Grants.{Gave}
-use Rattle.laws.specs.Who.{running-at, running-in}
+use Rattle.laws.specs.Who.{running-at, running-in, Busy, busy}
 use Rattle.laws.specs.Ends.{advance-base}
 use Rattle.laws.specs.Words.{either}
 use Rattle.laws.specs.Simple.{pick, named-in}
@@ -84,11 +84,7 @@ clear-open a h = go (ltb a 16) (ltb a 128) (ltb a 352) (leb 7552 a) refl refl re
         record { above = omega arith; below = omega arith; between = λ b c d. omega arith }
 
 module _ {m : List ℕ} (w : WellFormed m) (d : getD m 248 0 ≢ 0) where
-  iv : Inv m (lists m 247) (lists m) (view m)
-  iv = invariant w
-
-  b : Base m (lists m 247) (lists m) (view m) [] 32
-  b = iv .base
+  open Busy (busy w d) using (base as b, runs as hr, ready)
 
   abbrev Calm : List ℕ → Type 0
   Calm x = Same (lists m 247) (lists m) m x
@@ -137,7 +133,7 @@ module _ {m : List ℕ} (w : WellFormed m) (d : getD m 248 0 ≢ 0) where
   pub gin-calm : (len : ℕ) → Calm (memoryOf (Model.gin m len))
   unfolding Operate.gin
   gin-calm len =
-      let n = b .facts .names .range r (running-in b d) in
+      let n = b .facts .names .range r hr in
       let k = getD m (r * 32 + 7) 0 % 16 in
       let t = serve-base k 0 (n .name) (omega arith) b in
       then-done (serve m k 0) len (calm-serve k 0 (n .name) (omega arith) b) (running-at (t .base) ∙ ap (λ (z : ℕ → ℕ). z 248) (t .low))
@@ -157,7 +153,7 @@ module _ {m : List ℕ} (w : WellFormed m) (d : getD m 248 0 ≢ 0) where
           let at1 : 131 + 2 * (k - 1) ≡ 129 + 2 * k = omega arith in
           rw (e, f, g) (same-on (calm-lr s m r ((Model.lr m + len) % 8192) (runs-in b))
           (calm-waits (advance-base b len) (129 + 2 * k) c d (rw at1 at (int-sem (lists m 247) (k - 1) (omega arith)))
-          (omega (arith, iv .best .ready d)) (record {
+          (omega (arith, ready)) (record {
             line = λ j h q. (omega arith, omega arith);
             page = λ q. absurd (omega arith);
             own = λ y h q. let t = proc-page (b .facts .sep) y h in absurd (omega arith);

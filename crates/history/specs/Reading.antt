@@ -28,7 +28,7 @@ use Rattle.laws.specs.Frames.{other, base-kept}
 use Rattle.laws.specs.Cells.{leave-frame}
 use Rattle.laws.specs.Hands.{take-mail}
 use Rattle.laws.specs.Grants.{give-back}
-use Rattle.laws.specs.Who.{running-in, listed}
+use Rattle.laws.specs.Who.{running-in, listed, Busy, busy}
 use Rattle.laws.specs.Mails.{mail-queue, out-kept, clear-at}
 use Rattle.history.specs.Order.{only, only-append, Fails, overtakes-none}
 use Rattle.history.specs.Letter.{Letter, mailOf, key, asked, one-key, map-append, waitingFor, waits-by, Ours, Same, same-then, same-on, posts}
@@ -126,17 +126,10 @@ module _ {m : List ℕ} {ps : List ℕ} {L : Lists} {W : View} (b : Base m ps L 
 
 -- ---- the instruction
 module _ {m : List ℕ} (w : WellFormed m) (d : getD m 248 0 ≢ 0) where
-  iv : Inv m (lists m 247) (lists m) (view m)
-  iv = invariant w
-
-  b : Base m (lists m 247) (lists m) (view m) [] 32
-  b = iv .base
+  open Busy (busy w d) using (base as b, runs as hr)
 
   abbrev r : ℕ
   r = getD m 248 0
-
-  hr : 1 ≤ count r (lists m 247)
-  hr = running-in b d
 
   received-told : (n f q a len : ℕ) → Found m n f q (lists m (r * 32 + 6)) → clear (3 + getD m (q * 32 + 2) 0 % 128) a ≡ true
       → Told m (memoryOf (Model.done (Model.received m q a) len)) (reading r (mailOf m q) a)

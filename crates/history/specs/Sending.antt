@@ -32,7 +32,7 @@ use Rattle.laws.specs.Grants.{Gave, Takes, take-page}
 use Rattle.laws.specs.Grants.Takes.{gets, lacks}
 use Rattle.laws.specs.Still.{aside-hand}
 use Rattle.laws.specs.Post.{deliver-all, two, word1, word2, copy-below}
-use Rattle.laws.specs.Who.{running-at, running-in, listed, label-at}
+use Rattle.laws.specs.Who.{running-at, running-in, listed, label-at, Busy, busy}
 use Rattle.laws.specs.Mails.{clear-at}
 use Rattle.laws.specs.Simple.{named-in}
 use Rattle.history.specs.Order.{only}
@@ -190,17 +190,10 @@ first-same f g (z ∷ zs) h = go (g z) refl (h z (omega (arith, hit-self z))) (f
     go false e k ih = let e2 = k ∙ e in rw (e, e2, Queue.first) ih
 
 module _ {m : List ℕ} (w : WellFormed m) (d : getD m 248 0 ≢ 0) where
-  iv : Inv m (lists m 247) (lists m) (view m)
-  iv = invariant w
-
-  b : Base m (lists m 247) (lists m) (view m) [] 32
-  b = iv .base
+  open Busy (busy w d) using (base as b, runs as hr)
 
   abbrev r : ℕ
   r = getD m 248 0
-
-  hr : 1 ≤ count r (lists m 247)
-  hr = running-in b d
 
   quiet-sent : (m′ : List ℕ) → Same (lists m 247) (lists m) m m′ → Sent m m′ nothing
   quiet-sent m′ s = record { told = told-same b m′ s; stands = stands-none m′ }

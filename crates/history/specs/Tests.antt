@@ -23,7 +23,7 @@ use Rattle.laws.specs.Uses.{Sep, proc-page}
 use Rattle.laws.specs.Inv.{View, view, Waits, Base, Inv}
 use Rattle.laws.specs.Judged.{WellFormed, invariant}
 use Rattle.laws.specs.Changes.{own-sem}
-use Rattle.laws.specs.Who.{running-in, listed}
+use Rattle.laws.specs.Who.{running-in, listed, Busy, busy}
 use Rattle.laws.specs.Chain.{Chain}
 use Rattle.laws.specs.Mails.{first-none, mail-chain, mail-queue, mail-some, test-end, test-hit, test-miss, test-nought}
 use Rattle.history.specs.Order.{only, Fails}
@@ -122,17 +122,10 @@ test-keeps {ps} {W} (suc k) m L p n f h b =
         })
 
 module _ {m : List ℕ} (w : WellFormed m) (d : getD m 248 0 ≢ 0) where
-  iv : Inv m (lists m 247) (lists m) (view m)
-  iv = invariant w
-
-  b : Base m (lists m 247) (lists m) (view m) [] 32
-  b = iv .base
+  open Busy (busy w d) using (base as b, runs as hr, ready)
 
   abbrev r : ℕ
   r = getD m 248 0
-
-  hr : 1 ≤ count r (lists m 247)
-  hr = running-in b d
 
   pub wnm-told : (n f len : ℕ) → f < 8 → Told m (memoryOf (Model.wnm m n f len)) nothing
   unfolding Operate.wnm Mail.matches
@@ -157,7 +150,7 @@ module _ {m : List ℕ} (w : WellFormed m) (d : getD m 248 0 ≢ 0) where
           let z = eqb-true (Model.inQ1 m n f) 0 e in
           let pg = proc-page (b .facts .sep) r hr in
           rw e (told-same b (memoryOf (Model.waits m (r * 32 + 3) (n * 16 + f))) (calm-waits b (r * 32 + 3) (n * 16 + f) d (own-sem (b .facts .sep) r hr)
-          (omega (arith, iv .best .ready d)) (record {
+          (omega (arith, ready)) (record {
             line = λ k h c. absurd (omega arith);
             page = λ c. absurd (omega arith);
             own = λ y h c. own z y c;

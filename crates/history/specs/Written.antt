@@ -36,7 +36,7 @@ use Rattle.laws.specs.Cells.{chain0, join-frame, leave-frame, grant-mem}
 use Rattle.laws.specs.Changes.{hand-page, page-sem}
 use Rattle.laws.specs.Hands.{in-hand, hand-new, take-mail}
 use Rattle.laws.specs.Grants.{give-back, waiter-proc, sep-G}
-use Rattle.laws.specs.Who.{running-at, running-in}
+use Rattle.laws.specs.Who.{running-at, running-in, Busy, busy}
 use Rattle.laws.specs.Mails.{mail-queue, out-kept, clear-at}
 use Rattle.history.specs.Letter.{Letter, mailOf, words, letter-sized}
 use Rattle.history.specs.Put.{Log, Mailed, nothing, reading, rmeMail}
@@ -228,17 +228,10 @@ size-is m q = refl
 
 -- ---- the instruction
 module _ {m : List ℕ} (w : WellFormed m) (d : getD m 248 0 ≢ 0) where
-  iv : Inv m (lists m 247) (lists m) (view m)
-  iv = invariant w
-
-  b : Base m (lists m 247) (lists m) (view m) [] 32
-  b = iv .base
+  open Busy (busy w d) using (base as b, runs as hr)
 
   abbrev r : ℕ
   r = getD m 248 0
-
-  hr : 1 ≤ count r (lists m 247)
-  hr = running-in b d
 
   pr : Page r
   pr = proc-page (b .facts .sep) r hr

@@ -26,6 +26,7 @@ use Rattle.laws.specs.Frames.{other, only-refl, only-set}
 use Rattle.laws.specs.Views.{put1-same, retold}
 use Rattle.laws.specs.Changes.{hand-page}
 use Rattle.laws.specs.Hands.{hand-base, in-hand, take-grant}
+use Rattle.laws.specs.Who.{Busy, busy}
 use Rattle.laws.specs.Grants.{Any, any-of, give-back, some-is}
 use Rattle.laws.specs.Post.{notice-base, two, word1, word2}
 use Rattle.laws.specs.Still.{give-still, deliver-still}
@@ -296,8 +297,7 @@ delete-base {m} {W = W} p hp d b =
 
 -- ---- the instructions
 module _ {m : List ℕ} (w : WellFormed m) (d : getD m 248 0 ≢ 0) where
-  i : Inv m (lists m 247) (lists m) (view m)
-  i = invariant w
+  open Busy (busy w d) using (base as b, ready)
 
   dep-fine : (p len : ℕ) → 1 ≤ count p (lists m 247) → Fine (Model.dep m p len)
   unfolding Operate.dep
@@ -307,8 +307,8 @@ module _ {m : List ℕ} (w : WellFormed m) (d : getD m 248 0 ≢ 0) where
       go false e = rw e (fails w d 10 (omega arith) (omega arith))
       go true e =
           let l = leb-true 128 (getD m (p * 32 + 12) 0) e in
-          let n : getD m 248 0 ≢ p = λ q. (let c = ap (λ (y : ℕ). getD m (y * 32 + 12) 0) q in omega (arith, i .best .ready d)) in
-          rw e (done-fine (delete-base p h n (i .base) .base) len)
+          let n : getD m 248 0 ≢ p = λ q. (let c = ap (λ (y : ℕ). getD m (y * 32 + 12) 0) q in omega (arith, ready)) in
+          rw e (done-fine (delete-base p h n b .base) len)
 
   pub named-fine : (c n len : ℕ) → Fine (Model.named m c n len)
   unfolding Operate.named Operate.onPage
@@ -317,6 +317,6 @@ module _ {m : List ℕ} (w : WellFormed m) (d : getD m 248 0 ≢ 0) where
       go : (x y z t : Bool) → eqb n 0 ≡ x → eqb (pageOf m n) 0 ≡ y → eqb c 8 ≡ z → eqb c 9 ≡ t → Fine (Model.named m c n len)
       go true y z t e f j k = rw e (fails w d 12 (omega arith) (omega arith))
       go false true z t e f j k = rw (e, f) (fails w d 7 (omega arith) (omega arith))
-      go false false true t e f j k = rw (e, f, j) (st1-fine w d (pageOf m n) len (named-in (i .base) n (eqb-false (pageOf m n) 0 f)))
-      go false false false true e f j k = rw (e, f, j, k) (stp-fine w d (pageOf m n) len (named-in (i .base) n (eqb-false (pageOf m n) 0 f)))
-      go false false false false e f j k = rw (e, f, j, k) (dep-fine (pageOf m n) len (named-in (i .base) n (eqb-false (pageOf m n) 0 f)))
+      go false false true t e f j k = rw (e, f, j) (st1-fine w d (pageOf m n) len (named-in b n (eqb-false (pageOf m n) 0 f)))
+      go false false false true e f j k = rw (e, f, j, k) (stp-fine w d (pageOf m n) len (named-in b n (eqb-false (pageOf m n) 0 f)))
+      go false false false false e f j k = rw (e, f, j, k) (dep-fine (pageOf m n) len (named-in b n (eqb-false (pageOf m n) 0 f)))

@@ -29,7 +29,7 @@ use Rattle.laws.specs.Cells.{chain0}
 use Rattle.laws.specs.Changes.{int-sem, facts-low}
 use Rattle.laws.specs.Wake.{wake-base, woken, woken-proc, seat-head, not-procs}
 use Rattle.laws.specs.Grants.{Gave}
-use Rattle.laws.specs.Who.{who-inv, running-in}
+use Rattle.laws.specs.Who.{who-inv, running-in, Busy, busy}
 use Rattle.laws.specs.Ends.{Fine, done-fine, waits-fine, advance-base}
 use Rattle.laws.specs.Simple.{fails}
 
@@ -347,14 +347,12 @@ delivered-well k c i j w = well-formed (who-inv (delivered-base k c i j (invaria
 
 -- ---- the instructions
 module _ {m : List ℕ} (w : WellFormed m) (d : getD m 248 0 ≢ 0) where
-  iv : Inv m (lists m 247) (lists m) (view m)
-  iv = invariant w
+  open Busy (busy w d) using (base as b, runs as hr, ready)
 
   pub gin-fine : (len : ℕ) → Fine (Model.gin m len)
   unfolding Operate.gin
   gin-fine len =
-      let b = iv .base in
-      let n = b .facts .names .range (getD m 248 0) (running-in b d) in
+      let n = b .facts .names .range (getD m 248 0) hr in
       done-fine (serve-base (getD m (getD m 248 0 * 32 + 7) 0 % 16) 0 (n .name) (omega arith) b .base) len
 
   pub win-fine : (k c len : ℕ) → c ≤ 255 → Fine (Model.win m k c len)
@@ -366,13 +364,12 @@ module _ {m : List ℕ} (w : WellFormed m) (d : getD m 248 0 ≢ 0) where
       go false true z e f g = rw (e, f) (fails w d 5 (omega arith) (omega arith))
       go false false true e f g = rw (e, f, g) (fails w d 5 (omega arith) (omega arith))
       go false false false e f g =
-          let b = iv .base in
-          let k1 = eqb-false k 0 e in
+              let k1 = eqb-false k 0 e in
           let k2 = ltb-false 54 k f in
           let c1 = eqb-false c 0 g in
           let at1 : 131 + 2 * (k - 1) ≡ 129 + 2 * k = omega arith in
           rw (e, f, g) (waits-fine (advance-base b len) (129 + 2 * k) c d (rw at1 at (int-sem (lists m 247) (k - 1) (omega arith)))
-          (omega (arith, iv .best .ready d)) (record {
+          (omega (arith, ready)) (record {
             line = λ j h q. (omega arith, omega arith);
             page = λ q. absurd (omega arith);
             own = λ y h q. let t = proc-page (b .facts .sep) y h in absurd (omega arith);

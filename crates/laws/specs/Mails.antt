@@ -33,7 +33,7 @@ use Rattle.laws.specs.Hands.{take-mail, give-mail}
 use Rattle.laws.specs.Grants.{Gave, give-back, Takes, take-page}
 use Rattle.laws.specs.Grants.Takes.{gets, lacks}
 use Rattle.laws.specs.Post.{notice-base, message-base}
-use Rattle.laws.specs.Who.{running-at, running-in, label-at}
+use Rattle.laws.specs.Who.{running-at, running-in, label-at, Busy, busy}
 use Rattle.laws.specs.Ends.{Fine, done-fine, jumps-fine, waits-fine}
 use Rattle.laws.specs.Simple.{first-in, named-in, quiet-clear, fails}
 
@@ -165,25 +165,18 @@ out-kept m q a h =
 
 -- ---- the instructions, of a well-formed memory where someone runs
 module _ {m : List ℕ} (w : WellFormed m) (d : getD m 248 0 ≢ 0) where
-  i : Inv m (lists m 247) (lists m) (view m)
-  i = invariant w
-
-  b : Base m (lists m 247) (lists m) (view m) [] 32
-  b = i .base
+  open Busy (busy w d) using (base as b, runs as hr, ready)
 
   abbrev r : ℕ
   r = getD m 248 0
 
-  hr : 1 ≤ count r (lists m 247)
-  hr = running-in b d
-
-  ready : getD m (r * 32 + 12) 0 % 128 / 64 ≡ 0
-  ready = omega (arith, i .best .ready d)
+  idle : getD m (r * 32 + 12) 0 % 128 / 64 ≡ 0
+  idle = omega (arith, ready)
 
   -- "with none, they wait in the page queue, LR staying"
   pub waits-for-page : lists m 244 ≡ [] → length (lists m (320 + getD m (r * 32 + 7) 0 % 16)) ≡ 0 → Fine (Model.waitsForPage m)
   unfolding Operate.waitsForPage
-  waits-for-page f g = waits-fine b 245 0 d (page-sem (lists m 247)) ready (record {
+  waits-for-page f g = waits-fine b 245 0 d (page-sem (lists m 247)) idle (record {
     line = λ k h e. absurd (omega arith);
     page = λ e. (refl, ap length f, g);
     own = λ y h e. let t = proc-page (b .facts .sep) y h in absurd (omega arith);
@@ -263,7 +256,7 @@ module _ {m : List ℕ} (w : WellFormed m) (d : getD m 248 0 ≢ 0) where
       go true e =
           let z = eqb-true (Model.inQ1 m n f) 0 e in
           let pg = proc-page (b .facts .sep) r hr in
-          rw e (waits-fine b (r * 32 + 3) (n * 16 + f) d (own-sem (b .facts .sep) r hr) ready (record {
+          rw e (waits-fine b (r * 32 + 3) (n * 16 + f) d (own-sem (b .facts .sep) r hr) idle (record {
             line = λ k h c. absurd (omega arith);
             page = λ c. absurd (omega arith);
             own = λ y h c. own z y c;

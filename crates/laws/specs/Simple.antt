@@ -28,7 +28,7 @@ use Rattle.laws.specs.Frames.{Kept, kept-refl, kept-set, base-kept, Quie
 use Rattle.laws.specs.Views.{put1, put1-same, put1-other, withCode}
 use Rattle.laws.specs.Stores.{code-mem}
 use Rattle.laws.specs.Changes.{facts-code}
-use Rattle.laws.specs.Who.{listed}
+use Rattle.laws.specs.Who.{listed, Busy, busy}
 use Rattle.laws.specs.Ends.{Fine, stop-base, start-base, state-base, lr-kept, quiet-run, run-page, done-fine, jumps-fine, fault-fine}
 
 -- ---- one of a list of things, by its number
@@ -114,11 +114,7 @@ code-base {W = W} c k a l u o b = record {
 
 -- ---- the instructions, of a well-formed memory where someone runs
 module _ {m : List ℕ} (w : WellFormed m) (d : getD m 248 0 ≢ 0) where
-  i : Inv m (lists m 247) (lists m) (view m)
-  i = invariant w
-
-  b : Base m (lists m 247) (lists m) (view m) [] 32
-  b = i .base
+  open Busy (busy w d) using (base as b, runs as hr, ready)
 
   pub fails : (f : ℕ) → 1 ≤ f → f ≤ 12 → Fine (Model.fault m f)
   fails f h j = fault-fine b f d h j
@@ -228,7 +224,6 @@ module _ {m : List ℕ} (w : WellFormed m) (d : getD m 248 0 ≢ 0) where
   unfolding Processor.setRegistersOf Processor.setFlagsLr
   registers-well r =
       let p = getD m 248 0 in
-      let hp : 1 ≤ count p (lists m 247) = omega (arith, b .facts .runs .listed d) in
       let m2 = set (set m (p * 32 + 8) (r .a % 256)) (p * 32 + 9) (r .s % 256) in
       let m3 = set m2 (p * 32 + 10) (threeFlags (r .p) (r .z) (r .ci) + r .lr / 256 % 32) in
       let k : Kept m (set m3 (p * 32 + 11) (r .lr % 256)) =
@@ -236,15 +231,15 @@ module _ {m : List ℕ} (w : WellFormed m) (d : getD m 248 0 ≢ 0) where
       (reg 9 (r .s % 256) (set m (p * 32 + 8) (r .a % 256)) (omega arith) (omega arith) (reg 8 (r .a % 256) m (omega arith) (omega arith) (kept-refl m)))) in
       let v = getD m (p * 32 + 12) 0 / 16 * 16 + r .w % 16 in
       rw (k .state p (run-page b d)) (well-formed (record {
-        base = state-base p v hp (low-bits (getD m (p * 32 + 12) 0) (r .w) (b .facts .seats .zeros p hp)) (base-kept k b);
+        base = state-base p v hr (low-bits (getD m (p * 32 + 12) 0) (r .w) (b .facts .seats .zeros p hr)) (base-kept k b);
         best = record {
-          ready = λ n. rw (put1-same (λ y. getD m (y * 32 + 12) 0) p v p refl) (omega (arith, i .best .ready d));
-          top = λ y j c. i .best .top y j (still y c (hit-or y p));
+          ready = λ n. rw (put1-same (λ y. getD m (y * 32 + 12) 0) p v p refl) (omega (arith, ready));
+          top = λ y j c. invariant w .best .top y j (still y c (hit-or y p));
         };
       }))
     where
       still : (y : ℕ) → suc (put1 (λ z. getD m (z * 32 + 12) 0) (getD m 248 0) (getD m (getD m 248 0 * 32 + 12) 0 / 16 * 16 + r .w % 16) y) ≤ 64
           → (y ≡ getD m 248 0) ⊎ (y ≢ getD m 248 0) → suc (getD m (y * 32 + 12) 0) ≤ 64
-      still y c (inl e) = rw e (omega (arith, i .best .ready d))
+      still y c (inl e) = rw e (omega (arith, ready))
       still y c (inr n) =
           rw (put1-other (λ z. getD m (z * 32 + 12) 0) (getD m 248 0) (getD m (getD m 248 0 * 32 + 12) 0 / 16 * 16 + r .w % 16) y n) at c

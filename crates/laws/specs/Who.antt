@@ -11,7 +11,7 @@ use lib.Dec.{eqb, ltb}
 use borrow.Author.Tests.{eqb-true, eqb-false, eq-eqb, ne-eqb, ltb-true, ltb-false}
 use Rattle.model.specs.Turn as Turn
 use Rattle.model.specs.Turn.{fold}
-use Rattle.model.specs.Bytes.{better, stays, processors, save, load, switch, whoRuns}
+use Rattle.model.specs.Bytes.{lists, better, stays, processors, save, load, switch, whoRuns}
 use Rattle.model.specs.Bytes as Model
 use Rattle.model.specs.Lists.{count, Lists}
 use Rattle.laws.specs.Count.{hit-self, hit-other, hit-or}
@@ -19,7 +19,8 @@ use Rattle.laws.specs.Chain.{Page, walk-chain}
 use Rattle.laws.specs.Queues.{link-procs}
 use Rattle.laws.specs.Uses.{Sep, proc-page, proc-once, list-short}
 use Rattle.laws.specs.Places.{in-procs, grant-low}
-use Rattle.laws.specs.Inv.{View, Runs, Clock, Best, Base, Inv}
+use Rattle.laws.specs.Inv.{View, view, Runs, Clock, Best, Base, Inv}
+use Rattle.laws.specs.Judged.{WellFormed, invariant}
 use Rattle.laws.specs.Frames.{Kept, kept-refl, kept-set, quiet-low, quiet-word, base-kept}
 use Rattle.laws.specs.Views.{put1, withLow}
 use Rattle.laws.specs.Stores.{turn-mem}
@@ -311,3 +312,12 @@ module _ {m : List ℕ} {ps : List ℕ} {L : Lists} {W : View} {hs : List ℕ} {
 -- "Who runs, after each call": the invariant then holds whole
 pub who-inv : {m : List ℕ} {ps : List ℕ} {L : Lists} {W : View} (b : Base m ps L W [] 32) → (X : View) × Inv (whoRuns m) ps L X
 who-inv {W = W} b = let t = who-runs b in (withLow W (t .low), record { base = t .base; best = t .best })
+
+-- ---- a well-formed memory where someone runs, who is ready
+pub record Busy (m : List ℕ) : Type 0 where
+  pub base : Base m (lists m 247) (lists m) (view m) [] 32
+  pub runs : 1 ≤ count (getD m 248 0) (lists m 247)
+  pub ready : getD m (getD m 248 0 * 32 + 12) 0 < 64
+
+pub busy : {m : List ℕ} → WellFormed m → getD m 248 0 ≢ 0 → Busy m
+busy w d = let i = invariant w in record { base = i .base; runs = running-in (i .base) d; ready = omega (arith, i .best .ready d) }
