@@ -34,8 +34,8 @@ use Rattle.history.specs.Put.{Log, of, putting, notices, depMail}
 use Rattle.history.specs.Calm.{calm-low}
 use Rattle.history.specs.Told.{Told, Stands, stands-none, of-none, told-same, calm-done, runs-in}
 use Rattle.history.specs.Quiet.{fails}
-use Rattle.history.specs.Delivering.{held}
-use Rattle.history.specs.Returning.{notices-append, Grown, grown-then, grown-same, last-same, give-grows}
+use Rattle.history.specs.Delivering.{held, held-same}
+use Rattle.history.specs.Returning.{notices-append, Grown, grown-then, grown-same, give-grows}
 use Rattle.history.specs.Emptying.{Aims, aims-on, emptied-grows}
 use Rattle.history.specs.Leaving.{stayed, left-grown, left-aims, bag, bag-procs, bag-q1, bag-q2}
 
@@ -211,7 +211,7 @@ module _ {m : List ℕ} (w : WellFormed m) (d : getD m 248 0 ≢ 0) where
       waits-are y i = let j = rw procs-are at i in waits-same (t .base) (posts ended) y j ∙ t .grown .waits y j
 
       last-is : (y : ℕ) → 1 ≤ count y (processors m3) → held m3 y 5 ≡ held m y 5 ++ of y letters
-      last-is y i = let j = rw procs-are at i in last-same (t .base) (posts ended) y j ∙ t .grown .last y j
+      last-is y i = let j = rw procs-are at i in held-same (t .base) (posts ended) y 5 j (omega arith) (omega arith) ∙ t .grown .last y j
 
       deleted-told : Told m m3 (putting letters)
       deleted-told = record {

@@ -29,7 +29,7 @@ use Rattle.laws.specs.Cells.{chain0, join-frame, leave-frame}
 use Rattle.laws.specs.Changes.{own-sem, hand-page}
 use Rattle.laws.specs.Wake.{seat-head, not-procs}
 use Rattle.laws.specs.Hands.{in-hand, hand-new, mail-sep}
-use Rattle.laws.specs.Post.{x1, reason-at, note-at, Delivered, deliver-all}
+use Rattle.laws.specs.Post.{x1, reason-at, note-at, Delivered, deliver-all, deliver-frame}
 use Rattle.laws.specs.Mails.{mail-queue}
 use Rattle.laws.specs.Who.{listed}
 use Rattle.history.specs.Letter.{Letter, mailOf, mails-same, letter-sized, map-append, waitingFor, Posts, queue-same, texts-same}
@@ -57,81 +57,16 @@ pub held-same : {m m′ : List ℕ} {ps : List ℕ} {L : Lists} {W : View} {hs :
 held-same {m} {m′} {ps} {L} b s p w h u v =
     rw (queue-same b s p w h u v, mail-queue b p w h u v) (mails-same m m′ (L (p * 32 + w)) (λ x i. texts-same b s p w x h u v i))
 
--- ---- who wakes leaves the text of every page that is no processor's
-wake-texts : {m : List ℕ} {ps : List ℕ} {L : Lists} {W : View} (s : Sep ps L) → Mem m ps L W → (a p : ℕ) (xs ys : List ℕ) → 1 ≤ count (a + 1) (queues ps)
-    → 1 ≤ count p ps → L (a + 1) ≡ xs ++ p ∷ ys → Texted ps m (wake m a p)
-unfolding Wait.wake Wait.unqueue
-wake-texts {m} {ps} {L} {W} s x a p xs ys h hp e = record { at = λ y py o j k l. one y py o j k l }
-  where
-    seat : (y j : ℕ) → Page y → count y ps ≡ 0 → j < 32 → Seat ps a → y * 32 + j ≢ a
-    seat y j py o l (line k u z) = omega arith
-    seat y j py o l (page z) = omega arith
-    seat y j py o l (own t u z) =
-        let d : t ≢ y = λ c. omega (arith, ap (λ (k : ℕ). count k ps) c) in
-        omega arith
-
-    one : (y : ℕ) → Page y → count y ps ≡ 0 → (j : ℕ) → 1 ≤ j → j < 32 → getD (wake m a p) (y * 32 + j) 0 ≡ getD m (y * 32 + j) 0
-    one y py o j k l =
-        let v = (getD m a 0 + 1) % 256 in
-        let d : p ≢ y = λ c. omega (arith, ap (λ (k : ℕ). count k ps) c) in
-        let x0 = sem-mem s x a v h in
-        let m1 = set m a v in
-        let m2 = leave m1 (a + 1) 0 p in
-        let t = getD m2 (p * 32 + 12) 0 / 128 * 128 + getD m2 (p * 32 + 12) 0 % 64 in
-        let m3 = set m2 (p * 32 + 12) t in
-        other m3 (p * 32 + 2) 0 (y * 32 + j) (omega arith) ∙ other m2 (p * 32 + 12) t (y * 32 + j) (omega arith)
-        ∙ leave-frame s x0 (a + 1) (seat-head s a h) (λ c. not-procs s a h (sym c)) p xs ys e (y * 32 + j)
-        (λ z. head-off s y j (a + 1) py l o (in-queues ps (a + 1) h) (sym z)) (λ z i. omega arith)
-        ∙ other m a v (y * 32 + j) (seat y j py o l (seat-of ps a h))
-
 -- ---- the delivery
 module _ {m : List ℕ} {ps : List ℕ} {L : Lists} {W : View} {hs : List ℕ} {g q : ℕ} (b : Base m ps L W (q ∷ hs) g) (p : ℕ) (hp : 1 ≤ count p ps)
     (t : Message (W .note q) (W .reason q)) where
-  s : Sep ps L
-  s = b .facts .sep
-
-  pg : Page p
-  pg = proc-page s p hp
-
-  abbrev K : Lists
-  K = upd L (p * 32 + 5) (L (p * 32 + 5) ++ q ∷ [])
-
-  abbrev m1 : List ℕ
-  m1 = join m (p * 32 + 5) 0 q
-
-  joined : Texted ps m m1
-  joined = record {
-    at = λ x px o j k l.
-        let i5 = in-q ps p 5 (omega arith) (omega arith) hp in
-        join-frame s (b .mem) (p * 32 + 5) (i5, grant-high (p * 32 + 5) (omega (arith, pg))) (omega (arith, pg)) q (hand-page b q (in-hand b)) (hand-new b)
-        (x * 32 + j) (λ z. head-off s x j (p * 32 + 5) px l o i5 (sym z)) (λ z i. omega arith) (omega arith);
-  }
-
-  sep-K : Sep ps K
-  sep-K = mail-sep b p 5 hp (omega arith) (omega arith)
-
+  -- the text of every page that is no processor's stays
   pub delivered-texts : Texted ps m (deliver m p q)
-  unfolding Mail.deliver Mail.heard Mail.awaits Mail.matches
-  delivered-texts =
-      go (L (p * 32 + 4)) refl (chain0 sep-K (x1 b p hp t) (p * 32 + 4) (in-own ps p hp, grant-high (p * 32 + 4) (omega (arith, pg))) (omega (arith, pg)))
-      (fits (W .reason p / 16) (W .reason p % 16) (W .note q)) refl
-    where
-      same : K (p * 32 + 4) ≡ L (p * 32 + 4)
-      same = upd-other L (p * 32 + 5) (p * 32 + 4) (L (p * 32 + 5) ++ q ∷ []) (omega arith)
-
-      go : (ys : List ℕ) → L (p * 32 + 4) ≡ ys → Chain m1 0 (p * 32 + 4) (K (p * 32 + 4)) → (c : Bool)
-          → fits (W .reason p / 16) (W .reason p % 16) (W .note q) ≡ c → Texted ps m (deliver m p q)
-      go [] e c x f = let z : getD m1 (p * 32 + 4) 0 ≡ 0 = rw (same, e) at c in rw z joined
-      go (v ∷ vs) e c false f =
-          let z = rw (same, e) at c in
-          rw (z .0, ne-eqb v 0 (omega arith), reason-at b p hp t, note-at b p hp t, f) joined
-      go (v ∷ vs) e c true f =
-          let z = rw (same, e) at c in
-          let d = b .facts .own p hp v (rw e (omega (arith, hit-self v))) .owner in
-          let at4 : p * 32 + 3 + 1 ≡ p * 32 + 4 = omega arith in
-          let e2 : K (p * 32 + 3 + 1) ≡ p ∷ vs = rw (at4, same, e, d) in
-          rw (z .0, ne-eqb v 0 (omega arith), reason-at b p hp t, note-at b p hp t, f)
-          (texted-on joined (wake-texts sep-K (x1 b p hp t) (p * 32 + 3) p [] vs (own-sem s p hp) hp e2))
+  delivered-texts = record {
+    at = λ x px o j k l.
+        let d : p ≢ x = λ c. omega (arith, ap (λ (z : ℕ). count z ps) c) in
+        deliver-frame b p hp t (x * 32 + j) (λ i u. omega arith) (omega arith) (omega arith) (λ z i. omega arith);
+  }
 
   all : Delivered b p hp t (deliver m p q)
   all = deliver-all b p hp t

@@ -364,7 +364,7 @@ module _ {m : List ℕ} (w : WellFormed m) (d : getD m 248 0 ≢ 0) where
       go false true z e f g = rw (e, f) (fails w d 5 (omega arith) (omega arith))
       go false false true e f g = rw (e, f, g) (fails w d 5 (omega arith) (omega arith))
       go false false false e f g =
-              let k1 = eqb-false k 0 e in
+          let k1 = eqb-false k 0 e in
           let k2 = ltb-false 54 k f in
           let c1 = eqb-false c 0 g in
           let at1 : 131 + 2 * (k - 1) ≡ 129 + 2 * k = omega arith in

@@ -20,14 +20,14 @@ use Rattle.laws.specs.Chain.{Page, Chain}
 use Rattle.laws.specs.Queues.{upd, upd-same, upd-other, upd-swap}
 use Rattle.laws.specs.Heads.{one, sum-skip}
 use Rattle.laws.specs.Uses.{Sep, proc-page, single}
-use Rattle.laws.specs.Places.{in-own, own-once, grant-high}
+use Rattle.laws.specs.Places.{in-q, in-own, own-once, grant-high}
 use Rattle.laws.specs.Inv.{View, Label, Message, Facts, Mem, Base}
 use Rattle.laws.specs.Frames.{other, Only, only-refl, only-set, only-copy}
 use Rattle.laws.specs.Views.{put1, put1-same, put1-other}
-use Rattle.laws.specs.Cells.{chain0}
+use Rattle.laws.specs.Cells.{chain0, join-frame}
 use Rattle.laws.specs.Changes.{own-sem, hand-page, hand-out}
-use Rattle.laws.specs.Wake.{woken, facts-wake, wake-mem}
-use Rattle.laws.specs.Hands.{hand-base, in-hand, room, facts-mail, more-mail, mail-sep, mail-mem, give-mail}
+use Rattle.laws.specs.Wake.{woken, facts-wake, wake-mem, wake-frame}
+use Rattle.laws.specs.Hands.{hand-base, in-hand, hand-new, room, facts-mail, more-mail, mail-sep, mail-mem, give-mail}
 use Rattle.laws.specs.Grants.{Gave}
 
 module _ {m : List ℕ} {ps : List ℕ} {L : Lists} {W : View} {hs : List ℕ} {g q : ℕ} (b : Base m ps L W (q ∷ hs) g) (p : ℕ) (h : 1 ≤ count p ps)
@@ -132,9 +132,11 @@ module _ {m : List ℕ} {ps : List ℕ} {L : Lists} {W : View} {hs : List ℕ} {
           others = λ c d f. upd-other (upd L a4 xs) a5 c (upd L a4 xs a5 ++ q ∷ []) d ∙ upd-other L a4 c xs (λ z. f (z ∙ at4));
         }
 
-  pub deliver-all : Delivered (deliver m p q)
+  -- what holds of Q1 with the page, where p does not wait for it, and of p woken, where it does, holds of the memory that is delivered to
+  delivers : (P : List ℕ → Type 0) → (((x : ℕ) → 1 ≤ count x (L (p * 32 + 4)) → asked ≡ false) → P m1)
+      → ((ys : List ℕ) → L a4 ≡ p ∷ ys → P (wake m1 (p * 32 + 3) p)) → P (deliver m p q)
   unfolding Mail.deliver Mail.heard Mail.awaits Mail.matches
-  deliver-all =
+  delivers P stays wakes =
       go (L (p * 32 + 4)) refl (chain0 (mail-sep b p 5 h (omega arith) (omega arith)) x1 (p * 32 + 4) (
         in-own ps p h,
         grant-high (p * 32 + 4)
@@ -145,19 +147,39 @@ module _ {m : List ℕ} {ps : List ℕ} {L : Lists} {W : View} {hs : List ℕ} {
       same : K (p * 32 + 4) ≡ L (p * 32 + 4)
       same = upd-other L a5 (p * 32 + 4) (L a5 ++ q ∷ []) (omega arith)
 
-      go : (ys : List ℕ) → L (p * 32 + 4) ≡ ys → Chain m1 0 (p * 32 + 4) (K (p * 32 + 4)) → (c : Bool) → asked ≡ c → Delivered (deliver m p q)
-      go [] e c t f = let z : getD m1 (p * 32 + 4) 0 ≡ 0 = rw (same, e) at c in rw z (quiet (λ x i. absurd (omega (arith, ap (count x) e))))
+      go : (ys : List ℕ) → L (p * 32 + 4) ≡ ys → Chain m1 0 (p * 32 + 4) (K (p * 32 + 4)) → (c : Bool) → asked ≡ c → P (deliver m p q)
+      go [] e c t f = let z : getD m1 (p * 32 + 4) 0 ≡ 0 = rw (same, e) at c in rw z (stays (λ x i. absurd (omega (arith, ap (count x) e))))
       go (y ∷ ys) e c false f =
           let z = rw (same, e) at c in
-          rw (z .0, ne-eqb y 0 (omega arith), reason-at, note-at, f) (quiet (λ x i. f))
+          rw (z .0, ne-eqb y 0 (omega arith), reason-at, note-at, f) (stays (λ x i. f))
       go (y ∷ ys) e c true f =
           let z = rw (same, e) at c in
           let d = b .facts .own p h y (rw e (omega (arith, hit-self y))) .owner in
           let at4 : p * 32 + 3 + 1 ≡ p * 32 + 4 = omega arith in
           rw (z .0, ne-eqb y 0 (omega arith), reason-at, note-at, f) (wakes ys (rw (at4, e, d)))
 
+  pub deliver-all : Delivered (deliver m p q)
+  deliver-all = delivers Delivered quiet wakes
+
   pub deliver-base : Gave (deliver m p q) ps hs g W
   deliver-base = deliver-all .gave
+
+  -- which words stay: all but the end of Q1, the link of the page, and of the processor words 0 to 5 and 12
+  pub deliver-frame : (c : ℕ) → ((j : ℕ) → j ≤ 5 → c ≢ p * 32 + j) → c ≢ p * 32 + 12 → c ≢ q * 32 + 0
+      → ((z : ℕ) → 1 ≤ count z (L (p * 32 + 5)) → c ≢ z * 32 + 0) → getD (deliver m p q) c 0 ≡ getD m c 0
+  deliver-frame c n n12 nq nl = delivers (λ x. getD x c 0 ≡ getD m c 0) (λ f. joined) (λ ys e.
+      let same = upd-other L a5 a4 (L a5 ++ q ∷ []) (omega arith) in
+      let own : (z : ℕ) → 1 ≤ count z (K a4) → c ≢ z * 32 + 0 = λ z i. rw (b .facts .own p h z (rw (← at4, ← same) i) .owner) (n 0 (omega arith)) in
+      wake-frame (mail-sep b p 5 h (omega arith) (omega arith)) x1 (p * 32 + 3) p [] ys (own-sem s p h) (same ∙ e) c (n 3 (omega arith))
+      (rw at4 (n 4 (omega arith))) own (n 2 (omega arith)) n12 ∙ joined)
+    where
+      at4 : a4 ≡ p * 32 + 4
+      at4 = omega arith
+
+      joined : getD m1 c 0 ≡ getD m c 0
+      joined =
+          join-frame s (b .mem) a5 (in-q ps p 5 (omega arith) (omega arith) h, grant-high a5 (omega (arith, pg))) (omega (arith, pg)) q (hand-page b q (in-hand b))
+          (hand-new b) c (n 5 (omega arith)) nl nq
 
 -- ---- what is written in a page in hand
 pub copy-below : (n : ℕ) (m : List ℕ) (a b i : ℕ) → i < b → b + n ≤ 8192 → getD (copy n m a b) i 0 ≡ getD m i 0
