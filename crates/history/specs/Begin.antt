@@ -15,7 +15,7 @@ use Rattle.model.specs.Turn as Turn
 use Rattle.model.specs.Fresh as Fresh
 use Rattle.model.specs.Fresh.{startable}
 use Rattle.model.specs.Answer.{memoryOf}
-use Rattle.model.specs.Bytes.{lists, started, fresh, processors, queue}
+use Rattle.model.specs.Bytes.{lists, started, fresh, processors}
 use Rattle.model.specs.Lists.{count}
 use Rattle.laws.specs.Count.{hit-other, hit-or}
 use Rattle.laws.specs.Inv.{view, Base}

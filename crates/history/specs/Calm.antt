@@ -1,39 +1,37 @@
 -- Which steps leave Q1 and Q2 of every processor alone: stores elsewhere, waking, waiting, taking a page, giving one back, who runs. Assumes nothing.
-use mathlib.Core.Path.{_≡_, refl, sym, ap, _∙_}
+use mathlib.Core.Path.{_≡_, refl, sym, ap}
 use mathlib.Core.Logic.{_≢_, _⊎_, inl, inr}
 use mathlib.Core.Bool.{Bool, true, false}
 use mathlib.Core.List.{List, [], _∷_, _++_}
-use Prim.Native.Nat.{ℕ, zero, suc, _+_, _-_, _*_, _/_, _%_, _≤_, _<_}
+use Prim.Native.Nat.{ℕ, zero, _+_, _-_, _*_, _/_, _%_, _≤_, _<_}
 use native.Mathlib.Omega.{arith}
-use lib.ListN.{length, getD, set}
-use lib.Dec.{eqb, ltb}
-use borrow.Author.Tests.{ne-eqb, ltb-true, ltb-false}
+use lib.ListN.{getD, set}
+use lib.Dec.{ltb}
+use borrow.Author.Tests.{ltb-true, ltb-false}
 use Rattle.model.specs.Map.{zeroPlace}
 use Rattle.model.specs.Wait as Wait
 use Rattle.model.specs.Page as Page
 use Rattle.model.specs.Processor as Processor
-use Rattle.model.specs.Bytes.{join, leave, wake, putToWait, takeFree, freePage, grantPage, giveBack, whoRuns, setLr, advance, lr}
-use Rattle.model.specs.Lists.{count, Lists, some, uses, queues}
-use Rattle.laws.specs.Count.{hit-self, hit-other, hit-or, count-ne, count-append}
-use Rattle.laws.specs.Chain.{Page, Chain}
-use Rattle.laws.specs.Queues.{upd, upd-same, upd-other}
+use Rattle.model.specs.Bytes.{wake, putToWait, takeFree, giveBack, whoRuns, setLr}
+use Rattle.model.specs.Lists.{count, Lists, uses, queues}
+use Rattle.laws.specs.Count.{hit-or, count-ne}
+use Rattle.laws.specs.Chain.{Page}
 use Rattle.laws.specs.Heads.{Seat, seat-of, sum-two, one-le}
 use Rattle.laws.specs.Heads.Seat.{line, page, own}
-use Rattle.laws.specs.Uses.{Among, Head, Sep, proc-page}
-use Rattle.laws.specs.Places.{in-free, in-asking, in-q, q-free, q-once, free-once, grant-low, wait-page}
+use Rattle.laws.specs.Uses.{Head, Sep, proc-page}
+use Rattle.laws.specs.Places.{in-free, in-q, q-free, q-once, free-once, grant-low, wait-page}
 use Rattle.laws.specs.Inv.{View, Mem, Base}
 use Rattle.laws.specs.Frames.{other, Only}
 use Rattle.laws.specs.Frame.{turn-frame}
 use Rattle.laws.specs.Stores.{sem-mem, state-mem, reason-mem}
-use Rattle.laws.specs.Cells.{chain0, join-frame, leave-frame, grant-mem}
-use Rattle.laws.specs.Changes.{hand-page, page-sem}
+use Rattle.laws.specs.Cells.{join-frame, leave-frame}
+use Rattle.laws.specs.Changes.{page-sem}
 use Rattle.laws.specs.Wake.{seat-head, not-procs, wake-frame}
-use Rattle.laws.specs.Waits.{waits-not}
-use Rattle.laws.specs.Hands.{in-hand, hand-new}
-use Rattle.laws.specs.Grants.{waiter-proc, sep-G, give-frame}
+use Rattle.laws.specs.Hands.{in-hand}
+use Rattle.laws.specs.Grants.{give-frame}
 use Rattle.laws.specs.Still.{Aside, aside-hand}
 use Rattle.laws.specs.Who.{zero-low}
-use Rattle.history.specs.Letter.{Mine, Ours, Same, Agree, same-then, same-on}
+use Rattle.history.specs.Letter.{Mine, Ours, Same, same-on}
 use Rattle.history.specs.Letter.Mine.{head, page}
 use Rattle.history.specs.Letter.Ours.{mail, first, next}
 

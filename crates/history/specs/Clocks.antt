@@ -1,47 +1,27 @@
 -- Interrupts leave Q1 and Q2 of every processor alone: each waiter front to back, the clock chain, then who runs. Assumes nothing.
-use mathlib.Core.Path.{_≡_, refl, sym, ap, _∙_}
-use mathlib.Core.Logic.{_≢_, _⊎_, inl, inr}
-use mathlib.Core.Bool.{Bool, true, false, cond}
+use mathlib.Core.Path.{_≡_, refl, sym, _∙_}
 use mathlib.Core.List.{List, [], _∷_, _++_}
-use Prim.Native.Nat.{ℕ, zero, suc, _+_, _-_, _*_, _/_, _%_, _≤_, _<_}
+use Prim.Native.Nat.{ℕ, zero, suc, _+_, _-_, _*_, _%_, _≤_}
 use native.Mathlib.Omega.{arith}
 use lib.ListN.{length, getD, set}
-use lib.Dec.{eqb, ltb, leb}
-use borrow.Author.Tests.{eqb-false, ltb-true, ltb-false, leb-false}
-use Rattle.model.specs.declared.Registers.{Registers}
-use Rattle.model.specs.Map.{threeFlags}
-use Rattle.model.specs.Address as Address
-use Rattle.model.specs.Address.{guarded, clear}
+use lib.Dec.{eqb, ltb}
 use Rattle.model.specs.Interrupt as Interrupt
-use Rattle.model.specs.Instruction as Instruction
-use Rattle.model.specs.Processor as Processor
-use Rattle.model.specs.Operate as Operate
-use Rattle.model.specs.Answer.{memoryOf}
 use Rattle.model.specs.Bytes as Model
-use Rattle.model.specs.Bytes.{lists, struck, classed, servedFrom, serve, counts, turns, ends, delivered, whoRuns, setCode, pageOf, start, stop, setLr}
-use Rattle.model.specs.Bytes.{setRegistersOf}
-use Rattle.model.specs.Lists.{count, Lists, queues}
-use Rattle.laws.specs.Count.{hit-self, hit-or, count-append}
-use Rattle.laws.specs.Uses.{Sep, proc-page, list-short}
+use Rattle.model.specs.Bytes.{lists, struck, servedFrom, serve, delivered, whoRuns}
+use Rattle.model.specs.Lists.{Lists}
+use Rattle.laws.specs.Count.{hit-self, count-append}
+use Rattle.laws.specs.Uses.{list-short}
 use Rattle.laws.specs.Places.{in-queues, wait-page}
-use Rattle.laws.specs.Inv.{View, view, Clock, Base, Inv}
-use Rattle.laws.specs.Judged.{WellFormed, invariant}
-use Rattle.laws.specs.Frames.{other}
-use Rattle.laws.specs.Views.{put1, withLow}
+use Rattle.laws.specs.Inv.{View, view, Clock, Base}
+use Rattle.laws.specs.Views.{put1}
 use Rattle.laws.specs.Cells.{chain0}
-use Rattle.laws.specs.Changes.{int-sem}
 use Rattle.laws.specs.Wake.{seat-head, not-procs}
-use Rattle.laws.specs.Grants.{Gave}
-use Rattle.laws.specs.Who.{running-at, running-in}
-use Rattle.laws.specs.Ends.{advance-base}
 use Rattle.laws.specs.Words.{either}
-use Rattle.laws.specs.Simple.{pick, named-in}
-use Rattle.laws.specs.Interrupts.{head, chain-head, Struck, struck-base, from-end, next, seat, clock0, clock1, clock2, clock3, counter-base}
-use Rattle.laws.specs.Interrupts.{counter-at}
+use Rattle.laws.specs.Interrupts.{head, chain-head, struck-base, from-end, next, seat, counter-base}
 use Rattle.laws.specs.Interrupts.{serve-base, Some, some-of, delivered-kept}
 use Rattle.history.specs.Letter.{Agree, Same, same-then, same-on, posts, agrees}
-use Rattle.history.specs.Calm.{calm-refl, calm-set, calm-low, calm-proc, calm-run, calm-lr, calm-turn, calm-wake, ours-fits, ours-low}
-use Rattle.history.specs.Told.{calm-done, calm-jumps, calm-fault, calm-waits, runs-in}
+use Rattle.history.specs.Calm.{calm-refl, calm-low, calm-proc, calm-turn, calm-wake}
+use Rattle.history.specs.Told.{runs-in}
 
 module _ (k c : ℕ) (k1 : 1 ≤ k) (k2 : k ≤ 54) where
   abbrev a : ℕ

@@ -19,8 +19,8 @@ use Rattle.laws.specs.Count.{hit-self, count-append}
 use Rattle.laws.specs.Chain.{chain-move, split-at-page}
 use Rattle.laws.specs.Queues.{upd, upd-same}
 use Rattle.laws.specs.Uses.{proc-page}
-use Rattle.laws.specs.Inv.{View, view, Base, Inv}
-use Rattle.laws.specs.Judged.{WellFormed, invariant}
+use Rattle.laws.specs.Inv.{View, view, Base}
+use Rattle.laws.specs.Judged.{WellFormed}
 use Rattle.laws.specs.Frames.{other}
 use Rattle.laws.specs.Hands.{take-grant}
 use Rattle.laws.specs.Grants.{give-back, some-is}

@@ -1,39 +1,21 @@
 -- A message in hand, delivered to the processor of page p: it stands at the end of Q1 of p, behind all that waits for p; for every other processor all stays as
 -- it was, word for word. Assumes nothing.
-use mathlib.Core.Path.{_≡_, refl, sym, ap, _∙_}
+use mathlib.Core.Path.{_≡_, sym, ap, _∙_}
 use mathlib.Core.Logic.{_≢_}
-use mathlib.Core.Bool.{Bool, true, false}
 use mathlib.Core.List.{List, [], _∷_, _++_, append-assoc, map}
-use Prim.Native.Nat.{ℕ, _+_, _-_, _*_, _/_, _%_, _≤_, _<_}
+use Prim.Native.Nat.{ℕ, _+_, _-_, _*_, _≤_}
 use native.Mathlib.Omega.{arith}
-use lib.ListN.{getD, set}
-use borrow.Author.Tests.{ne-eqb}
 use Rattle.model.specs.Map.{place, q1}
-use Rattle.model.specs.Wait as Wait
-use Rattle.model.specs.Mail as Mail
-use Rattle.model.specs.Mail.{fits}
-use Rattle.model.specs.Bytes.{join, leave, wake, deliver, queue, processors}
-use Rattle.model.specs.Lists.{count, Lists, queues}
-use Rattle.laws.specs.Count.{hit-self}
-use Rattle.laws.specs.Chain.{Page, Chain}
-use Rattle.laws.specs.Queues.{upd, upd-other}
-use Rattle.laws.specs.Heads.{Seat, seat-of}
-use Rattle.laws.specs.Heads.Seat.{line, page, own}
-use Rattle.laws.specs.Uses.{Sep, proc-page}
-use Rattle.laws.specs.Places.{in-q, in-own, in-queues, q-free, grant-high}
-use Rattle.laws.specs.Members.{head-off}
-use Rattle.laws.specs.Inv.{View, Message, Mem, Base}
-use Rattle.laws.specs.Frames.{other}
-use Rattle.laws.specs.Stores.{sem-mem}
-use Rattle.laws.specs.Cells.{chain0, join-frame, leave-frame}
-use Rattle.laws.specs.Changes.{own-sem, hand-page}
-use Rattle.laws.specs.Wake.{seat-head, not-procs}
-use Rattle.laws.specs.Hands.{in-hand, hand-new, mail-sep}
-use Rattle.laws.specs.Post.{x1, reason-at, note-at, Delivered, deliver-all, deliver-frame}
+use Rattle.model.specs.Bytes.{deliver, queue, processors}
+use Rattle.model.specs.Lists.{count, Lists}
+use Rattle.laws.specs.Heads.Seat.{page}
+use Rattle.laws.specs.Places.{q-free}
+use Rattle.laws.specs.Inv.{View, Message, Base}
+use Rattle.laws.specs.Post.{Delivered, deliver-all, deliver-frame}
 use Rattle.laws.specs.Mails.{mail-queue}
 use Rattle.laws.specs.Who.{listed}
 use Rattle.history.specs.Letter.{Letter, mailOf, mails-same, letter-sized, map-append, waitingFor, Posts, queue-same, texts-same}
-use Rattle.history.specs.Moving.{Texted, texted-on}
+use Rattle.history.specs.Moving.{Texted}
 
 -- Q1 or Q2 as a list of messages
 abbrev pub held : List ℕ → ℕ → ℕ → List Letter

@@ -33,7 +33,7 @@ use Rattle.laws.specs.Calls as Calls
 use Rattle.laws.specs.Calls.Act.{instruct}
 use Rattle.laws.specs.Witness.{zeros-small}
 use Rattle.history.specs.Letter as Letter
-use Rattle.history.specs.Letter.{Letter, mailOf, waitingFor}
+use Rattle.history.specs.Letter.{Letter, waitingFor}
 use Rattle.history.specs.Order as Order
 use Rattle.history.specs.Put.{of, mailed}
 use Rattle.history.specs.Lives as Lives

@@ -1,29 +1,26 @@
 -- A message as a value, read off its page: sender, flag, length and text. It depends on words 1 to 31 of the page alone. What a processor's Q2 and Q1 hold, and
 -- that a step which leaves their headers and pages alone leaves them. Assumes nothing.
-use mathlib.Core.Path.{_≡_, refl, sym, ap, _∙_}
+use mathlib.Core.Path.{_≡_, refl, sym, _∙_}
 use mathlib.Core.Logic.{_≢_, _⊎_, inl, inr}
 use mathlib.Core.Bool.{Bool, true, false, _&&_}
 use mathlib.Core.List.{List, [], _∷_, _++_, map}
 use Prim.Native.Nat.{ℕ, zero, suc, _+_, _-_, _*_, _/_, _%_, _≤_, _<_}
 use native.Mathlib.Omega.{arith}
-use lib.ListN.{length, getD, set}
+use lib.ListN.{getD}
 use lib.Dec.{eqb}
 use borrow.Author.Tests.{eqb-true}
 use Rattle.model.specs.Map.{place, q1, q2, text}
 use Rattle.model.specs.Address.{wrapped}
-use Rattle.model.specs.Mail as Mail
-use Rattle.model.specs.Mail.{asks, fits}
+use Rattle.model.specs.Mail.{fits}
 use Rattle.model.specs.Bytes.{queue, processors, sender, flag, lengthOf}
 use Rattle.model.specs.Lists.{count, Lists}
-use Rattle.laws.specs.Count.{hit-self, hit-or, count-ne}
+use Rattle.laws.specs.Count.{hit-self, hit-or}
 use Rattle.laws.specs.Chain.{Page, Chain, chain-move, walk-chain}
-use Rattle.laws.specs.Heads.{sum-two, one-le}
 use Rattle.laws.specs.Queues.{link-procs}
-use Rattle.laws.specs.Uses.{Among, Head, Sep, proc-page, list-short}
-use Rattle.laws.specs.Places.{in-q, in-procs, q-free, q-once, grant-low}
+use Rattle.laws.specs.Uses.{Head, list-short}
+use Rattle.laws.specs.Places.{in-q, in-procs, q-free, grant-low}
 use Rattle.laws.specs.Inv.{View, Base, Message}
 use Rattle.laws.specs.Mails.{mail-chain, mail-queue}
-use Rattle.history.specs.Order.{only, only-append}
 
 -- ---- a message
 pub record Letter : Type 0 where

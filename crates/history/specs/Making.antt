@@ -1,43 +1,42 @@
 -- A page taken for SME or CRP, and CRP: Q1 and Q2 of every processor stay, and the new one has nothing. Assumes nothing.
 use mathlib.Core.Path.{_≡_, refl, sym, ap, _∙_}
 use mathlib.Core.Logic.{_≢_, _⊎_, inl, inr}
-use mathlib.Core.Bool.{Bool, true, false, cond}
-use mathlib.Core.List.{List, [], _∷_, _++_, append-nil, map}
-use Prim.Native.Nat.{ℕ, zero, suc, _+_, _-_, _*_, _/_, _%_, _≤_, _<_}
+use mathlib.Core.Bool.{Bool, true, false}
+use mathlib.Core.List.{List, [], _∷_, _++_, append-nil}
+use Prim.Native.Nat.{ℕ, _+_, _-_, _*_, _%_, _≤_, _<_}
 use native.Mathlib.Omega.{arith}
 use lib.ListN.{length, getD, set}
 use lib.Dec.{eqb}
-use borrow.Author.Tests.{eqb-true, eqb-false, ne-eqb, eq-eqb}
+use borrow.Author.Tests.{eqb-true, eqb-false, ne-eqb}
 use Rattle.model.specs.Page as Page
 use Rattle.model.specs.Page.{Taken}
 use Rattle.model.specs.Page.Taken.{took}
 use Rattle.model.specs.Operate as Operate
 use Rattle.model.specs.Answer.{memoryOf}
 use Rattle.model.specs.Bytes as Model
-use Rattle.model.specs.Bytes.{lists, join, takePage, takeFree, processors, pageOf, queue, created, waitsForPage}
-use Rattle.model.specs.Lists.{count, Lists, some}
+use Rattle.model.specs.Bytes.{lists, takePage, takeFree, processors, pageOf, queue, created, waitsForPage}
+use Rattle.model.specs.Lists.{count, Lists}
 use Rattle.laws.specs.Count.{hit-self, hit-other, hit-or, count-append}
 use Rattle.laws.specs.Chain.{Page, Chain, last, last-in, join-is, chain-join, walk-chain, off-page}
 use Rattle.laws.specs.Queues.{link-procs}
 use Rattle.laws.specs.Heads.{one-le, short}
-use Rattle.laws.specs.Uses.{Head, Sep, proc-page, list-short, good}
+use Rattle.laws.specs.Uses.{Sep, proc-page, list-short}
 use Rattle.laws.specs.Places.{in-free, in-procs, grant-low, all-pages}
-use Rattle.laws.specs.Inv.{View, view, Base, Inv, bearers}
-use Rattle.laws.specs.Judged.{WellFormed, invariant, walked}
+use Rattle.laws.specs.Inv.{View, view, Base}
+use Rattle.laws.specs.Judged.{WellFormed}
 use Rattle.laws.specs.Frames.{other}
 use Rattle.laws.specs.Cells.{chain0, leave-frame}
 use Rattle.laws.specs.Changes.{page-sem, hand-page, hand-out}
 use Rattle.laws.specs.Stores.{sem-mem}
 use Rattle.laws.specs.Hands.{in-hand, hand-base}
-use Rattle.laws.specs.Grants.{Gave, Takes, take-page}
+use Rattle.laws.specs.Grants.{Takes, take-page}
 use Rattle.laws.specs.Grants.Takes.{gets, lacks}
-use Rattle.laws.specs.Still.{Aside, aside-hand}
-use Rattle.laws.specs.Who.{running-at, running-in, listed, Busy, busy}
-use Rattle.laws.specs.Create.{made, z12, z11, z, headed-is, only, below, created-base, nobody}
-use Rattle.history.specs.Letter.{Mine, Same, Posts, Agree, same-then, same-on, posts, posts-on, posts-then, agrees, waitingFor, waits-same}
+use Rattle.laws.specs.Still.{aside-hand}
+use Rattle.laws.specs.Who.{listed, Busy, busy}
+use Rattle.laws.specs.Create.{made, z, headed-is, only, below, created-base, nobody}
+use Rattle.history.specs.Letter.{Same, Posts, posts, posts-on, posts-then, agrees, waitingFor, waits-same}
 use Rattle.history.specs.Letter.{procs-same}
-use Rattle.history.specs.Letter.Mine.{head, page}
-use Rattle.history.specs.Letter.Ours.{mail, first, next}
+use Rattle.history.specs.Letter.Mine.{page}
 use Rattle.history.specs.Put.{nothing}
 use Rattle.history.specs.Calm.{calm-refl, calm-low, calm-take, calm-only, mine-high, mine-hand, mine-proc}
 use Rattle.history.specs.Told.{Told, of-none, told-same, calm-done, calm-waits, runs-in}

@@ -1,20 +1,19 @@
 -- Instructions: WNM and TME move messages from Q1 to Q2 of the one that runs. They put and read nothing, and of any sender and flag what waits stays in its
 -- order. Assumes nothing.
-use mathlib.Core.Path.{_≡_, refl, sym, ap, _∙_}
+use mathlib.Core.Path.{_≡_, sym, ap, _∙_}
 use mathlib.Core.Logic.{_≢_, _⊎_, inl, inr}
-use mathlib.Core.Bool.{Bool, true, false, cond}
+use mathlib.Core.Bool.{true}
 use mathlib.Core.List.{List, [], _∷_, _++_, append-assoc}
 use mathlib.Core.List.{map}
-use Prim.Native.Nat.{ℕ, zero, suc, _+_, _-_, _*_, _/_, _%_, _≤_, _<_}
+use Prim.Native.Nat.{ℕ, _+_, _-_, _*_, _≤_}
 use native.Mathlib.Omega.{arith}
-use lib.ListN.{length, getD, set}
 use Rattle.model.specs.Mail as Mail
-use Rattle.model.specs.Bytes.{leave, join, move, matches}
+use Rattle.model.specs.Bytes.{leave, move}
 use Rattle.model.specs.Lists.{count, Lists}
 use Rattle.laws.specs.Count.{hit-self, hit-or, count-append}
 use Rattle.laws.specs.Chain.{Page}
 use Rattle.laws.specs.Queues.{upd, upd-same, upd-other}
-use Rattle.laws.specs.Uses.{Head, Sep, proc-page}
+use Rattle.laws.specs.Uses.{Sep, proc-page}
 use Rattle.laws.specs.Places.{in-q, q-free, grant-high}
 use Rattle.laws.specs.Members.{head-off}
 use Rattle.laws.specs.Inv.{View, Base}
@@ -22,7 +21,7 @@ use Rattle.laws.specs.Cells.{join-frame, leave-frame}
 use Rattle.laws.specs.Changes.{hand-page}
 use Rattle.laws.specs.Hands.{in-hand, hand-new, take-mail, give-mail}
 use Rattle.history.specs.Order.{only, only-append, Fails, overtakes-none}
-use Rattle.history.specs.Letter.{Letter, mailOf, key, asked, one-key, Texts, Stays, letter-sized, mails-same, map-append, waitingFor, waits-by}
+use Rattle.history.specs.Letter.{Letter, mailOf, key, asked, one-key, Texts, letter-sized, mails-same, map-append, waitingFor, waits-by}
 
 -- words 1 to 31 of every page that is no processor's stay
 pub record Texted (ps : List ℕ) (m m′ : List ℕ) : Type 0 where

@@ -1,20 +1,20 @@
 -- Instructions: RME reads the first match in Q2; of any sender and flag it is the oldest that waits. Assumes nothing.
 use mathlib.Core.Path.{_≡_, refl, sym, ap, _∙_}
 use mathlib.Core.Logic.{_≢_, _⊎_, inl, inr}
-use mathlib.Core.Bool.{Bool, true, false, cond}
+use mathlib.Core.Bool.{Bool, true, false}
 use mathlib.Core.List.{List, [], _∷_, _++_, append-assoc, append-nil, map}
 use Prim.Native.Nat.{ℕ, zero, suc, _+_, _-_, _*_, _/_, _%_, _≤_, _<_}
 use native.Mathlib.Omega.{arith}
-use lib.ListN.{length, getD, set}
+use lib.ListN.{getD, set}
 use lib.Dec.{eqb}
-use borrow.Author.Tests.{eqb-true, eqb-false}
+use borrow.Author.Tests.{eqb-false}
 use Rattle.model.specs.Address as Address
-use Rattle.model.specs.Address.{guarded, clear}
+use Rattle.model.specs.Address.{clear}
 use Rattle.model.specs.Mail as Mail
 use Rattle.model.specs.Operate as Operate
 use Rattle.model.specs.Answer.{memoryOf}
 use Rattle.model.specs.Bytes as Model
-use Rattle.model.specs.Bytes.{lists, queue, processors, leave, copy, copyOut, giveBack, matches}
+use Rattle.model.specs.Bytes.{lists, queue, processors, leave, copy, copyOut, giveBack}
 use Rattle.model.specs.Lists.{count, Lists}
 use Rattle.laws.specs.Count.{hit-self, hit-or, count-append}
 use Rattle.laws.specs.Chain.{Page}
@@ -22,19 +22,18 @@ use Rattle.laws.specs.Queues.{upd, upd-same, upd-other}
 use Rattle.laws.specs.Uses.{Sep, proc-page}
 use Rattle.laws.specs.Places.{in-q, grant-high}
 use Rattle.laws.specs.Members.{head-off}
-use Rattle.laws.specs.Inv.{View, view, Base, Inv}
-use Rattle.laws.specs.Judged.{WellFormed, invariant}
+use Rattle.laws.specs.Inv.{View, view, Base}
+use Rattle.laws.specs.Judged.{WellFormed}
 use Rattle.laws.specs.Frames.{other, base-kept}
 use Rattle.laws.specs.Cells.{leave-frame}
 use Rattle.laws.specs.Hands.{take-mail}
 use Rattle.laws.specs.Grants.{give-back}
-use Rattle.laws.specs.Who.{running-in, listed, Busy, busy}
+use Rattle.laws.specs.Who.{listed, Busy, busy}
 use Rattle.laws.specs.Mails.{mail-queue, out-kept, clear-at}
-use Rattle.history.specs.Order.{only, only-append, Fails, overtakes-none}
-use Rattle.history.specs.Letter.{Letter, mailOf, key, asked, one-key, map-append, waitingFor, waits-by, Ours, Same, same-then, same-on, posts}
-use Rattle.history.specs.Letter.{agrees}
+use Rattle.history.specs.Order.{only, Fails, overtakes-none}
+use Rattle.history.specs.Letter.{Letter, mailOf, key, asked, one-key, map-append, waitingFor, waits-by, Ours, Same, posts}
 use Rattle.history.specs.Letter.{waits-same, procs-same, mail-same, mails-same, texts-same}
-use Rattle.history.specs.Put.{Mailed, of, nothing, reading, rmeMail}
+use Rattle.history.specs.Put.{of, reading, rmeMail}
 use Rattle.history.specs.Calm.{ours-low, ours-fits, calm-give}
 use Rattle.history.specs.Told.{Told, of-none, of-here, of-other, told-same, calm-done, runs-in}
 use Rattle.history.specs.Quiet.{fails, clear-far}

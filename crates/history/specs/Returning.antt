@@ -8,32 +8,21 @@ use Prim.Native.Nat.{ℕ, _+_, _*_, _/_, _%_, _≤_}
 use native.Mathlib.Omega.{arith}
 use lib.ListN.{getD, set}
 use lib.Dec.{eqb}
-use borrow.Author.Tests.{ne-eqb}
-use Rattle.model.specs.Wait as Wait
-use Rattle.model.specs.Page as Page
 use Rattle.model.specs.Mail as Mail
-use Rattle.model.specs.Mail.{fits}
-use Rattle.model.specs.Bytes.{join, leave, wake, giveBack, deliver, makeNotice}
-use Rattle.model.specs.Lists.{count, Lists, queues}
-use Rattle.laws.specs.Count.{hit-self, hit-or}
-use Rattle.laws.specs.Chain.{Page, Chain}
-use Rattle.laws.specs.Queues.{upd, upd-other}
-use Rattle.laws.specs.Uses.{Sep, proc-page}
-use Rattle.laws.specs.Places.{in-own, in-asking, grant-high, grant-low}
-use Rattle.laws.specs.Inv.{View, Message, Mem, Base}
+use Rattle.model.specs.Bytes.{giveBack, deliver, makeNotice}
+use Rattle.model.specs.Lists.{count, Lists}
+use Rattle.laws.specs.Count.{hit-or}
+use Rattle.laws.specs.Chain.{Page}
+use Rattle.laws.specs.Uses.{proc-page}
+use Rattle.laws.specs.Inv.{View, Message, Base}
 use Rattle.laws.specs.Frames.{other}
-use Rattle.laws.specs.Stores.{sem-mem}
-use Rattle.laws.specs.Cells.{chain0, leave-mem}
-use Rattle.laws.specs.Changes.{own-sem, hand-out}
-use Rattle.laws.specs.Wake.{seat-head, not-procs}
-use Rattle.laws.specs.Hands.{in-hand, hand-base, mail-sep, give-free}
-use Rattle.laws.specs.Grants.{give-grant, give-frame}
-use Rattle.laws.specs.Post.{x1, reason-at, note-at, two, word1, word2, deliver-frame}
+use Rattle.laws.specs.Changes.{hand-out}
+use Rattle.laws.specs.Hands.{in-hand, hand-base}
+use Rattle.laws.specs.Grants.{give-frame}
+use Rattle.laws.specs.Post.{two, word1, word2, deliver-frame}
 use Rattle.laws.specs.Still.{aside-hand}
-use Rattle.laws.specs.Mails.{mail-queue}
-use Rattle.laws.specs.Who.{label-at}
 use Rattle.laws.specs.Delete.{letter}
-use Rattle.history.specs.Letter.{Letter, words, mailOf, mails-same, texts-same, waitingFor, Posts, posts, queue-same, waits-same}
+use Rattle.history.specs.Letter.{Letter, words, mailOf, waitingFor, Posts, posts, waits-same}
 use Rattle.history.specs.Put.{Log, of, noticeFrom, returnsTo, notices}
 use Rattle.history.specs.Calm.{calm-only, calm-give}
 use Rattle.history.specs.Told.{of-none, of-here, of-other}

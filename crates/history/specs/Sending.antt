@@ -6,7 +6,7 @@ use mathlib.Core.Bool.{Bool, true, false, cond}
 use mathlib.Core.List.{List, [], _∷_, _++_, append-nil}
 use Prim.Native.Nat.{ℕ, _+_, _-_, _*_, _/_, _%_, _≤_, _<_}
 use native.Mathlib.Omega.{arith}
-use lib.ListN.{length, getD, set}
+use lib.ListN.{getD, set}
 use lib.Dec.{eqb, ltb}
 use borrow.Author.Tests.{eqb-false, ne-eqb, ltb-false}
 use Rattle.model.specs.Address.{guarded, clear}
@@ -18,12 +18,12 @@ use Rattle.model.specs.Page.Taken.{took}
 use Rattle.model.specs.Operate as Operate
 use Rattle.model.specs.Answer.{memoryOf}
 use Rattle.model.specs.Bytes as Model
-use Rattle.model.specs.Bytes.{lists, processors, deliver, writeMessage, makeNotice, posted, pageOf, isNamed, takePage, waitsForPage, name, running}
+use Rattle.model.specs.Bytes.{lists, processors, deliver, writeMessage, makeNotice, posted, pageOf, isNamed, takePage, waitsForPage, running}
 use Rattle.model.specs.Lists.{count, Lists}
 use Rattle.laws.specs.Count.{hit-self, hit-or}
 use Rattle.laws.specs.Chain.{Page}
-use Rattle.laws.specs.Inv.{View, view, Label, Message, Base, Inv}
-use Rattle.laws.specs.Judged.{WellFormed, invariant}
+use Rattle.laws.specs.Inv.{View, view, Label, Message, Base}
+use Rattle.laws.specs.Judged.{WellFormed}
 use Rattle.laws.specs.Frames.{other, Only, only-copy}
 use Rattle.laws.specs.Views.{put1-same, retold}
 use Rattle.laws.specs.Changes.{hand-page}
@@ -32,7 +32,7 @@ use Rattle.laws.specs.Grants.{Gave, Takes, take-page}
 use Rattle.laws.specs.Grants.Takes.{gets, lacks}
 use Rattle.laws.specs.Still.{aside-hand}
 use Rattle.laws.specs.Post.{deliver-all, two, word1, word2, copy-below}
-use Rattle.laws.specs.Who.{running-at, running-in, listed, label-at, Busy, busy}
+use Rattle.laws.specs.Who.{running-at, listed, label-at, Busy, busy}
 use Rattle.laws.specs.Mails.{clear-at}
 use Rattle.laws.specs.Simple.{named-in}
 use Rattle.history.specs.Order.{only}

@@ -5,7 +5,7 @@ use mathlib.Core.Bool.{Bool, true, false, cond}
 use mathlib.Core.List.{List, [], _∷_, _++_, append-nil, map}
 use Prim.Native.Nat.{ℕ, zero, suc, _+_, _-_, _*_, _/_, _%_, _≤_, _<_}
 use native.Mathlib.Omega.{arith}
-use lib.ListN.{length, getD, set}
+use lib.ListN.{getD}
 use lib.Dec.{eqb}
 use borrow.Author.Tests.{eqb-true, eqb-false}
 use Rattle.model.specs.Queue as Queue
@@ -16,18 +16,18 @@ use Rattle.model.specs.Mail.Tested.{tested}
 use Rattle.model.specs.Operate as Operate
 use Rattle.model.specs.Answer.{memoryOf}
 use Rattle.model.specs.Bytes as Model
-use Rattle.model.specs.Bytes.{lists, queue, processors, move, matches, testQ1}
+use Rattle.model.specs.Bytes.{lists, queue, move, matches, testQ1}
 use Rattle.model.specs.Lists.{count, Lists}
-use Rattle.laws.specs.Count.{hit-self, hit-or}
-use Rattle.laws.specs.Uses.{Sep, proc-page}
-use Rattle.laws.specs.Inv.{View, view, Waits, Base, Inv}
-use Rattle.laws.specs.Judged.{WellFormed, invariant}
+use Rattle.laws.specs.Count.{hit-or}
+use Rattle.laws.specs.Uses.{proc-page}
+use Rattle.laws.specs.Inv.{View, view, Waits, Base}
+use Rattle.laws.specs.Judged.{WellFormed}
 use Rattle.laws.specs.Changes.{own-sem}
-use Rattle.laws.specs.Who.{running-in, listed, Busy, busy}
+use Rattle.laws.specs.Who.{listed, Busy, busy}
 use Rattle.laws.specs.Chain.{Chain}
 use Rattle.laws.specs.Mails.{first-none, mail-chain, mail-queue, mail-some, test-end, test-hit, test-miss, test-nought}
 use Rattle.history.specs.Order.{only, Fails}
-use Rattle.history.specs.Letter.{Letter, mailOf, key, asked, asked-page, waitingFor, Same, posts, waits-same, procs-same}
+use Rattle.history.specs.Letter.{mailOf, key, asked, asked-page, waitingFor, Same, posts, waits-same, procs-same}
 use Rattle.history.specs.Put.{nothing}
 use Rattle.history.specs.Told.{Told, of-none, told-same, calm-done, calm-jumps, calm-waits, runs-in}
 use Rattle.history.specs.Moving.{moved, move-lists, moved-away, moved-order, moved-first}

@@ -1,20 +1,20 @@
 -- The step law as a relation: what a processor reads and what then waits for it, of any sender and flag, is what waited for it and what is put to it; and how a
 -- call that moves no message keeps it. Assumes nothing.
 use mathlib.Core.Path.{_≡_, refl, sym, ap, _∙_}
-use mathlib.Core.Logic.{_≢_, _⊎_, inl, inr}
-use mathlib.Core.Bool.{Bool, true, false, cond}
+use mathlib.Core.Logic.{_≢_}
+use mathlib.Core.Bool.{Bool, true, false}
 use mathlib.Core.List.{List, [], _∷_, _++_, append-nil, map}
-use Prim.Native.Nat.{ℕ, zero, suc, _+_, _-_, _*_, _/_, _%_, _≤_, _<_}
+use Prim.Native.Nat.{ℕ, _+_, _-_, _*_, _/_, _%_, _≤_}
 use native.Mathlib.Omega.{arith}
-use lib.ListN.{length, getD, set}
-use lib.Dec.{eqb, ltb}
-use borrow.Author.Tests.{ltb-true, eqb-true, eqb-false, eq-eqb, ne-eqb}
+use lib.ListN.{getD, set}
+use lib.Dec.{ltb}
+use borrow.Author.Tests.{ltb-true, eq-eqb, ne-eqb}
 use Rattle.model.specs.Map.{place, q1}
 use Rattle.model.specs.Fault as Fault
 use Rattle.model.specs.Answer as Answer
 use Rattle.model.specs.Answer.{memoryOf}
 use Rattle.model.specs.Processor as Processor
-use Rattle.model.specs.Bytes.{Step, processors, queue, fault, done, jumps, waits, setLr, advance, lr, putToWait, entered, stop, name, running}
+use Rattle.model.specs.Bytes.{processors, queue, fault, done, jumps, waits, setLr, lr, putToWait, entered, name, running}
 use Rattle.model.specs.Lists.{count, Lists, queues}
 use Rattle.laws.specs.Uses.{Sep}
 use Rattle.laws.specs.Inv.{View, Base}
@@ -24,7 +24,7 @@ use Rattle.laws.specs.Who.{running-at, running-in, listed}
 use Rattle.laws.specs.Waits.{Fit, wait-base, waits-not}
 use Rattle.history.specs.Order.{only}
 use Rattle.history.specs.Letter.{Letter, mailOf, key, waitingFor, Same, same-on, posts, waits-same, procs-same}
-use Rattle.history.specs.Put.{Log, of, Mailed, nothing}
+use Rattle.history.specs.Put.{of, Mailed, nothing}
 use Rattle.history.specs.Calm.{calm-low, calm-run, calm-lr, calm-turn, calm-wait, calm-refl}
 
 -- ---- from m to m′ with the mail e, for every processor that lives before and after

@@ -16,7 +16,7 @@ use Rattle.model.specs.Turn.{nineteen}
 use Rattle.model.specs.Processor as Processor
 use Rattle.model.specs.Answer as Answer
 use Rattle.model.specs.Answer.{memoryOf}
-use Rattle.model.specs.Bytes.{whoRuns, save, load, onPage0, keptOn, kept, restored, chosen, running, setLr, lr, done}
+use Rattle.model.specs.Bytes.{whoRuns, save, load, onPage0, keptOn, kept, restored, chosen, running, lr, done}
 use Rattle.laws.specs.Count.{hit-or}
 use Rattle.laws.specs.Chain.{Page}
 use Rattle.laws.specs.Frames.{other}

@@ -9,34 +9,30 @@ use native.Mathlib.Omega.{arith}
 use lib.ListN.{length, getD, set, length-set}
 use lib.Seq.{getD-set-same}
 use lib.Dec.{eqb}
-use borrow.Author.Tests.{eqb-false, ne-eqb}
+use borrow.Author.Tests.{eqb-false}
 use Rattle.model.specs.Map.{headWords}
 use Rattle.model.specs.Address.{wrapped, clear}
-use Rattle.model.specs.Wait as Wait
-use Rattle.model.specs.Page as Page
 use Rattle.model.specs.Mail as Mail
 use Rattle.model.specs.Operate as Operate
 use Rattle.model.specs.Answer.{memoryOf}
 use Rattle.model.specs.Instruction as Instruction
 use Rattle.model.specs.Instruction.{shapeFor}
 use Rattle.model.specs.Bytes as Model
-use Rattle.model.specs.Bytes.{lists, queue, running, leave, wake, copy, copyOut, freePage, grantPage, giveBack, direct, pointed}
-use Rattle.model.specs.Lists.{count, Lists, some}
+use Rattle.model.specs.Bytes.{lists, queue, running, leave, copy, copyOut, giveBack, direct, pointed}
+use Rattle.model.specs.Lists.{count, Lists}
 use Rattle.laws.specs.Count.{hit-self, count-append}
-use Rattle.laws.specs.Chain.{Page, Chain}
-use Rattle.laws.specs.Queues.{upd-other}
-use Rattle.laws.specs.Uses.{Sep, proc-page}
-use Rattle.laws.specs.Places.{in-free, in-asking, in-q, grant-low, grant-high, all-pages, wait-page}
-use Rattle.laws.specs.Inv.{View, view, Mem, Base, Inv}
-use Rattle.laws.specs.Judged.{WellFormed, invariant}
+use Rattle.laws.specs.Chain.{Page}
+use Rattle.laws.specs.Uses.{proc-page}
+use Rattle.laws.specs.Places.{in-free, in-q, grant-high, all-pages, wait-page}
+use Rattle.laws.specs.Inv.{View, view, Base}
+use Rattle.laws.specs.Judged.{WellFormed}
 use Rattle.laws.specs.Frames.{other, base-kept}
 use Rattle.laws.specs.Words.{Small}
-use Rattle.laws.specs.Stores.{sem-mem}
-use Rattle.laws.specs.Cells.{chain0, join-frame, leave-frame, grant-mem}
-use Rattle.laws.specs.Changes.{hand-page, page-sem}
-use Rattle.laws.specs.Hands.{in-hand, hand-new, take-mail}
-use Rattle.laws.specs.Grants.{give-back, waiter-proc, sep-G, give-frame}
-use Rattle.laws.specs.Who.{running-at, running-in, Busy, busy}
+use Rattle.laws.specs.Cells.{leave-frame}
+use Rattle.laws.specs.Changes.{hand-page}
+use Rattle.laws.specs.Hands.{in-hand, take-mail}
+use Rattle.laws.specs.Grants.{give-back, give-frame}
+use Rattle.laws.specs.Who.{running-at, Busy, busy}
 use Rattle.laws.specs.Mails.{mail-queue, out-kept, clear-at}
 use Rattle.history.specs.Letter.{Letter, mailOf, words, letter-sized}
 use Rattle.history.specs.Put.{Log, Mailed, nothing, reading, rmeMail}

@@ -18,7 +18,7 @@ use Rattle.laws.specs.Count.{hit-self, hit-other}
 use Rattle.laws.specs.Chain.{Page}
 use Rattle.laws.specs.Uses.{proc-page}
 use Rattle.laws.specs.Inv.{View, view, bearers, Base}
-use Rattle.laws.specs.Judged.{WellFormed, invariant, each-ext}
+use Rattle.laws.specs.Judged.{WellFormed, each-ext}
 use Rattle.laws.specs.Frames.{other, Only, only-refl, only-set, only-zeroed}
 use Rattle.laws.specs.Views.{put1-same, put1-other, retold}
 use Rattle.laws.specs.Changes.{hand-page, hand-out}
@@ -27,7 +27,7 @@ use Rattle.laws.specs.Grants.{Any, any-of, Takes, take-page}
 use Rattle.laws.specs.Grants.Takes.{gets, lacks}
 use Rattle.laws.specs.Grow.{grow-base}
 use Rattle.laws.specs.Start.{zeroed-size, zeroed-in}
-use Rattle.laws.specs.Who.{running-in, listed, Busy, busy}
+use Rattle.laws.specs.Who.{listed, Busy, busy}
 use Rattle.laws.specs.Ends.{Fine, done-fine}
 use Rattle.laws.specs.Simple.{fails}
 use Rattle.laws.specs.Mails.{first-none, waits-for-page}

@@ -20,8 +20,8 @@ use Rattle.laws.specs.Chain.{Page, Chain, NoDup, chain-move, chain-leave
 use Rattle.laws.specs.Queues.{upd-same}
 use Rattle.laws.specs.Heads.{one-le, short}
 use Rattle.laws.specs.Uses.{proc-page}
-use Rattle.laws.specs.Inv.{View, view, Message, Facts, Base, Inv}
-use Rattle.laws.specs.Judged.{WellFormed, invariant}
+use Rattle.laws.specs.Inv.{View, view, Message, Facts, Base}
+use Rattle.laws.specs.Judged.{WellFormed}
 use Rattle.laws.specs.Frames.{other, only-refl, only-set}
 use Rattle.laws.specs.Views.{put1-same, retold}
 use Rattle.laws.specs.Changes.{hand-page}

@@ -20,7 +20,7 @@ use Rattle.laws.specs.Queues.{upd, upd-same}
 use Rattle.laws.specs.Heads.{sum-one, sum-two}
 use Rattle.laws.specs.Uses.{Sep, proc-page, proc-once, list-short}
 use Rattle.laws.specs.Places.{in-queues, int-queue, own-once, q-free, wait-page}
-use Rattle.laws.specs.Inv.{View, view, Clock, Facts, Base, Inv}
+use Rattle.laws.specs.Inv.{View, view, Clock, Facts, Base}
 use Rattle.laws.specs.Judged.{WellFormed, well-formed, invariant}
 use Rattle.laws.specs.Frames.{Kept, kept-refl, kept-set, quiet-word, base-kept}
 use Rattle.laws.specs.Views.{put1, put1-same, put1-other, withReason, withLow}
@@ -29,7 +29,7 @@ use Rattle.laws.specs.Cells.{chain0}
 use Rattle.laws.specs.Changes.{int-sem, facts-low}
 use Rattle.laws.specs.Wake.{wake-base, woken, woken-proc, seat-head, not-procs}
 use Rattle.laws.specs.Grants.{Gave}
-use Rattle.laws.specs.Who.{who-inv, running-in, Busy, busy}
+use Rattle.laws.specs.Who.{who-inv, Busy, busy}
 use Rattle.laws.specs.Ends.{Fine, done-fine, waits-fine, advance-base}
 use Rattle.laws.specs.Simple.{fails}
 

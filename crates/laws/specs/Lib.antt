@@ -39,6 +39,7 @@ pub mod Create
 pub mod Delete
 -- Words of 8 bits; any instruction; the calls
 pub mod Words
+pub mod Each
 pub mod Run
 pub mod Eight
 pub mod Kinds

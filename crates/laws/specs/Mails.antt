@@ -24,8 +24,8 @@ use Rattle.laws.specs.Chain.{Page, Chain, walk-chain, split-at-page}
 use Rattle.laws.specs.Queues.{upd}
 use Rattle.laws.specs.Uses.{proc-page, list-short}
 use Rattle.laws.specs.Places.{in-q, grant-high, all-pages}
-use Rattle.laws.specs.Inv.{View, view, Label, Waits, Base, Inv}
-use Rattle.laws.specs.Judged.{WellFormed, invariant}
+use Rattle.laws.specs.Inv.{View, view, Label, Waits, Base}
+use Rattle.laws.specs.Judged.{WellFormed}
 use Rattle.laws.specs.Frames.{Kept, kept-refl, kept-set, base-kept, Quiet}
 use Rattle.laws.specs.Cells.{chain0}
 use Rattle.laws.specs.Changes.{own-sem, page-sem}
@@ -33,7 +33,7 @@ use Rattle.laws.specs.Hands.{take-mail, give-mail}
 use Rattle.laws.specs.Grants.{Gave, give-back, Takes, take-page}
 use Rattle.laws.specs.Grants.Takes.{gets, lacks}
 use Rattle.laws.specs.Post.{notice-base, message-base}
-use Rattle.laws.specs.Who.{running-at, running-in, label-at, Busy, busy}
+use Rattle.laws.specs.Who.{running-at, label-at, Busy, busy}
 use Rattle.laws.specs.Ends.{Fine, done-fine, jumps-fine, waits-fine}
 use Rattle.laws.specs.Simple.{first-in, named-in, quiet-clear, fails}
 

@@ -6,20 +6,17 @@ use mathlib.Core.List.{List, [], _∷_, _++_}
 use Prim.Native.Nat.{ℕ, _+_, _*_, _/_, _%_, _≤_}
 use native.Mathlib.Omega.{arith}
 use lib.ListN.{length, getD, length-append}
-use borrow.Author.Tests.{ne-eqb}
-use Rattle.model.specs.Page as Page
 use Rattle.model.specs.Bytes.{lists, join, leave, giveBack, deliver, putToWait, wake}
 use Rattle.model.specs.Lists.{count, Lists, some, queues}
 use Rattle.laws.specs.Count.{count-append}
-use Rattle.laws.specs.Chain.{Page}
 use Rattle.laws.specs.Queues.{upd, upd-same, upd-other}
 use Rattle.laws.specs.Uses.{Among, Head, proc-page, list-short}
-use Rattle.laws.specs.Places.{InUses, in-free, in-asking, in-q, in-grant, grant-low, in-queues}
+use Rattle.laws.specs.Places.{InUses, in-free, in-asking, in-q, in-grant, in-queues}
 use Rattle.laws.specs.Inv.{View, Message, Base}
 use Rattle.laws.specs.Wake.{wake-base}
 use Rattle.laws.specs.Waits.{Fit, wait-base}
 use Rattle.laws.specs.Judged.{walked, walked-short}
-use Rattle.laws.specs.Cells.{chain0, join-mem, leave-mem}
+use Rattle.laws.specs.Cells.{join-mem, leave-mem}
 use Rattle.laws.specs.Changes.{uses-upd, uses-sep, hand-page}
 use Rattle.laws.specs.Hands.{in-hand, hand-new, give-free}
 use Rattle.laws.specs.Grants.{waiter-proc, give-grant, some-is, give-is-free, give-is-grant}

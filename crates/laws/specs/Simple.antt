@@ -22,7 +22,7 @@ use Rattle.model.specs.Bytes.{lists, pageOf, isNamed, setCode, setRegistersOf}
 use Rattle.model.specs.Lists.{count, Lists}
 use Rattle.laws.specs.Count.{hit-self, hit-or}
 use Rattle.laws.specs.Uses.{proc-page}
-use Rattle.laws.specs.Inv.{View, view, Codes, Base, Inv}
+use Rattle.laws.specs.Inv.{View, Codes, Base}
 use Rattle.laws.specs.Judged.{WellFormed, well-formed, invariant}
 use Rattle.laws.specs.Frames.{Kept, kept-refl, kept-set, base-kept, Quiet, quiet-low, quiet-mid}
 use Rattle.laws.specs.Views.{put1, put1-same, put1-other, withCode}

@@ -1,35 +1,22 @@
 -- Giving a page back and delivering a message leave the words of every other page in hand as they are. Assumes nothing.
-use mathlib.Core.Path.{_≡_, refl, sym, ap, _∙_}
-use mathlib.Core.Logic.{_≢_, _⊎_, inl, inr}
-use mathlib.Core.Bool.{Bool, true, false}
-use mathlib.Core.List.{List, [], _∷_, _++_}
-use Prim.Native.Nat.{ℕ, zero, suc, _+_, _-_, _*_, _/_, _%_, _≤_, _<_}
+use mathlib.Core.Path.{_≡_, ap}
+use mathlib.Core.Logic.{_≢_}
+use mathlib.Core.List.{List, _∷_}
+use Prim.Native.Nat.{ℕ, _+_, _-_, _*_, _≤_, _<_}
 use native.Mathlib.Omega.{arith}
-use lib.ListN.{getD, set}
-use borrow.Author.Tests.{ne-eqb}
-use Rattle.model.specs.Wait as Wait
-use Rattle.model.specs.Page as Page
-use Rattle.model.specs.Mail as Mail
-use Rattle.model.specs.Mail.{fits}
-use Rattle.model.specs.Bytes.{join, leave, wake, freePage, grantPage, giveBack, deliver}
-use Rattle.model.specs.Lists.{count, Lists, some, queues}
-use Rattle.laws.specs.Count.{hit-self, hit-other, hit-or, count-ne, count-append}
-use Rattle.laws.specs.Chain.{Page, Chain}
-use Rattle.laws.specs.Queues.{upd, upd-same, upd-other}
-use Rattle.laws.specs.Heads.{one-le, Seat, seat-of}
-use Rattle.laws.specs.Heads.Seat.{line, page, own}
-use Rattle.laws.specs.Uses.{Among, Head, Sep, proc-page}
+use lib.ListN.{getD}
+use Rattle.model.specs.Bytes.{giveBack, deliver}
+use Rattle.model.specs.Lists.{count, Lists}
+use Rattle.laws.specs.Count.{hit-self, count-ne}
+use Rattle.laws.specs.Chain.{Page}
+use Rattle.laws.specs.Heads.{one-le}
+use Rattle.laws.specs.Heads.Seat.{page}
+use Rattle.laws.specs.Uses.{Among, Sep}
 use Rattle.laws.specs.Places.{in-free, in-q, wait-page}
-use Rattle.laws.specs.Inv.{View, Message, Mem, Base}
-use Rattle.laws.specs.Frames.{other}
-use Rattle.laws.specs.Stores.{sem-mem}
-use Rattle.laws.specs.Cells.{chain0, join-frame, leave-frame, grant-mem}
-use Rattle.laws.specs.Changes.{hand-page, hand-out, hand-free, page-sem, own-sem}
-use Rattle.laws.specs.Wake.{seat-head, not-procs}
-use Rattle.laws.specs.Hands.{in-hand, hand-new, mail-sep}
+use Rattle.laws.specs.Inv.{View, Message, Base}
+use Rattle.laws.specs.Changes.{hand-page, hand-out, hand-free}
 use Rattle.laws.specs.Grants.{give-frame}
 use Rattle.laws.specs.Post.{deliver-frame}
-use Rattle.laws.specs.Members.{head-off}
 
 -- page y is no processor's and in no list
 pub record Aside (ps : List ℕ) (L : Lists) (y : ℕ) : Type 0 where
