@@ -34,13 +34,14 @@ use Rattle.laws.specs.Grants.Takes.{gets, lacks}
 use Rattle.laws.specs.Still.{aside-hand}
 use Rattle.laws.specs.Who.{listed, Busy, busy}
 use Rattle.laws.specs.Create.{made, z, headed-is, only, below, created-base, nobody}
+use Rattle.laws.specs.Simple.{Open}
 use Rattle.history.specs.Letter.{Same, Posts, posts, posts-on, posts-then, agrees, waitingFor, waits-same}
 use Rattle.history.specs.Letter.{procs-same}
 use Rattle.history.specs.Letter.Mine.{page}
 use Rattle.history.specs.Put.{nothing}
 use Rattle.history.specs.Calm.{calm-refl, calm-low, calm-take, calm-only, mine-high, mine-hand, mine-proc}
 use Rattle.history.specs.Told.{Told, of-none, told-same, calm-done, calm-waits, runs-in}
-use Rattle.history.specs.Quiet.{fails, Open}
+use Rattle.history.specs.Quiet.{fails}
 
 -- ---- a page taken
 unfoldable pub left : Taken (List ℕ) → List ℕ

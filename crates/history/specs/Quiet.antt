@@ -27,7 +27,7 @@ use Rattle.laws.specs.Changes.{int-sem}
 use Rattle.laws.specs.Who.{running-at, Busy, busy}
 use Rattle.laws.specs.Ends.{advance-base}
 use Rattle.laws.specs.Words.{either}
-use Rattle.laws.specs.Simple.{pick, named-in}
+use Rattle.laws.specs.Simple.{pick, named-in, clear-open}
 use Rattle.laws.specs.Interrupts.{serve-base}
 use Rattle.history.specs.Letter.{Same, same-on}
 use Rattle.history.specs.Calm.{calm-refl, calm-low, calm-proc, calm-run, calm-lr}
@@ -36,41 +36,7 @@ use Rattle.history.specs.Clocks.{calm-serve}
 
 -- ---- instructions, of a well-formed memory where someone runs
 pub clear-far : (a : ℕ) → guarded a ≡ false → (a < 7552) × (a ≢ 247)
-unfolding Address.guarded
-clear-far a h = go (ltb a 16) (ltb a 128) (ltb a 352) (leb 7552 a) refl refl refl refl
-  where
-    go : (x y z t : Bool) → ltb a 16 ≡ x → ltb a 128 ≡ y → ltb a 352 ≡ z → leb 7552 a ≡ t → (a < 7552) × (a ≢ 247)
-    go true y z t e f i j = let c = rw e at h in let k : _≡_ {A = ℕ} 0 1 = cc in absurd (omega arith)
-    go false true z t e f i j = let l = ltb-true a 128 f in (omega arith, omega arith)
-    go false false true t e f i j = let c = rw (e, f, i) at h in let k : _≡_ {A = ℕ} 0 1 = cc in absurd (omega arith)
-    go false false false true e f i j = let c = rw (e, f, i, j) at h in let k : _≡_ {A = ℕ} 0 1 = cc in absurd (omega arith)
-    go false false false false e f i j =
-        let l = ltb-false a 352 i in
-        let u = leb-false 7552 a j in
-        (omega arith, omega arith)
-
--- where an unprotected word stands
-pub record Open (a : ℕ) : Type 0 where
-  pub above : 16 ≤ a
-  pub below : a < 7552
-  pub between : (b : ℕ) → 128 ≤ b → b < 352 → a ≢ b
-
-pub clear-open : (a : ℕ) → guarded a ≡ false → Open a
-unfolding Address.guarded
-clear-open a h = go (ltb a 16) (ltb a 128) (ltb a 352) (leb 7552 a) refl refl refl refl
-  where
-    go : (x y z t : Bool) → ltb a 16 ≡ x → ltb a 128 ≡ y → ltb a 352 ≡ z → leb 7552 a ≡ t → Open a
-    go true y z t e f i j = let c = rw e at h in let k : _≡_ {A = ℕ} 0 1 = cc in absurd (omega arith)
-    go false true z t e f i j =
-        let l = ltb-false a 16 e in
-        let u = ltb-true a 128 f in
-        record { above = omega arith; below = omega arith; between = λ b c d. omega arith }
-    go false false true t e f i j = let c = rw (e, f, i) at h in let k : _≡_ {A = ℕ} 0 1 = cc in absurd (omega arith)
-    go false false false true e f i j = let c = rw (e, f, i, j) at h in let k : _≡_ {A = ℕ} 0 1 = cc in absurd (omega arith)
-    go false false false false e f i j =
-        let l = ltb-false a 352 i in
-        let u = leb-false 7552 a j in
-        record { above = omega arith; below = omega arith; between = λ b c d. omega arith }
+clear-far a h = let o = clear-open a h in (o .below, o .between 247 (omega arith) (omega arith))
 
 module _ {m : List ℕ} (w : WellFormed m) (d : getD m 248 0 ≢ 0) where
   open Busy (busy w d) using (base as b, runs as hr, ready)
@@ -209,8 +175,7 @@ module _ {m : List ℕ} (w : WellFormed m) (d : getD m 248 0 ≢ 0) where
   free a v x g n h = let t = clear-far a g in (same-on (h .0) (calm-low s x a v (t .0) (t .1)), other x a v 248 (λ e. n (sym e)) ∙ h .1)
 
   not-running : (a : ℕ) → guarded a ≡ false → a ≢ 248
-  unfolding Address.guarded
-  not-running a h e = let c : guarded 248 ≡ false = rw e at h in let k : _≡_ {A = ℕ} 0 1 = cc in omega arith
+  not-running a h = clear-open a h .between 248 (omega arith) (omega arith)
 
   worked-both : (o a : ℕ) → guarded a ≡ false → Both (Model.worked m o a)
   unfolding Operate.worked Operate.adds Operate.storesA Operate.ands Operate.increments

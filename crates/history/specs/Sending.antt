@@ -34,13 +34,13 @@ use Rattle.laws.specs.Still.{aside-hand}
 use Rattle.laws.specs.Post.{deliver-all, two, word1, word2, copy-below}
 use Rattle.laws.specs.Who.{running-at, listed, label-at, Busy, busy}
 use Rattle.laws.specs.Mails.{clear-at}
-use Rattle.laws.specs.Simple.{named-in}
+use Rattle.laws.specs.Simple.{named-in, Open, clear-open}
 use Rattle.history.specs.Order.{only}
 use Rattle.history.specs.Letter.{Letter, mailOf, words, key, waitingFor, Same, posts, posts-then, agrees, waits-same, procs-same}
 use Rattle.history.specs.Put.{Mailed, of, nothing, putting, noticeFrom, posting, hasPage, smeMail}
 use Rattle.history.specs.Calm.{calm-only}
 use Rattle.history.specs.Told.{Told, Stands, of-none, of-here, of-other, stands-none, told-same, calm-done, runs-in}
-use Rattle.history.specs.Quiet.{fails, Open, clear-open}
+use Rattle.history.specs.Quiet.{fails}
 use Rattle.history.specs.Making.{calm-takes, takes-word, page-waits}
 use Rattle.history.specs.Delivering.{held, held-same, delivered-last, delivered-here, delivered-away}
 use Rattle.history.specs.Copied.{copy-at, words-moved}

@@ -34,9 +34,9 @@ use Rattle.laws.specs.Hands.{in-hand, take-mail}
 use Rattle.laws.specs.Grants.{give-back, give-frame}
 use Rattle.laws.specs.Who.{running-at, Busy, busy}
 use Rattle.laws.specs.Mails.{mail-queue, out-kept, clear-at}
+use Rattle.laws.specs.Simple.{Open, clear-open}
 use Rattle.history.specs.Letter.{Letter, mailOf, words, letter-sized}
 use Rattle.history.specs.Put.{Log, Mailed, nothing, reading, rmeMail}
-use Rattle.history.specs.Quiet.{Open, clear-open}
 use Rattle.history.specs.Tests.{Found, found}
 use Rattle.history.specs.Reading.{copy-far}
 use Rattle.history.specs.Copied.{copy-at, words-at}

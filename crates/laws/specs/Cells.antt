@@ -9,7 +9,7 @@ use lib.Seq.{getD-set-same}
 use Rattle.model.specs.Bytes.{join, leave}
 use Rattle.model.specs.Lists.{count, Lists, some, linkOf, isGrant}
 use Rattle.laws.specs.Count.{hit-self, hit-or, count-append, zero-or}
-use Rattle.laws.specs.Chain.{Page, Chain, chain-move, last, last-in, join-is, leave-is, off-page}
+use Rattle.laws.specs.Chain.{Page, Chain, chain-move, last, last-in, last-not, join-is, leave-is, off-page}
 use Rattle.laws.specs.Queues.{upd, upd-same, upd-other, link-le, link-procs, link-other, rep-join, rep-leave}
 use Rattle.laws.specs.Heads.{Place, Seat, seat-of}
 use Rattle.laws.specs.Heads.Place.{int, three, grant, slot}
@@ -101,17 +101,7 @@ module _ {m : List ℕ} {ps : List ℕ} {L : Lists} {W : View} (s : Sep ps L) (x
   not-grant k h e = let z : _≡_ {A = ℕ} 0 1 = cc (ha .1, grant-is k h, ap isGrant e) in omega arith
 
   last-grant : (xs : List ℕ) → ((z : ℕ) → 1 ≤ count z xs → 1 ≤ count z (L a)) → (k : ℕ) → k < 32 → 320 + k ≢ last 0 a xs
-  last-grant [] f k h = λ e. not-grant k h (sym e)
-  last-grant (y ∷ ys) f k h =
-      let r = last-in 0 a y ys in
-      let g = all-pages s a (r .0) (ha .0) (f (r .0) (r .1)) in
-      rw (r .2) (omega arith)
-
-  -- a word that is neither the header nor a link of the list
-  last-far : (xs : List ℕ) → ((z : ℕ) → 1 ≤ count z xs → 1 ≤ count z (L a)) → (b : ℕ) → b ≢ a → ((z : ℕ) → 1 ≤ count z (L a) → b ≢ z * 32 + 0)
-      → b ≢ last 0 a xs
-  last-far [] f b n o = n
-  last-far (y ∷ ys) f b n o = let r = last-in 0 a y ys in rw (r .2) (o (r .0) (f (r .0) (r .1)))
+  last-grant xs f k h = last-not 0 a xs (320 + k) (λ e. not-grant k h (sym e)) (λ z i. let g = all-pages s a z (ha .0) (f z i) in omega arith)
 
   module _ (p : ℕ) (g : Page p) (new : (b : ℕ) → Head ps b → b ≢ 247 → count p (L b) ≡ 0) where
     join-eq : join m a 0 p ≡ set (set m (p * 32 + 0) 0) (last 0 a (L a)) p
@@ -140,7 +130,7 @@ module _ {m : List ℕ} {ps : List ℕ} {L : Lists} {W : View} (s : Sep ps L) (x
 
     pub join-frame : (b : ℕ) → b ≢ a → ((z : ℕ) → 1 ≤ count z (L a) → b ≢ z * 32 + 0) → b ≢ p * 32 + 0 → getD (join m a 0 p) b 0 ≡ getD m b 0
     join-frame b n o d =
-        rw join-eq (other (set m (p * 32 + 0) 0) (last 0 a (L a)) p b (last-far (L a) (λ z i. i) b n o) ∙ other m (p * 32 + 0) 0 b d)
+        rw join-eq (other (set m (p * 32 + 0) 0) (last 0 a (L a)) p b (last-not 0 a (L a) b n o) ∙ other m (p * 32 + 0) 0 b d)
 
   module _ (p : ℕ) (xs ys : List ℕ) (e : L a ≡ xs ++ p ∷ ys) where
     part : (z : ℕ) → 1 ≤ count z xs → 1 ≤ count z (L a)
@@ -177,7 +167,7 @@ module _ {m : List ℕ} {ps : List ℕ} {L : Lists} {W : View} (s : Sep ps L) (x
     pub leave-frame : (b : ℕ) → b ≢ a → ((z : ℕ) → 1 ≤ count z (L a) → b ≢ z * 32 + 0) → getD (leave m a 0 p) b 0 ≡ getD m b 0
     leave-frame b n o =
         rw leave-eq (other (set m (last 0 a xs) (getD m (p * 32 + 0) 0)) (p * 32 + 0) 0 b (o p left-in)
-        ∙ other m (last 0 a xs) (getD m (p * 32 + 0) 0) b (last-far xs part b n o))
+        ∙ other m (last 0 a xs) (getD m (p * 32 + 0) 0) b (last-not 0 a xs b n (λ z i. o z (part z i))))
 
 -- ---- a word of page 10
 pub grant-mem : {m : List ℕ} {ps : List ℕ} {L : Lists} {W : View} (k q : ℕ) → k < 32 → Sep ps L → Mem m ps L W

@@ -102,6 +102,11 @@ pub last-in : (k a : ℕ) (x : ℕ) (xs : List ℕ) → (z : ℕ) × (1 ≤ coun
 last-in k a x [] = (x, omega (arith, hit-self x), refl)
 last-in k a x (y ∷ ys) = let r = last-in k (x * 32 + k) y ys in (r .0, omega (arith, r .1), r .2)
 
+-- a word that is neither the header nor a link of the list is not the one that ends it
+pub last-not : (k a : ℕ) (xs : List ℕ) (b : ℕ) → b ≢ a → ((z : ℕ) → 1 ≤ count z xs → b ≢ z * 32 + k) → b ≢ last k a xs
+last-not k a [] b n o = n
+last-not k a (y ∷ ys) b n o = let r = last-in k a y ys in rw (r .2) (o (r .0) (r .1))
+
 abbrev pub NoDup : List ℕ → Type 0
 NoDup xs = (z : ℕ) → count z xs ≤ 1
 

@@ -18,7 +18,7 @@ use Rattle.laws.specs.Heads.Place.{int, three, grant, slot}
 use Rattle.laws.specs.Heads.Seat.{line, page, own}
 use Rattle.laws.specs.Uses.{Among, Head, head-place, Sep, proc-page}
 use Rattle.laws.specs.Places.{in-grant, all-pages}
-use Rattle.laws.specs.Inv.{View, Holds, Mem, Base, Inv}
+use Rattle.laws.specs.Inv.{View, Fixed, Holds, Mem, Base, Inv}
 use Rattle.laws.specs.Judged.{WellFormed, well-formed, invariant}
 
 -- a store elsewhere
@@ -38,6 +38,24 @@ holds-kept m m′ ps L s heads zeros ones h = record {
     go a i x c (inl e) = rw (e, link-procs) (ones x (rw (e, s .procs) at c))
     go a i x c (inr n) = rw (link-other a n) (zeros a x (i .0) n c)
 
+-- ---- the counters, the words of who runs, pages 8 and 9
+pub fixed-same : {m m′ : List ℕ} {l c : ℕ → ℕ} {n : ℕ} {e : ℕ → ℕ} → ((a : ℕ) → 239 ≤ a → a ≤ 243 → getD m′ a 0 ≡ getD m a 0)
+    → ((a : ℕ) → 248 ≤ a → a ≤ 251 → getD m′ a 0 ≡ getD m a 0) → ((a : ℕ) → 256 ≤ a → a < 320 → getD m′ a 0 ≡ getD m a 0) → Fixed m l c n e → Fixed m′ l c n e
+fixed-same clock turn rest f = record {
+  clock = λ a h i. clock a h i ∙ f .clock a h i;
+  turn = λ a h i. turn a h i ∙ f .turn a h i;
+  code = λ k h. rest (256 + 2 * k) (omega arith) (omega arith) ∙ f .code k h;
+  next = rest 288 (omega arith) (omega arith) ∙ f .next;
+  entry = λ i h. rest (289 + i) (omega arith) (omega arith) ∙ f .entry i h;
+}
+
+-- ---- the semaphores
+pub seat-same : (m m′ : List ℕ) {ps : List ℕ} → ((a : ℕ) → 131 ≤ a → a ≤ 245 → getD m′ a 0 ≡ getD m a 0)
+    → ((p : ℕ) → 1 ≤ count p ps → getD m′ (p * 32 + 3) 0 ≡ getD m (p * 32 + 3) 0) → (a : ℕ) → Seat ps a → getD m′ a 0 ≡ getD m a 0
+seat-same m m′ low page-3 a (line k u e) = low a (omega arith) (omega arith)
+seat-same m m′ low page-3 a (page e) = low a (omega arith) (omega arith)
+seat-same m m′ low page-3 a (own p u e) = rw e (page-3 p u)
+
 -- ---- the judged words stay
 pub record Kept (m m′ : List ℕ) : Type 0 where
   pub size : length m′ ≡ length m
@@ -56,17 +74,11 @@ module _ {m m′ : List ℕ} (k : Kept m m′) where
       go (slot t) = rw (t .is) (k .words (t .page) (t .word) (proc-page s (t .page) (t .proc)) (omega arith))
 
   kept-sems : {ps : List ℕ} {L : Lists} → Sep ps L → (a : ℕ) → 1 ≤ count (a + 1) (queues ps) → getD m′ a 0 ≡ getD m a 0
-  kept-sems {ps} s a h = go (seat-of ps a h)
-    where
-      go : Seat ps a → getD m′ a 0 ≡ getD m a 0
-      go (line n u e) = k .fixed a (omega arith) (omega arith)
-      go (page e) = k .fixed a (omega arith) (omega arith)
-      go (own p u e) = rw e (k .words p 3 (proc-page s p u) (omega arith))
+  kept-sems {ps} s a h = seat-same m m′ (λ a i j. k .fixed a (omega arith) (omega arith)) (λ p u. k .words p 3 (proc-page s p u) (omega arith)) a (seat-of ps a h)
 
   pub mem-kept : {ps : List ℕ} {L : Lists} {W : View} → Sep ps L → Mem m ps L W → Mem m′ ps L W
   mem-kept {ps} {L} {W} s x =
       let p = x .reads .words in
-      let f = x .reads .fixed in
       record {
         size = k .size ∙ x .size;
         holds = holds-kept m m′ ps L s (kept-heads s) (λ a y h n c. k .words y 0 (all-pages s a y h c) (omega arith))
@@ -78,13 +90,8 @@ module _ {m m′ : List ℕ} (k : Kept m m′) where
             label = λ y h. k .words y 7 h (omega arith) ∙ p .label y h;
             state = λ y h. k .state y h ∙ p .state y h;
           };
-          fixed = record {
-            clock = λ a h i. k .fixed a (omega arith) (omega arith) ∙ f .clock a h i;
-            turn = λ a h i. k .fixed a (omega arith) (omega arith) ∙ f .turn a h i;
-            code = λ i h. k .fixed (256 + 2 * i) (omega arith) (omega arith) ∙ f .code i h;
-            next = k .fixed 288 (omega arith) (omega arith) ∙ f .next;
-            entry = λ i h. k .fixed (289 + i) (omega arith) (omega arith) ∙ f .entry i h;
-          };
+          fixed = fixed-same (λ a h i. k .fixed a (omega arith) (omega arith)) (λ a h i. k .fixed a (omega arith) (omega arith))
+              (λ a h i. k .fixed a (omega arith) (omega arith)) (x .reads .fixed);
           sems = λ a h. kept-sems s a h ∙ x .reads .sems a h;
         };
       }
@@ -117,9 +124,6 @@ kept-set {m} {m′} b v q k = record {
 
 pub quiet-low : (b : ℕ) → b < 128 → Quiet b
 quiet-low b u = record { fixed = λ a i j. omega arith; words = λ p j h i. omega arith; state = λ p h. omega arith }
-
-pub quiet-mid : (b : ℕ) → 352 ≤ b → b < 7552 → Quiet b
-quiet-mid b u v = record { fixed = λ a i j. omega arith; words = λ p j h i. omega arith; state = λ p h. omega arith }
 
 pub quiet-word : (q w b : ℕ) → Page q → 8 ≤ w → w < 32 → w ≢ 12 → b ≡ q * 32 + w → Quiet b
 quiet-word q w b g l u n e = record { fixed = λ a i j. omega arith; words = λ p j h i. omega arith; state = λ p h. omega arith }

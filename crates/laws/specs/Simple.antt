@@ -1,5 +1,5 @@
 -- Instructions: CVI, DVI, ST1, STP, ST2 and code 13 leave a well-formed memory, and so does setting registers. Assumes nothing.
-use mathlib.Core.Path.{_≡_, refl, ap}
+use mathlib.Core.Path.{sym, _≡_, refl, ap}
 use mathlib.Core.Logic.{_≢_, _⊎_, inl, inr}
 use mathlib.Core.Bool.{Bool, true, false}
 use mathlib.Core.List.{List, [], _∷_}
@@ -24,7 +24,7 @@ use Rattle.laws.specs.Count.{hit-self, hit-or}
 use Rattle.laws.specs.Uses.{proc-page}
 use Rattle.laws.specs.Inv.{View, Codes, Base}
 use Rattle.laws.specs.Judged.{WellFormed, well-formed, invariant}
-use Rattle.laws.specs.Frames.{Kept, kept-refl, kept-set, base-kept, Quiet, quiet-low, quiet-mid}
+use Rattle.laws.specs.Frames.{Kept, kept-refl, kept-set, base-kept, Quiet, quiet-low}
 use Rattle.laws.specs.Views.{put1, put1-same, put1-other, withCode}
 use Rattle.laws.specs.Stores.{code-mem}
 use Rattle.laws.specs.Changes.{facts-code}
@@ -57,19 +57,35 @@ module _ {m : List ℕ} {ps : List ℕ} {L : Lists} {W : View} {hs : List ℕ} {
   named-in n h = let l = listed b in rw l (first-in (isNamed m n) ps (rw l at h) .0)
 
 -- ---- what an instruction may write
-pub quiet-clear : (a : ℕ) → guarded a ≡ false → Quiet a
+-- where an unprotected word stands
+pub record Open (a : ℕ) : Type 0 where
+  pub above : 16 ≤ a
+  pub below : a < 7552
+  pub between : (b : ℕ) → 128 ≤ b → b < 352 → a ≢ b
+
+pub clear-open : (a : ℕ) → guarded a ≡ false → Open a
 unfolding Address.guarded
-quiet-clear a h = go (ltb a 16) (ltb a 128) (ltb a 352) (leb 7552 a) refl refl refl refl
+clear-open a h = go (ltb a 16) (ltb a 128) (ltb a 352) (leb 7552 a) refl refl refl refl
   where
-    go : (x y z t : Bool) → ltb a 16 ≡ x → ltb a 128 ≡ y → ltb a 352 ≡ z → leb 7552 a ≡ t → Quiet a
+    go : (x y z t : Bool) → ltb a 16 ≡ x → ltb a 128 ≡ y → ltb a 352 ≡ z → leb 7552 a ≡ t → Open a
     go true y z t e f i j = let c = rw e at h in let k : _≡_ {A = ℕ} 0 1 = cc in absurd (omega arith)
-    go false true z t e f i j = let l = ltb-true a 128 f in quiet-low a (omega arith)
+    go false true z t e f i j =
+        let l = ltb-false a 16 e in
+        let u = ltb-true a 128 f in
+        record { above = omega arith; below = omega arith; between = λ b c d. omega arith }
     go false false true t e f i j = let c = rw (e, f, i) at h in let k : _≡_ {A = ℕ} 0 1 = cc in absurd (omega arith)
     go false false false true e f i j = let c = rw (e, f, i, j) at h in let k : _≡_ {A = ℕ} 0 1 = cc in absurd (omega arith)
     go false false false false e f i j =
         let l = ltb-false a 352 i in
         let u = leb-false 7552 a j in
-        quiet-mid a (omega arith) (omega arith)
+        record { above = omega arith; below = omega arith; between = λ b c d. omega arith }
+
+pub quiet-clear : (a : ℕ) → guarded a ≡ false → Quiet a
+quiet-clear a h = let o = clear-open a h in record {
+  fixed = λ b i j e. o .between b i j (sym e);
+  words = λ p j k i. omega (arith, o .below);
+  state = λ p k. omega (arith, o .below);
+}
 
 -- ---- page 8
 codes-put : (c : ℕ → ℕ) (k v : ℕ) → 2 ≤ k → v / 32 ≤ 2 → v / 32 ≢ 1 → Codes c → Codes (put1 c k v)

@@ -18,7 +18,7 @@ use Rattle.laws.specs.Heads.Seat.{line, page, own}
 use Rattle.laws.specs.Uses.{Among, head-place, Sep, proc-page}
 use Rattle.laws.specs.Places.{all-pages}
 use Rattle.laws.specs.Inv.{View, Col, Words, Fixed, Holds, Mem}
-use Rattle.laws.specs.Frames.{other, holds-kept, Only}
+use Rattle.laws.specs.Frames.{other, holds-kept, Only, fixed-same, seat-same}
 use Rattle.laws.specs.Views.{put1, put1-same, put1-other, withWords, withRest, withState, withReason, withSem, withLow, withCode, withEntry, retold}
 
 -- ---- one store
@@ -109,13 +109,8 @@ words-low b v g f = words-off b v (λ p h. omega arith) (λ p h. omega arith) (�
 
 pub fixed-off : {m : List ℕ} (b v : ℕ) {l c : ℕ → ℕ} {n : ℕ} {e : ℕ → ℕ} → ((a : ℕ) → 239 ≤ a → a ≤ 243 → a ≢ b) → ((a : ℕ) → 248 ≤ a → a ≤ 251 → a ≢ b)
     → ((a : ℕ) → 256 ≤ a → a < 320 → a ≢ b) → Fixed m l c n e → Fixed (set m b v) l c n e
-fixed-off {m} b v clock turn rest f = record {
-  clock = λ a h i. other m b v a (clock a h i) ∙ f .clock a h i;
-  turn = λ a h i. other m b v a (turn a h i) ∙ f .turn a h i;
-  code = λ k h. other m b v (256 + 2 * k) (rest (256 + 2 * k) (omega arith) (omega arith)) ∙ f .code k h;
-  next = other m b v 288 (rest 288 (omega arith) (omega arith)) ∙ f .next;
-  entry = λ i h. other m b v (289 + i) (rest (289 + i) (omega arith) (omega arith)) ∙ f .entry i h;
-}
+fixed-off {m} b v clock turn rest f =
+    fixed-same (λ a h i. other m b v a (clock a h i)) (λ a h i. other m b v a (turn a h i)) (λ a h i. other m b v a (rest a h i)) f
 
 module _ {m : List ℕ} {ps : List ℕ} {L : Lists} {W : View} (s : Sep ps L) (x : Mem m ps L W) where
   sems-off : (b v : ℕ) → Deaf b → (a : ℕ) → 1 ≤ count (a + 1) (queues ps) → getD (set m b v) a 0 ≡ W .sem a
@@ -295,7 +290,6 @@ module _ {m m′ : List ℕ} {q : ℕ} (o : Only q m m′) (g : Page q) {ps : Li
   pub hand-mem : Mem m′ ps L (retold m′ W q)
   hand-mem =
       let p = x .reads .words in
-      let f = x .reads .fixed in
       record {
         size = o .size ∙ x .size;
         holds = holds-kept m m′ ps L s (λ a h. head a (head-place ps a h)) (λ a y h n c. only-word o y 0 (λ e. link a y h c e) (omega arith))
@@ -307,14 +301,9 @@ module _ {m m′ : List ℕ} {q : ℕ} (o : Only q m m′) (g : Page q) {ps : Li
             label = col-retold 7 (W .label) (omega arith) (p .label);
             state = col-retold 12 (W .state) (omega arith) (p .state);
           };
-          fixed = record {
-            clock = λ a h i. o .below a (omega arith) ∙ f .clock a h i;
-            turn = λ a h i. o .below a (omega arith) ∙ f .turn a h i;
-            code = λ k h. o .below (256 + 2 * k) (omega arith) ∙ f .code k h;
-            next = o .below 288 (omega arith) ∙ f .next;
-            entry = λ i h. o .below (289 + i) (omega arith) ∙ f .entry i h;
-          };
-          sems = λ a h. sem a (seat-of ps a h) ∙ x .reads .sems a h;
+          fixed = fixed-same (λ a h i. o .below a (omega arith)) (λ a h i. o .below a (omega arith)) (λ a h i. o .below a (omega arith)) (x .reads .fixed);
+          sems = λ a h.
+              seat-same m m′ (λ a i j. o .below a (omega arith)) (λ p u. only-word o p 3 (not-q p u) (omega arith)) a (seat-of ps a h) ∙ x .reads .sems a h;
         };
       }
     where
@@ -330,8 +319,3 @@ module _ {m m′ : List ℕ} {q : ℕ} (o : Only q m m′) (g : Page q) {ps : Li
       note : (y : ℕ) → Page y → count y ps ≡ 0 → (y ≡ q) ⊎ (y ≢ q) → getD m′ (y * 32 + 1) 0 ≡ put1 (W .note) q (getD m′ (q * 32 + 1) 0) y
       note y h n (inl e) = rw (put1-same (W .note) q (getD m′ (q * 32 + 1) 0) y e, e)
       note y h n (inr d) = rw (put1-other (W .note) q (getD m′ (q * 32 + 1) 0) y d) (only-word o y 1 d (omega arith) ∙ x .reads .words .note y h n)
-
-      sem : (a : ℕ) → Seat ps a → getD m′ a 0 ≡ getD m a 0
-      sem a (line k u e) = o .below a (omega arith)
-      sem a (page e) = o .below a (omega arith)
-      sem a (own p u e) = rw e (only-word o p 3 (not-q p u) (omega arith))

@@ -10,7 +10,7 @@ use lib.ListN.{length, getD, set, length-append}
 use lib.Dec.{eqb}
 use Rattle.model.specs.Map.{less}
 use Rattle.model.specs.Wait as Wait
-use Rattle.model.specs.Bytes.{leave, wake}
+use Rattle.model.specs.Bytes.{unqueue, wake}
 use Rattle.model.specs.Lists.{hit, count, Lists, sum, uses, queues, isGrant}
 use Rattle.laws.specs.Count.{hit-self, hit-other, hit-or, count-append}
 use Rattle.laws.specs.Chain.{Page}
@@ -213,15 +213,18 @@ wake-base {m} {ps} {L} {W} a p xs ys b h e =
       all = λ z. omega (arith, sum-skip z L (a + 1) (xs ++ ys) (uses ps) (queue-once s a h .away), b .all z);
     }
 
--- what else it leaves: all but the semaphore and the header, the links of the queue, and words 2 and 12 of the one that wakes
-pub wake-frame : {m : List ℕ} {ps : List ℕ} {L : Lists} {W : View} (s : Sep ps L) → Mem m ps L W → (a p : ℕ) (xs ys : List ℕ) → 1 ≤ count (a + 1) (queues ps)
-    → L (a + 1) ≡ xs ++ p ∷ ys → (c : ℕ) → c ≢ a → c ≢ a + 1 → ((z : ℕ) → 1 ≤ count z (L (a + 1)) → c ≢ z * 32 + 0) → c ≢ p * 32 + 2 → c ≢ p * 32 + 12
-    → getD (wake m a p) c 0 ≡ getD m c 0
-unfolding Wait.wake Wait.unqueue
-wake-frame {m} s x a p xs ys h e c na nh nl n2 n12 =
-    let v = (getD m a 0 + 1) % 256 in
-    let m1 = set m a v in
-    let m2 = leave m1 (a + 1) 0 p in
-    let t = getD m2 (p * 32 + 12) 0 / 128 * 128 + getD m2 (p * 32 + 12) 0 % 64 in
-    other (set m2 (p * 32 + 12) t) (p * 32 + 2) 0 c n2 ∙ other m2 (p * 32 + 12) t c n12
-    ∙ leave-frame s (sem-mem s x a v h) (a + 1) (seat-head s a h) (λ d. not-procs s a h (sym d)) p xs ys e c nh nl ∙ other m a v c na
+-- which words stay: all but the semaphore and the header, the links of the queue, and of the one that wakes words 2 and 12
+module _ {m : List ℕ} {ps : List ℕ} {L : Lists} {W : View} (s : Sep ps L) (x : Mem m ps L W) (a p : ℕ) (xs ys : List ℕ) (h : 1 ≤ count (a + 1) (queues ps))
+    (e : L (a + 1) ≡ xs ++ p ∷ ys) (c : ℕ) (na : c ≢ a) (nh : c ≢ a + 1) (nl : (z : ℕ) → 1 ≤ count z (L (a + 1)) → c ≢ z * 32 + 0) where
+  pub unqueue-frame : getD (unqueue m a p) c 0 ≡ getD m c 0
+  unfolding Wait.unqueue
+  unqueue-frame =
+      let v = (getD m a 0 + 1) % 256 in
+      leave-frame s (sem-mem s x a v h) (a + 1) (seat-head s a h) (λ d. not-procs s a h (sym d)) p xs ys e c nh nl ∙ other m a v c na
+
+  pub wake-frame : c ≢ p * 32 + 2 → c ≢ p * 32 + 12 → getD (wake m a p) c 0 ≡ getD m c 0
+  unfolding Wait.wake
+  wake-frame n2 n12 =
+      let m2 = unqueue m a p in
+      let t = getD m2 (p * 32 + 12) 0 / 128 * 128 + getD m2 (p * 32 + 12) 0 % 64 in
+      other (set m2 (p * 32 + 12) t) (p * 32 + 2) 0 c n2 ∙ other m2 (p * 32 + 12) t c n12 ∙ unqueue-frame
