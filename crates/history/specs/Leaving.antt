@@ -16,7 +16,7 @@ use Rattle.model.specs.Delete as Delete
 use Rattle.model.specs.Bytes.{leave, isNamed, processors, queued, seat, leaveWait, unlisted}
 use Rattle.model.specs.Lists.{count, Lists}
 use Rattle.laws.specs.Count.{hit-or, count-append}
-use Rattle.laws.specs.Chain.{Page, walk-chain, split-at-page}
+use Rattle.laws.specs.Chain.{Page, walk-chain, split-at-page, Chain}
 use Rattle.laws.specs.Queues.{upd, upd-same, link-procs}
 use Rattle.laws.specs.Uses.{Sep, proc-page, list-short}
 use Rattle.laws.specs.Places.{in-procs, grant-low}
@@ -24,7 +24,7 @@ use Rattle.laws.specs.Inv.{View, Mem, Base}
 use Rattle.laws.specs.Views.{put1, withWords}
 use Rattle.laws.specs.Stores.{sem-mem}
 use Rattle.laws.specs.Cells.{leave-mem, leave-frame}
-use Rattle.laws.specs.Wake.{seat-head, not-procs, facts-wake}
+use Rattle.laws.specs.Wake.{seat-head, not-procs, facts-wake, unqueue-frame}
 use Rattle.laws.specs.Grants.{each-two}
 use Rattle.laws.specs.Members.{count-more}
 use Rattle.laws.specs.Shrink.{in-P, gone, shrink-mem, left-is}
@@ -65,18 +65,16 @@ wait-out {m} {ps} {L} {W} b p hp = go (queued m (seat 54 m p) p) refl
         let r = split-at-page p (L (a + 1)) (queued-in b p hp a h e) in
         let v = (getD m a 0 + 1) % 256 in
         let x1 = sem-mem s (b .mem) a v h in
-        let c1 : Same ps L m (set m a v) = calm-set m a v (λ c i. ours-seat s i a h .0) in
-        let c2 : Same ps L (set m a v) (leave (set m a v) (a + 1) 0 p) = record {
-          at = λ c i. leave-frame s x1 (a + 1) (seat-head s a h) (λ d. not-procs s a h (sym d)) p (r .0) (r .1) (r .2) c
-              (ours-seat s i a h .1) (λ z j. ours-wait s i a z h j);
-        } in
         rw e (record {
           lists = upd L (a + 1) (r .0 ++ r .1);
           view = _;
           sep = facts-wake a p (r .0) (r .1) (b .facts) h (r .2) .sep;
           mem = leave-mem s x1 (a + 1) (seat-head s a h) (λ d. not-procs s a h (sym d)) p (r .0) (r .1) (r .2);
           label = λ y. refl;
-          same = same-on c1 c2;
+          same = record {
+            at = λ c i.
+                unqueue-frame s (b .mem) a p (r .0) (r .1) h (r .2) c (ours-seat s i a h .0) (ours-seat s i a h .1) (λ z j. ours-wait s i a z h j);
+          };
         })
 
 -- ---- out of the list
@@ -192,16 +190,14 @@ module _ (xs : List ℕ) (p : ℕ) (ys : List ℕ) {m : List ℕ} {L : Lists} {W
     pub bag-procs : bag .procs ≡ xs ++ ys
     bag-procs = sym (listed (bag .base)) ∙ left-procs
 
+    -- its mail hangs there still
+    hangs : (w : ℕ) (zs : List ℕ) → 5 ≤ w → w ≤ 6 → Chain u 0 (p * 32 + w) zs → ((z : ℕ) → count z zs ≤ count z (bag .q2 ++ bag .q1)) → zs ≡ L (p * 32 + w)
+    hangs w zs l k c f =
+        sym (walk-chain 20 u 0 (p * 32 + w) zs c (tot-short (bag .base) zs (λ z. omega (arith, f z, count-append z (bag .q2 ++ bag .q1) (p ∷ [])))))
+        ∙ queue-same b left-posts p w hp l k
+
     pub bag-q1 : bag .q1 ≡ L (p * 32 + 5)
-    bag-q1 =
-        sym (walk-chain 20 u 0 (p * 32 + 5) (bag .q1) (bag .chain1)
-        (tot-short (bag .base) (bag .q1) (λ z.
-        omega (arith, count-append z (bag .q2 ++ bag .q1) (p ∷ []), count-append z (bag .q2) (bag .q1)))))
-        ∙ queue-same b left-posts p 5 hp (omega arith) (omega arith)
+    bag-q1 = hangs 5 (bag .q1) (omega arith) (omega arith) (bag .chain1) (λ z. omega (arith, count-append z (bag .q2) (bag .q1)))
 
     pub bag-q2 : bag .q2 ≡ L (p * 32 + 6)
-    bag-q2 =
-        sym (walk-chain 20 u 0 (p * 32 + 6) (bag .q2) (bag .chain2)
-        (tot-short (bag .base) (bag .q2) (λ z.
-        omega (arith, count-append z (bag .q2 ++ bag .q1) (p ∷ []), count-append z (bag .q2) (bag .q1)))))
-        ∙ queue-same b left-posts p 6 hp (omega arith) (omega arith)
+    bag-q2 = hangs 6 (bag .q2) (omega arith) (omega arith) (bag .chain2) (λ z. omega (arith, count-append z (bag .q2) (bag .q1)))

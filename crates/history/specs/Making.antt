@@ -17,7 +17,7 @@ use Rattle.model.specs.Bytes as Model
 use Rattle.model.specs.Bytes.{lists, takePage, takeFree, processors, pageOf, queue, created, waitsForPage}
 use Rattle.model.specs.Lists.{count, Lists}
 use Rattle.laws.specs.Count.{hit-self, hit-other, hit-or, count-append}
-use Rattle.laws.specs.Chain.{Page, Chain, last, last-in, join-is, chain-join, walk-chain, off-page}
+use Rattle.laws.specs.Chain.{Page, Chain, last, last-in, join-is, chain-join, walk-chain, off-page, last-not}
 use Rattle.laws.specs.Queues.{link-procs}
 use Rattle.laws.specs.Heads.{one-le, short}
 use Rattle.laws.specs.Uses.{Sep, proc-page, list-short}
@@ -31,7 +31,7 @@ use Rattle.laws.specs.Stores.{sem-mem}
 use Rattle.laws.specs.Hands.{in-hand, hand-base}
 use Rattle.laws.specs.Grants.{Takes, take-page}
 use Rattle.laws.specs.Grants.Takes.{gets, lacks}
-use Rattle.laws.specs.Still.{aside-hand}
+use Rattle.laws.specs.Still.{aside-hand, Aside}
 use Rattle.laws.specs.Who.{listed, Busy, busy}
 use Rattle.laws.specs.Create.{made, z, headed-is, only, below, created-base, nobody}
 use Rattle.laws.specs.Simple.{Open}
@@ -105,11 +105,10 @@ module _ {m : List ℕ} {ps : List ℕ} {L : Lists} {W : View} {hs : List ℕ} {
   sx : Sep ps L
   sx = b .facts .sep
 
-  pg : Page q
-  pg = hand-page b q (in-hand b)
+  aside : Aside ps L q
+  aside = aside-hand b q (in-hand b)
 
-  out : count q ps ≡ 0
-  out = hand-out b q (in-hand b)
+  open Aside aside using (page as pg, out)
 
   chain-x : Chain x 1 247 ps
   chain-x = rw (link-procs, sx .procs) at (bx .1 .mem .holds .rep 247 (in-procs ps, grant-low 247 (omega arith)))
@@ -126,18 +125,14 @@ module _ {m : List ℕ} {ps : List ℕ} {L : Lists} {W : View} {hs : List ℕ} {
 
   -- a word that is neither 247, nor word 1 of q or of a processor
   created-word : (c : ℕ) → c ≢ 247 → c ≢ q * 32 + 1 → ((z : ℕ) → 1 ≤ count z ps → c ≢ z * 32 + 1) → getD m2 c 0 ≡ getD x c 0
-  created-word c n7 n1 nz = rw created-is (other (set x (q * 32 + 1) 0) (last 1 247 ps) q c (go ps (λ z i. nz z i)) ∙ other x (q * 32 + 1) 0 c n1)
-    where
-      go : (xs : List ℕ) → ((z : ℕ) → 1 ≤ count z xs → c ≢ z * 32 + 1) → c ≢ last 1 247 xs
-      go [] f = n7
-      go (y ∷ ys) f = let t = last-in 1 247 y ys in rw (t .2) (f (t .0) (t .1))
+  created-word c n7 n1 nz = rw created-is (other (set x (q * 32 + 1) 0) (last 1 247 ps) q c (last-not 1 247 ps c n7 nz) ∙ other x (q * 32 + 1) 0 c n1)
 
   created-posts : Posts ps L m m2
   created-posts =
-      posts-on (posts (calm-only sx m x q (aside-hand b q (in-hand b)) (only b n r v a))) (record {
+      posts-on (posts (calm-only sx m x q aside (only b n r v a))) (record {
         at = λ c h.
             let t = mine-high sx h in
-            created-word c (omega arith) (mine-hand sx h q 1 (aside-hand b q (in-hand b)) (omega arith))
+            created-word c (omega arith) (mine-hand sx h q 1 aside (omega arith))
             (λ z i. mine-proc sx h z 1 i (omega arith) (omega arith) (omega arith));
       })
 
