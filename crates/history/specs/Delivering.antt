@@ -8,36 +8,12 @@ use native.Mathlib.Omega.{arith}
 use Rattle.model.specs.Map.{place, q1}
 use Rattle.model.specs.Bytes.{deliver, queue, processors}
 use Rattle.model.specs.Lists.{count, Lists}
-use Rattle.laws.specs.Heads.Seat.{page}
-use Rattle.laws.specs.Places.{q-free}
 use Rattle.laws.specs.Inv.{View, Message, Base}
 use Rattle.laws.specs.Post.{Delivered, deliver-all, deliver-frame}
 use Rattle.laws.specs.Mails.{mail-queue}
 use Rattle.laws.specs.Who.{listed}
-use Rattle.history.specs.Letter.{Letter, mailOf, mails-same, letter-sized, map-append, waitingFor, Posts, queue-same, texts-same}
-use Rattle.history.specs.Moving.{Texted}
-
--- Q1 or Q2 as a list of messages
-abbrev pub held : List ℕ → ℕ → ℕ → List Letter
-held m p w = map (mailOf m) (queue m (p * 32 + w))
-
-pub waits-held : (m : List ℕ) (p : ℕ) → waitingFor m p ≡ held m p 6 ++ held m p 5
-unfolding waitingFor
-waits-held m p = map-append (mailOf m) (queue m (p * 32 + 6)) (queue m (p * 32 + 5))
-
--- by the lists, with the messages of before
-pub held-through : {m m2 : List ℕ} {ps : List ℕ} {K : Lists} {X : View} {hs : List ℕ} {g : ℕ} (b2 : Base m2 ps K X hs g) → Texted ps m m2 → (p w : ℕ)
-    → 1 ≤ count p ps → 5 ≤ w → w ≤ 6 → held m2 p w ≡ map (mailOf m) (K (p * 32 + w))
-held-through {m} {m2} {ps} {K} b2 t p w h u v =
-    rw (mail-queue b2 p w h u v) (sym (mails-same m2 m (K (p * 32 + w)) (λ x i.
-    let f = q-free (b2 .facts .sep) p w x u v h i in
-    record { page = f .0; sized = letter-sized b2 p w x h u v i; texts = λ j k l. sym (t .at x (f .0) (f .1) j k l) })))
-
--- a step that leaves Q1 and Q2 alone leaves them
-pub held-same : {m m′ : List ℕ} {ps : List ℕ} {L : Lists} {W : View} {hs : List ℕ} {g : ℕ} (b : Base m ps L W hs g) → Posts ps L m m′ → (p w : ℕ)
-    → 1 ≤ count p ps → 5 ≤ w → w ≤ 6 → held m′ p w ≡ held m p w
-held-same {m} {m′} {ps} {L} b s p w h u v =
-    rw (queue-same b s p w h u v, mail-queue b p w h u v) (mails-same m m′ (L (p * 32 + w)) (λ x i. texts-same b s p w x h u v i))
+use Rattle.history.specs.Letter.{mailOf, map-append, waitingFor, held, waits-held}
+use Rattle.history.specs.Moving.{Texted, held-through}
 
 -- ---- the delivery
 module _ {m : List ℕ} {ps : List ℕ} {L : Lists} {W : View} {hs : List ℕ} {g q : ℕ} (b : Base m ps L W (q ∷ hs) g) (p : ℕ) (hp : 1 ≤ count p ps)

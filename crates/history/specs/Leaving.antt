@@ -6,14 +6,14 @@ use mathlib.Core.Bool.{Bool, true, false, cond}
 use mathlib.Core.List.{List, [], _∷_, _++_}
 use Prim.Native.Nat.{ℕ, _+_, _*_, _/_, _%_, _≤_, _<_}
 use native.Mathlib.Omega.{arith}
-use lib.ListN.{getD, set, length-append}
+use lib.ListN.{getD, length-append}
 use lib.Dec.{eqb}
 use borrow.Author.Tests.{eqb-true, eqb-false, ne-eqb}
 use Rattle.model.specs.Queue.{first}
 use Rattle.model.specs.Processor as Processor
 use Rattle.model.specs.Wait as Wait
 use Rattle.model.specs.Delete as Delete
-use Rattle.model.specs.Bytes.{leave, isNamed, processors, queued, seat, leaveWait, unlisted}
+use Rattle.model.specs.Bytes.{isNamed, processors, queued, seat, leaveWait, unlisted}
 use Rattle.model.specs.Lists.{count, Lists}
 use Rattle.laws.specs.Count.{hit-or, count-append}
 use Rattle.laws.specs.Chain.{Page, walk-chain, split-at-page, Chain}
@@ -23,7 +23,7 @@ use Rattle.laws.specs.Places.{in-procs, grant-low}
 use Rattle.laws.specs.Inv.{View, Mem, Base}
 use Rattle.laws.specs.Views.{put1, withWords}
 use Rattle.laws.specs.Stores.{sem-mem}
-use Rattle.laws.specs.Cells.{leave-mem, leave-frame}
+use Rattle.laws.specs.Cells.{leave-mem}
 use Rattle.laws.specs.Wake.{seat-head, not-procs, facts-wake, unqueue-frame}
 use Rattle.laws.specs.Grants.{each-two}
 use Rattle.laws.specs.Members.{count-more}
@@ -33,10 +33,10 @@ use Rattle.laws.specs.Leave.{Bag, seat-is, queued-in, unlisted-bag}
 use Rattle.laws.specs.Simple.{first-in}
 use Rattle.laws.specs.Who.{label-at, listed}
 use Rattle.laws.specs.Delete.{tot-short}
-use Rattle.history.specs.Letter.{Same, Posts, same-on, queue-same, texts-same}
+use Rattle.history.specs.Letter.{Same, Posts, queue-same, texts-same}
 use Rattle.history.specs.Letter.Ours.{mail}
 use Rattle.history.specs.Put.{returnsTo}
-use Rattle.history.specs.Calm.{calm-refl, calm-set, ours-seat, ours-wait, mine-high, mine-proc}
+use Rattle.history.specs.Calm.{calm-refl, ours-seat, ours-wait, mine-high, mine-proc}
 use Rattle.history.specs.Returning.{Grown, grown-same}
 use Rattle.history.specs.Emptying.{first-yes, first-no, named-same, backTo, Aims}
 

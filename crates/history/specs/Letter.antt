@@ -47,7 +47,7 @@ unfoldable pub waitingFor : List ℕ → ℕ → List Letter
 waitingFor m p = map (mailOf m) (queue m (place p q2) ++ queue m (place p q1))
 
 -- ---- the test of an instruction does not tell apart what has one key
-and-true : (a b : Bool) → a && b ≡ true → (a ≡ true) × (b ≡ true)
+pub and-true : (a b : Bool) → a && b ≡ true → (a ≡ true) × (b ≡ true)
 and-true true b e = (refl, e)
 and-true false b e = (cc, cc)
 
@@ -67,19 +67,33 @@ pub asked-page : (m : List ℕ) (n f q : ℕ) → asked n f (mailOf m q) ≡ fit
 unfolding mailOf
 asked-page m n f q = let e : getD m (q * 32 + 1) 0 / 16 * 16 + getD m (q * 32 + 1) 0 % 16 ≡ getD m (q * 32 + 1) 0 = omega arith in rw e
 
--- ---- words 1 to 31
-pub words-same : (m m′ : List ℕ) (a n : ℕ) → a < 8192 → ((i : ℕ) → i < n → getD m′ ((a + i) % 8192) 0 ≡ getD m ((a + i) % 8192) 0) → words m′ a n ≡ words m a n
+-- ---- texts that are equal word for word
+pub next-sum : (a i : ℕ) → ((a + 1) % 8192 + i) % 8192 ≡ (a + suc i) % 8192
+next-sum a i = omega arith
+
+pub first-sum : (a : ℕ) → a < 8192 → (a + 0) % 8192 ≡ a
+first-sum a l = omega arith
+
+pub sum-below : (a : ℕ) → (a + 1) % 8192 < 8192
+sum-below a = omega arith
+
+pub words-moved : (m m′ : List ℕ) (a b n : ℕ) → a < 8192 → b < 8192 → ((i : ℕ) → i < n → getD m′ ((b + i) % 8192) 0 ≡ getD m ((a + i) % 8192) 0)
+    → words m′ b n ≡ words m a n
 unfolding words
-words-same m m′ a zero l h = refl
-words-same m m′ a (suc n) l h =
-    let e : (a + 0) % 8192 ≡ a = omega arith in
-    let h0 = rw e at (h 0 (omega arith)) in
+words-moved m m′ a b zero la lb h = refl
+words-moved m m′ a b (suc n) la lb h =
+    let ea : (a + 0) % 8192 ≡ a = first-sum a la in
+    let eb : (b + 0) % 8192 ≡ b = first-sum b lb in
+    let h0 = rw (ea, eb) at (h 0 (omega arith)) in
     rw (
       h0,
-      words-same m m′ ((a + 1) % 8192) n (omega arith) (λ i q.
-          let d : ((a + 1) % 8192 + i) % 8192 ≡ (a + suc i) % 8192 = omega arith in rw d (h (suc i) (omega arith))),
+      words-moved m m′ ((a + 1) % 8192) ((b + 1) % 8192) n (sum-below a) (sum-below b) (λ i q.
+          let da : ((a + 1) % 8192 + i) % 8192 ≡ (a + suc i) % 8192 = next-sum a i in
+          let db : ((b + 1) % 8192 + i) % 8192 ≡ (b + suc i) % 8192 = next-sum b i in
+          rw (da, db) (h (suc i) (omega arith))),
     )
 
+-- ---- words 1 to 31
 abbrev pub Texts : List ℕ → List ℕ → ℕ → Type 0
 Texts m m′ x = (j : ℕ) → 1 ≤ j → j < 32 → getD m′ (x * 32 + j) 0 ≡ getD m (x * 32 + j) 0
 
@@ -91,7 +105,7 @@ pub mail-same : (m m′ : List ℕ) (x : ℕ) → x < 256 → Sized m x → Text
 unfolding mailOf
 mail-same m m′ x g l h =
     let n = getD m (x * 32 + 2) 0 % 128 in
-    let w : words m′ (x * 32 + 3) n ≡ words m (x * 32 + 3) n = words-same m m′ (x * 32 + 3) n (omega arith) (λ i u.
+    let w : words m′ (x * 32 + 3) n ≡ words m (x * 32 + 3) n = words-moved m m′ (x * 32 + 3) (x * 32 + 3) n (omega arith) (omega arith) (λ i u.
     let e : (x * 32 + 3 + i) % 8192 ≡ x * 32 + (3 + i) = omega arith in rw e (h (3 + i) (omega arith) (omega arith))) in
     rw (h 1 (omega arith) (omega arith), h 2 (omega arith) (omega arith), w)
 
@@ -110,6 +124,14 @@ mails-same m m′ (x ∷ xs) h =
 pub map-append : (g : ℕ → Letter) (xs ys : List ℕ) → map g (xs ++ ys) ≡ map g xs ++ map g ys
 map-append g [] ys = refl
 map-append g (x ∷ xs) ys = rw (map-append g xs ys)
+
+-- Q1 or Q2 as a list of messages
+abbrev pub held : List ℕ → ℕ → ℕ → List Letter
+held m p w = map (mailOf m) (queue m (p * 32 + w))
+
+pub waits-held : (m : List ℕ) (p : ℕ) → waitingFor m p ≡ held m p 6 ++ held m p 5
+unfolding waitingFor
+waits-held m p = map-append (mailOf m) (queue m (p * 32 + 6)) (queue m (p * 32 + 5))
 
 -- ---- the words of Q1 and Q2: their headers, and all words of their pages
 pub data Mine (ps : List ℕ) (L : Lists) (c : ℕ) : Type 0 where
@@ -189,28 +211,17 @@ module _ {m : List ℕ} {ps : List ℕ} {L : Lists} {W : View} {hs : List ℕ} {
       texts = λ j k l. s .at (x * 32 + j) (page p w x j h u v i l refl);
     }
 
+    pub held-same : (p w : ℕ) → 1 ≤ count p ps → 5 ≤ w → w ≤ 6 → held m′ p w ≡ held m p w
+    held-same p w h u v =
+        rw (queue-same p w h u v, mail-queue b p w h u v) (mails-same m m′ (L (p * 32 + w)) (λ x i. texts-same p w x h u v i))
+
+    pub waits-same : (p : ℕ) → 1 ≤ count p ps → waitingFor m′ p ≡ waitingFor m p
+    waits-same p h =
+        rw (waits-held m′ p, waits-held m p, held-same p 6 h (omega arith) (omega arith), held-same p 5 h (omega arith) (omega arith))
+
   -- what waits, by the lists
   pub waits-by : (p : ℕ) → 1 ≤ count p ps → waitingFor m p ≡ map (mailOf m) (L (p * 32 + 6)) ++ map (mailOf m) (L (p * 32 + 5))
-  unfolding waitingFor
-  waits-by p h =
-      rw (
-        mail-queue b p 6 h (omega arith) (omega arith),
-        mail-queue b p 5 h (omega arith) (omega arith),
-      ) (map-append (mailOf m) (L (p * 32 + 6)) (L (p * 32 + 5)))
-
-  pub waits-same : {m′ : List ℕ} → Posts ps L m m′ → (p : ℕ) → 1 ≤ count p ps → waitingFor m′ p ≡ waitingFor m p
-  unfolding waitingFor
-  waits-same {m′} s p h =
-      rw (
-        queue-same s p 6 h (omega arith) (omega arith),
-        queue-same s p 5 h (omega arith) (omega arith),
-        mail-queue b p 6 h (omega arith) (omega arith),
-        mail-queue b p 5 h (omega arith) (omega arith),
-        map-append (mailOf m′) (L (p * 32 + 6)) (L (p * 32 + 5)),
-        map-append (mailOf m) (L (p * 32 + 6)) (L (p * 32 + 5)),
-        mails-same m m′ (L (p * 32 + 6)) (λ x i. texts-same s p 6 x h (omega arith) (omega arith) i),
-        mails-same m m′ (L (p * 32 + 5)) (λ x i. texts-same s p 5 x h (omega arith) (omega arith) i),
-      )
+  waits-by p h = waits-held m p ∙ rw (mail-queue b p 6 h (omega arith) (omega arith), mail-queue b p 5 h (omega arith) (omega arith))
 
   -- and who lives
   pub procs-same : {m′ : List ℕ} → Same ps L m m′ → processors m′ ≡ ps

@@ -17,7 +17,7 @@ use Rattle.model.specs.Bytes as Model
 use Rattle.model.specs.Bytes.{lists, takePage, takeFree, processors, pageOf, queue, created, waitsForPage}
 use Rattle.model.specs.Lists.{count, Lists}
 use Rattle.laws.specs.Count.{hit-self, hit-other, hit-or, count-append}
-use Rattle.laws.specs.Chain.{Page, Chain, last, last-in, join-is, chain-join, walk-chain, off-page, last-not}
+use Rattle.laws.specs.Chain.{Page, Chain, last, join-is, chain-join, walk-chain, off-page, last-not}
 use Rattle.laws.specs.Queues.{link-procs}
 use Rattle.laws.specs.Heads.{one-le, short}
 use Rattle.laws.specs.Uses.{Sep, proc-page, list-short}
@@ -26,7 +26,7 @@ use Rattle.laws.specs.Inv.{View, view, Base}
 use Rattle.laws.specs.Judged.{WellFormed}
 use Rattle.laws.specs.Frames.{other}
 use Rattle.laws.specs.Cells.{chain0, leave-frame}
-use Rattle.laws.specs.Changes.{page-sem, hand-page, hand-out}
+use Rattle.laws.specs.Changes.{page-sem}
 use Rattle.laws.specs.Stores.{sem-mem}
 use Rattle.laws.specs.Hands.{in-hand, hand-base}
 use Rattle.laws.specs.Grants.{Takes, take-page}

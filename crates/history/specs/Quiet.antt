@@ -8,9 +8,8 @@ use Prim.Native.Nat.{ℕ, _+_, _-_, _*_, _/_, _%_, _≤_, _<_}
 use native.Mathlib.Omega.{arith}
 use lib.ListN.{getD, set}
 use lib.Dec.{eqb, ltb, leb}
-use borrow.Author.Tests.{eqb-false, ltb-true, ltb-false, leb-false}
+use borrow.Author.Tests.{eqb-false, ltb-false}
 use Rattle.model.specs.declared.Registers.{Registers}
-use Rattle.model.specs.Address as Address
 use Rattle.model.specs.Address.{guarded, clear}
 use Rattle.model.specs.Instruction as Instruction
 use Rattle.model.specs.Processor as Processor

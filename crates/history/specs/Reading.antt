@@ -17,15 +17,11 @@ use Rattle.model.specs.Bytes as Model
 use Rattle.model.specs.Bytes.{lists, queue, processors, leave, copy, copyOut, giveBack}
 use Rattle.model.specs.Lists.{count, Lists}
 use Rattle.laws.specs.Count.{hit-self, hit-or, count-append}
-use Rattle.laws.specs.Chain.{Page}
 use Rattle.laws.specs.Queues.{upd, upd-same, upd-other}
-use Rattle.laws.specs.Uses.{Sep, proc-page}
-use Rattle.laws.specs.Places.{in-q, grant-high}
-use Rattle.laws.specs.Members.{head-off}
+use Rattle.laws.specs.Uses.{Sep}
 use Rattle.laws.specs.Inv.{View, view, Base}
 use Rattle.laws.specs.Judged.{WellFormed}
 use Rattle.laws.specs.Frames.{other, base-kept}
-use Rattle.laws.specs.Cells.{leave-frame}
 use Rattle.laws.specs.Hands.{take-mail}
 use Rattle.laws.specs.Grants.{give-back}
 use Rattle.laws.specs.Who.{listed, Busy, busy}
@@ -37,7 +33,7 @@ use Rattle.history.specs.Put.{of, reading, rmeMail}
 use Rattle.history.specs.Calm.{ours-low, ours-fits, calm-give}
 use Rattle.history.specs.Told.{Told, of-none, of-here, of-other, told-same, calm-done, runs-in}
 use Rattle.history.specs.Quiet.{fails, clear-far}
-use Rattle.history.specs.Moving.{Texted, waits-through}
+use Rattle.history.specs.Moving.{Texted, waits-through, leave-texts}
 use Rattle.history.specs.Tests.{Found, found}
 
 -- ---- n words copied leave every other word
@@ -75,12 +71,6 @@ out-calm {ps} {L} s m q a h = record { at = λ c o. go c o (far c o) }
 -- ---- message q leaves Q2, and its page is given back
 module _ {m : List ℕ} {ps : List ℕ} {L : Lists} {W : View} (b : Base m ps L W [] 32) (p q : ℕ) (xs ys : List ℕ) (h : 1 ≤ count p ps)
     (e : L (p * 32 + 6) ≡ xs ++ q ∷ ys) where
-  s : Sep ps L
-  s = b .facts .sep
-
-  pg : Page p
-  pg = proc-page s p h
-
   abbrev J : Lists
   J = upd L (p * 32 + 6) (xs ++ ys)
 
@@ -91,12 +81,7 @@ module _ {m : List ℕ} {ps : List ℕ} {L : Lists} {W : View} (b : Base m ps L 
   b1 = take-mail b p 6 q xs ys h (omega arith) (omega arith) e
 
   left-texts : Texted ps m m1
-  left-texts = record {
-    at = λ x px o j k l.
-        let i6 = in-q ps p 6 (omega arith) (omega arith) h in
-        leave-frame s (b .mem) (p * 32 + 6) (i6, grant-high (p * 32 + 6) (omega (arith, pg))) (omega (arith, pg)) q xs ys e (x * 32 + j)
-        (λ z. head-off s x j (p * 32 + 6) px l o i6 (sym z)) (λ z i. omega arith);
-  }
+  left-texts = leave-texts b p 6 q xs ys h (omega arith) (omega arith) e
 
   abbrev M : List ℕ → List Letter
   M l = map (mailOf m) l

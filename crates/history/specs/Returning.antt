@@ -22,11 +22,11 @@ use Rattle.laws.specs.Grants.{give-frame}
 use Rattle.laws.specs.Post.{two, word1, word2, deliver-frame}
 use Rattle.laws.specs.Still.{aside-hand}
 use Rattle.laws.specs.Delete.{letter}
-use Rattle.history.specs.Letter.{Letter, words, mailOf, waitingFor, Posts, posts, waits-same}
+use Rattle.history.specs.Letter.{Letter, words, mailOf, waitingFor, Posts, posts, waits-same, held, held-same}
 use Rattle.history.specs.Put.{Log, of, noticeFrom, returnsTo, notices}
 use Rattle.history.specs.Calm.{calm-only, calm-give}
 use Rattle.history.specs.Told.{of-none, of-here, of-other}
-use Rattle.history.specs.Delivering.{held, delivered-last, delivered-other, delivered-here, delivered-away, held-same}
+use Rattle.history.specs.Delivering.{delivered-last, delivered-other, delivered-here, delivered-away}
 
 -- ---- what is put, one after the other
 of-yes : (p : ℕ) (x : ℕ × Letter) (l : Log) → eqb p (x .0) ≡ true → of p (x ∷ l) ≡ x .1 ∷ of p l

@@ -36,19 +36,14 @@ use Rattle.laws.specs.Who.{running-at, listed, label-at, Busy, busy}
 use Rattle.laws.specs.Mails.{clear-at}
 use Rattle.laws.specs.Simple.{named-in, Open, clear-open}
 use Rattle.history.specs.Order.{only}
-use Rattle.history.specs.Letter.{Letter, mailOf, words, key, waitingFor, Same, posts, posts-then, agrees, waits-same, procs-same}
-use Rattle.history.specs.Put.{Mailed, of, nothing, putting, noticeFrom, posting, hasPage, smeMail}
+use Rattle.history.specs.Letter.{Letter, mailOf, words, key, waitingFor, Same, posts, posts-then, agrees, waits-same, procs-same, words-moved, held, held-same}
+use Rattle.history.specs.Put.{of, nothing, putting, noticeFrom, posting, hasPage, smeMail}
 use Rattle.history.specs.Calm.{calm-only}
-use Rattle.history.specs.Told.{Told, Stands, of-none, of-here, of-other, stands-none, told-same, calm-done, runs-in}
+use Rattle.history.specs.Told.{Told, Stands, of-none, of-here, of-other, calm-done, runs-in, Sent, sent-same}
 use Rattle.history.specs.Quiet.{fails}
 use Rattle.history.specs.Making.{calm-takes, takes-word, page-waits}
-use Rattle.history.specs.Delivering.{held, held-same, delivered-last, delivered-here, delivered-away}
-use Rattle.history.specs.Copied.{copy-at, words-moved}
-
--- the two laws of one call
-pub record Sent (m m′ : List ℕ) (e : Mailed) : Type 0 where
-  pub told : Told m m′ e
-  pub stands : Stands m′ e
+use Rattle.history.specs.Delivering.{delivered-last, delivered-here, delivered-away}
+use Rattle.history.specs.Copied.{copy-at}
 
 -- ---- a page taken from m, then written, then delivered
 module _ {m : List ℕ} {ps : List ℕ} {L : Lists} {W : View} (b : Base m ps L W [] 32) {q : ℕ} {m1 m2 : List ℕ} {K : Lists} {X : View} (s1 : Same ps L m m1)
@@ -195,11 +190,8 @@ module _ {m : List ℕ} (w : WellFormed m) (d : getD m 248 0 ≢ 0) where
   abbrev r : ℕ
   r = getD m 248 0
 
-  quiet-sent : (m′ : List ℕ) → Same (lists m 247) (lists m) m m′ → Sent m m′ nothing
-  quiet-sent m′ s = record { told = told-same b m′ s; stands = stands-none m′ }
-
   fault-sent : (f : ℕ) → Sent m (memoryOf (Model.fault m f)) nothing
-  fault-sent f = quiet-sent (memoryOf (Model.fault m f)) (fails w d f)
+  fault-sent f = sent-same b (memoryOf (Model.fault m f)) (fails w d f)
 
   -- page q is taken
   module _ (q : ℕ) (m1 : List ℕ) (e : takePage m r ≡ took q m1) (t : Gave m1 (lists m 247) (q ∷ []) 32 (view m)) (k : t .view .label ≡ view m .label) where
@@ -260,9 +252,9 @@ module _ {m : List ℕ} (w : WellFormed m) (d : getD m 248 0 ≢ 0) where
       go : Takes m r (lists m 247) (lists m) (view m) [] 32
           → Sent m (memoryOf (Model.sent m n f a (getD m a 0) len)) (cond (hasPage (takePage m (running m))) (putting (posting m n f a ∷ [])) nothing)
       go (gets q m1 e z t k) = rw (e, ne-eqb q 0 z) (posted-sent q m1 e t k n f a len n1 n2 f1 f2 l2 c)
-      go (lacks e f3 g3) = rw e (quiet-sent (memoryOf (waitsForPage m)) (page-waits w d f3 g3))
+      go (lacks e f3 g3) = rw e (sent-same b (memoryOf (waitsForPage m)) (page-waits w d f3 g3))
 
-  sme-sent : (n f a len : ℕ) → n < 16 → f < 8 → Sent m (memoryOf (Model.sme m n f a len)) (smeMail m n f a)
+  pub sme-sent : (n f a len : ℕ) → n < 16 → f < 8 → Sent m (memoryOf (Model.sme m n f a len)) (smeMail m n f a)
   unfolding Operate.sme Operate.smeText smeMail
   sme-sent n f a len hn hf =
       go (eqb n 0) (eqb f 0) (guarded a) (ltb 29 (getD m a 0)) (clear (getD m a 0) ((a + 1) % 8192)) refl refl refl refl refl
@@ -279,9 +271,3 @@ module _ {m : List ℕ} (w : WellFormed m) (d : getD m 248 0 ≢ 0) where
           let f1 = eqb-false f 0 e2 in
           let l1 = ltb-false 29 (getD m a 0) e4 in
           rw (e1, e2, e3, e4, e5) (to-sent n f a len (omega arith) (omega arith) (omega arith) (omega arith) (omega arith) e5)
-
-  pub sme-told : (n f a len : ℕ) → n < 16 → f < 8 → Told m (memoryOf (Model.sme m n f a len)) (smeMail m n f a)
-  sme-told n f a len hn hf = sme-sent n f a len hn hf .told
-
-  pub sme-stands : (n f a len : ℕ) → n < 16 → f < 8 → Stands (memoryOf (Model.sme m n f a len)) (smeMail m n f a)
-  sme-stands n f a len hn hf = sme-sent n f a len hn hf .stands

@@ -69,6 +69,15 @@ told-same {m} b m′ s =
       born = λ p h i. absurd (omega (arith, ap (count p) e));
     }
 
+-- both laws of one call
+pub record Sent (m m′ : List ℕ) (e : Mailed) : Type 0 where
+  pub told : Told m m′ e
+  pub stands : Stands m′ e
+
+pub sent-same : {m : List ℕ} {ps : List ℕ} {L : Lists} {W : View} {hs : List ℕ} {g : ℕ} → Base m ps L W hs g → (m′ : List ℕ) → Same ps L m m′
+    → Sent m m′ nothing
+sent-same b m′ s = record { told = told-same b m′ s; stands = stands-none m′ }
+
 -- ---- how a call ends
 module _ {ps : List ℕ} {L : Lists} (s : Sep ps L) (m : List ℕ) (g : getD m 248 0 ≢ 0 → 1 ≤ count (getD m 248 0) ps) where
   lr-run : (a : ℕ) → getD (setLr m (getD m 248 0) a) 248 0 ≡ getD m 248 0

@@ -1,5 +1,5 @@
 -- Instructions: CRP, "created stopped, all else zero". A page in hand becomes a processor: the heads of lists grow by three, all empty. Assumes nothing.
-use mathlib.Core.Path.{_≡_, refl, sym, ap, _∙_}
+use mathlib.Core.Path.{_≡_, sym, ap, _∙_}
 use mathlib.Core.Logic.{_≢_, _⊎_, inl, inr}
 use mathlib.Core.List.{List, [], _∷_, _++_, append-nil}
 use Prim.Native.Nat.{ℕ, _+_, _-_, _*_, _/_, _%_, _≤_, _<_}
@@ -12,14 +12,14 @@ use Rattle.model.specs.Lists.{hit, count, Lists, sum, linkOf, uses, queues}
 use Rattle.laws.specs.Count.{hit-self, hit-other, hit-or, one-hit, count-append}
 use Rattle.laws.specs.Chain.{Page, Chain, last, last-not, join-is, off-page}
 use Rattle.laws.specs.Queues.{upd, upd-same, upd-other, link-procs, rep-join}
-use Rattle.laws.specs.Heads.{sum-upd, sum-ext, sum-skip, sum-pos, Seat, seat-of}
-use Rattle.laws.specs.Heads.Seat.{line, page, own}
+use Rattle.laws.specs.Heads.{sum-upd, sum-ext, sum-skip, sum-pos, seat-of}
+use Rattle.laws.specs.Heads.Seat.{page, own}
 use Rattle.laws.specs.Uses.{Among, Head, Sep, proc-page, list-short, good, apart, single}
 use Rattle.laws.specs.Places.{in-uses, in-queues, in-procs, in-free, in-asking, in-own, in-q, in-grant, int-queue, grant-low}
 use Rattle.laws.specs.Inv.{View, bearers, Label, Message, Waits, stock, stock-else, Facts, Mem, Base}
 use Rattle.laws.specs.Frames.{other, fixed-same, seat-same}
 use Rattle.laws.specs.Views.{put1, put1-same, put1-other, withSem}
-use Rattle.laws.specs.Changes.{stock-same, hand-page, hand-out, hand-free}
+use Rattle.laws.specs.Changes.{stock-same}
 use Rattle.laws.specs.Hands.{in-hand}
 use Rattle.laws.specs.Members.{names-more, uses-more, queues-more, uses-sum, queues-sum, head-off, procs-once}
 use Rattle.laws.specs.Still.{Aside, aside-hand}

@@ -1,8 +1,8 @@
 -- Deleting: "leave the processor list". A processor that waits nowhere leaves the list: its page and its mail are in hand then, and its grant is the one
 -- of the name that is being deleted. Assumes nothing.
-use mathlib.Core.Path.{_≡_, refl, ap, _∙_}
+use mathlib.Core.Path.{_≡_, ap, _∙_}
 use mathlib.Core.Logic.{_≢_, _⊎_, inl, inr}
-use mathlib.Core.List.{List, [], _∷_, _++_}
+use mathlib.Core.List.{List, _∷_, _++_}
 use Prim.Native.Nat.{ℕ, _+_, _-_, _*_, _%_, _≤_, _<_}
 use native.Mathlib.Omega.{arith}
 use lib.ListN.{length, getD, set, length-set, length-append}
@@ -14,7 +14,7 @@ use Rattle.laws.specs.Count.{hit-self, hit-other, hit-or, count-append, 
 use Rattle.laws.specs.Chain.{Page, Chain, last, last-not, leave-is}
 use Rattle.laws.specs.Queues.{upd, upd-same, upd-other, link-procs, link-other, Rep, rep-leave}
 use Rattle.laws.specs.Heads.{sum-one, sum-upd, sum-skip, Seat, seat-of}
-use Rattle.laws.specs.Heads.Seat.{line, page, own}
+use Rattle.laws.specs.Heads.Seat.{own}
 use Rattle.laws.specs.Uses.{Among, Head, Sep, proc-page, proc-once, list-short, good, apart, single}
 use Rattle.laws.specs.Places.{in-procs, in-q, grant-low, grant-high, own-once}
 use Rattle.laws.specs.Inv.{View, bearers, Facts, Mem}
