@@ -30,10 +30,10 @@ use Rattle.laws.specs.Simple.{named-in}
 use Rattle.laws.specs.Who.{label-at, listed, Busy, busy}
 use Rattle.laws.specs.Delete.{Queue, Drained, drain, tot-short, facts-whole}
 use Rattle.history.specs.Letter.{waitingFor, Same, posts, waits-same, procs-same, held, held-same}
-use Rattle.history.specs.Put.{Log, of, putting, notices, depMail, nothing}
+use Rattle.history.specs.Put.{Log, of, putting, notices, depMail}
 use Rattle.history.specs.Calm.{calm-low}
-use Rattle.history.specs.Told.{of-none, calm-done, runs-in, Sent, sent-same}
-use Rattle.history.specs.Quiet.{fails}
+use Rattle.history.specs.Told.{of-none, calm-done, runs-in, Sent}
+use Rattle.history.specs.Quiet.{fault-sent}
 use Rattle.history.specs.Returning.{notices-append, Grown, grown-then, grown-same, give-grows}
 use Rattle.history.specs.Emptying.{Aims, aims-on, emptied-grows}
 use Rattle.history.specs.Leaving.{stayed, left-grown, left-aims, bag, bag-procs, bag-q1, bag-q2}
@@ -228,17 +228,14 @@ module _ {m : List ℕ} (w : WellFormed m) (d : getD m 248 0 ≢ 0) where
       let c = ap (λ (y : ℕ). getD m (y * 32 + 12) 0) q in
       omega (arith, ready)
 
-  fault-sent : (f : ℕ) → Sent m (memoryOf (Model.fault m f)) nothing
-  fault-sent f = sent-same b (memoryOf (Model.fault m f)) (fails w d f)
-
   pub dep-sent : (n len : ℕ) → Sent m (memoryOf (Model.named m 12 n len)) (depMail m n)
   unfolding Operate.named Operate.onPage Operate.dep depMail
   dep-sent n len = go (eqb n 0) (eqb (pageOf m n) 0) (leb 128 (getD m (pageOf m n * 32 + 12) 0)) refl refl refl
     where
       go : (x y z : Bool) → eqb n 0 ≡ x → eqb (pageOf m n) 0 ≡ y → leb 128 (getD m (pageOf m n * 32 + 12) 0) ≡ z
           → Sent m (memoryOf (Model.named m 12 n len)) (depMail m n)
-      go true y z e f i = rw e (fault-sent 12)
-      go false true z e f i = rw (e, f) (fault-sent 7)
-      go false false false e f i = rw (e, f, i) (fault-sent 10)
+      go true y z e f i = rw e (fault-sent w d 12)
+      go false true z e f i = rw (e, f) (fault-sent w d 7)
+      go false false false e f i = rw (e, f, i) (fault-sent w d 10)
       go false false true e f i =
           rw (e, f, i) (deleted-sent (pageOf m n) (named-in b n (eqb-false (pageOf m n) 0 f)) (others (pageOf m n) i) len)

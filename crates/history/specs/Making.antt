@@ -35,13 +35,14 @@ use Rattle.laws.specs.Still.{aside-hand, Aside}
 use Rattle.laws.specs.Who.{listed, Busy, busy}
 use Rattle.laws.specs.Create.{made, z, headed-is, only, below, created-base, nobody}
 use Rattle.laws.specs.Simple.{Open}
+use Rattle.laws.specs.Waits.{page-fit}
 use Rattle.history.specs.Letter.{Same, Posts, posts, posts-on, posts-then, agrees, waitingFor, waits-same}
 use Rattle.history.specs.Letter.{procs-same}
 use Rattle.history.specs.Letter.Mine.{page}
 use Rattle.history.specs.Put.{nothing}
 use Rattle.history.specs.Calm.{calm-refl, calm-low, calm-take, calm-only, mine-high, mine-hand, mine-proc}
 use Rattle.history.specs.Told.{Told, of-none, told-same, calm-done, calm-waits, runs-in}
-use Rattle.history.specs.Quiet.{fails}
+use Rattle.history.specs.Quiet.{fault-sent}
 
 -- ---- a page taken
 unfoldable pub left : Taken (List ℕ) → List ℕ
@@ -163,14 +164,7 @@ module _ {m : List ℕ} (w : WellFormed m) (d : getD m 248 0 ≢ 0) where
   pub page-waits : lists m 244 ≡ [] → length (lists m (320 + getD m (getD m 248 0 * 32 + 7) 0 % 16)) ≡ 0
       → Same (lists m 247) (lists m) m (memoryOf (waitsForPage m))
   unfolding Operate.waitsForPage
-  page-waits f g = calm-waits b 245 0 d (page-sem (lists m 247)) (omega (arith, ready)) (record {
-    line = λ k h e. absurd (omega arith);
-    page = λ e. (refl, ap length f, g);
-    own = λ y h e. let t = proc-page (b .facts .sep) y h in absurd (omega arith);
-  })
-
-  fault-told : (f : ℕ) → Told m (memoryOf (Model.fault m f)) nothing
-  fault-told f = told-same b (memoryOf (Model.fault m f)) (fails w d f)
+  page-waits f g = calm-waits b 245 0 d (page-sem (lists m 247)) (omega (arith, ready)) (page-fit (b .facts .sep) f g)
 
   crp-page : (n r v a len : ℕ) → 1 ≤ n → n ≤ 15 → 1 ≤ r → r ≤ 15 → pageOf m n ≡ 0 → Told m (memoryOf (Model.crpPage m n r v a len)) nothing
   unfolding Operate.crpPage
@@ -212,9 +206,9 @@ module _ {m : List ℕ} (w : WellFormed m) (d : getD m 248 0 ≢ 0) where
   crp-told n r v a len hn hr = go (eqb n 0) (eqb r 0) (eqb (pageOf m n) 0) refl refl refl
     where
       go : (x1 x2 x3 : Bool) → eqb n 0 ≡ x1 → eqb r 0 ≡ x2 → eqb (pageOf m n) 0 ≡ x3 → Told m (memoryOf (Model.crp m n r v a len)) nothing
-      go true x2 x3 e1 e2 e3 = rw e1 (fault-told 12)
-      go false true x3 e1 e2 e3 = rw (e1, e2) (fault-told 12)
-      go false false false e1 e2 e3 = rw (e1, e2, e3) (fault-told 9)
+      go true x2 x3 e1 e2 e3 = rw e1 (fault-sent w d 12 .told)
+      go false true x3 e1 e2 e3 = rw (e1, e2) (fault-sent w d 12 .told)
+      go false false false e1 e2 e3 = rw (e1, e2, e3) (fault-sent w d 9 .told)
       go false false true e1 e2 e3 =
           let n1 = eqb-false n 0 e1 in
           let r1 = eqb-false r 0 e2 in

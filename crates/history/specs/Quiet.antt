@@ -22,16 +22,17 @@ use Rattle.model.specs.Lists.{count}
 use Rattle.laws.specs.Uses.{Sep, proc-page}
 use Rattle.laws.specs.Judged.{WellFormed}
 use Rattle.laws.specs.Frames.{other}
-use Rattle.laws.specs.Changes.{int-sem}
 use Rattle.laws.specs.Who.{running-at, Busy, busy}
 use Rattle.laws.specs.Ends.{advance-base}
 use Rattle.laws.specs.Words.{either}
 use Rattle.laws.specs.Simple.{pick, named-in, clear-open}
-use Rattle.laws.specs.Interrupts.{serve-base}
+use Rattle.laws.specs.Interrupts.{serve-base, seat}
+use Rattle.laws.specs.Waits.{line-fit}
 use Rattle.history.specs.Letter.{Same, same-on}
 use Rattle.history.specs.Calm.{calm-refl, calm-low, calm-proc, calm-run, calm-lr}
-use Rattle.history.specs.Told.{calm-done, calm-jumps, calm-fault, calm-waits, runs-in}
+use Rattle.history.specs.Told.{calm-done, calm-jumps, calm-fault, calm-waits, runs-in, Sent, sent-same}
 use Rattle.history.specs.Clocks.{calm-serve}
+use Rattle.history.specs.Put.{nothing}
 
 -- ---- instructions, of a well-formed memory where someone runs
 pub clear-far : (a : ℕ) → guarded a ≡ false → (a < 7552) × (a ≢ 247)
@@ -51,6 +52,9 @@ module _ {m : List ℕ} (w : WellFormed m) (d : getD m 248 0 ≢ 0) where
 
   pub fails : (f : ℕ) → Calm (memoryOf (Model.fault m f))
   fails f = calm-fault s m (runs-in b) f
+
+  pub fault-sent : (f : ℕ) → Sent m (memoryOf (Model.fault m f)) nothing
+  fault-sent f = sent-same b (memoryOf (Model.fault m f)) (fails f)
 
   -- then done, then a jump; the same one runs
   pub then-done : (x : List ℕ) (len : ℕ) → Calm x → getD x 248 0 ≡ getD m 248 0 → Calm (memoryOf (Model.done x len))
@@ -104,14 +108,9 @@ module _ {m : List ℕ} (w : WellFormed m) (d : getD m 248 0 ≢ 0) where
           let k1 = eqb-false k 0 e in
           let k2 = ltb-false 54 k f in
           let c1 = eqb-false c 0 g in
-          let at1 : 131 + 2 * (k - 1) ≡ 129 + 2 * k = omega arith in
           rw (e, f, g) (same-on (calm-lr s m r ((Model.lr m + len) % 8192) (runs-in b))
-          (calm-waits (advance-base b len) (129 + 2 * k) c d (rw at1 at (int-sem (lists m 247) (k - 1) (omega arith)))
-          (omega (arith, ready)) (record {
-            line = λ j h q. (omega arith, omega arith);
-            page = λ q. absurd (omega arith);
-            own = λ y h q. let t = proc-page (b .facts .sep) y h in absurd (omega arith);
-          })))
+          (calm-waits (advance-base b len) (129 + 2 * k) c d (seat k c (omega arith) k2 (lists m 247)) (omega (arith, ready))
+          (line-fit s k c (omega arith) k2 (omega arith) u)))
 
   state-calm : (p v len : ℕ) → 1 ≤ count p (lists m 247) → Calm (memoryOf (Model.done (set m (p * 32 + 12) v) len))
   state-calm p v len h =

@@ -31,8 +31,8 @@ use Rattle.history.specs.Letter.{Letter, mailOf, key, asked, one-key, ma
 use Rattle.history.specs.Letter.{waits-same, procs-same, mail-same, mails-same, texts-same}
 use Rattle.history.specs.Put.{of, reading, rmeMail}
 use Rattle.history.specs.Calm.{ours-low, ours-fits, calm-give}
-use Rattle.history.specs.Told.{Told, of-none, of-here, of-other, told-same, calm-done, runs-in}
-use Rattle.history.specs.Quiet.{fails, clear-far}
+use Rattle.history.specs.Told.{Told, of-none, of-here, of-other, calm-done, runs-in}
+use Rattle.history.specs.Quiet.{clear-far, fault-sent}
 use Rattle.history.specs.Moving.{Texted, waits-through, leave-texts}
 use Rattle.history.specs.Tests.{Found, found}
 
@@ -167,8 +167,8 @@ module _ {m : List ℕ} (w : WellFormed m) (d : getD m 248 0 ≢ 0) where
 
       go : (x y : Bool) → eqb (Model.inQ2 m n f) 0 ≡ x → clear (3 + getD m (Model.inQ2 m n f * 32 + 2) 0 % 128) a ≡ y
           → Told m (memoryOf (Model.rme m n f a len)) (rmeMail m n f a)
-      go true y e c = rw e (told-same b (memoryOf (Model.fault m 6)) (fails w d 6))
-      go false false e c = rw (e, c) (told-same b (memoryOf (Model.fault m 11)) (fails w d 11))
+      go true y e c = rw e (fault-sent w d 6 .told)
+      go false false e c = rw (e, c) (fault-sent w d 11 .told)
       go false true e c =
           let t : Found m n f (Model.inQ2 m n f) (queue m (r * 32 + 6)) = found m n f (queue m (r * 32 + 6)) (eqb-false (Model.inQ2 m n f) 0 e) in
           rw (e, c) (received-told n f (Model.inQ2 m n f) a len

@@ -40,7 +40,7 @@ use Rattle.history.specs.Letter.{Letter, mailOf, words, key, waitingFor,
 use Rattle.history.specs.Put.{of, nothing, putting, noticeFrom, posting, hasPage, smeMail}
 use Rattle.history.specs.Calm.{calm-only}
 use Rattle.history.specs.Told.{Told, Stands, of-none, of-here, of-other, calm-done, runs-in, Sent, sent-same}
-use Rattle.history.specs.Quiet.{fails}
+use Rattle.history.specs.Quiet.{fault-sent}
 use Rattle.history.specs.Making.{calm-takes, takes-word, page-waits}
 use Rattle.history.specs.Delivering.{delivered-last, delivered-here, delivered-away}
 use Rattle.history.specs.Copied.{copy-at}
@@ -190,9 +190,6 @@ module _ {m : List ℕ} (w : WellFormed m) (d : getD m 248 0 ≢ 0) where
   abbrev r : ℕ
   r = getD m 248 0
 
-  fault-sent : (f : ℕ) → Sent m (memoryOf (Model.fault m f)) nothing
-  fault-sent f = sent-same b (memoryOf (Model.fault m f)) (fails w d f)
-
   -- page q is taken
   module _ (q : ℕ) (m1 : List ℕ) (e : takePage m r ≡ took q m1) (t : Gave m1 (lists m 247) (q ∷ []) 32 (view m)) (k : t .view .label ≡ view m .label) where
     s1 : Same (lists m 247) (lists m) m m1
@@ -261,11 +258,11 @@ module _ {m : List ℕ} (w : WellFormed m) (d : getD m 248 0 ≢ 0) where
     where
       go : (x1 x2 x3 x4 x5 : Bool) → eqb n 0 ≡ x1 → eqb f 0 ≡ x2 → guarded a ≡ x3 → ltb 29 (getD m a 0) ≡ x4 → clear (getD m a 0) ((a + 1) % 8192) ≡ x5
           → Sent m (memoryOf (Model.sme m n f a len)) (smeMail m n f a)
-      go true x2 x3 x4 x5 e1 e2 e3 e4 e5 = rw e1 (fault-sent 12)
-      go false true x3 x4 x5 e1 e2 e3 e4 e5 = rw (e1, e2) (fault-sent 12)
-      go false false true x4 x5 e1 e2 e3 e4 e5 = rw (e1, e2, e3) (fault-sent 11)
-      go false false false true x5 e1 e2 e3 e4 e5 = rw (e1, e2, e3, e4) (fault-sent 12)
-      go false false false false false e1 e2 e3 e4 e5 = rw (e1, e2, e3, e4, e5) (fault-sent 11)
+      go true x2 x3 x4 x5 e1 e2 e3 e4 e5 = rw e1 (fault-sent w d 12)
+      go false true x3 x4 x5 e1 e2 e3 e4 e5 = rw (e1, e2) (fault-sent w d 12)
+      go false false true x4 x5 e1 e2 e3 e4 e5 = rw (e1, e2, e3) (fault-sent w d 11)
+      go false false false true x5 e1 e2 e3 e4 e5 = rw (e1, e2, e3, e4) (fault-sent w d 12)
+      go false false false false false e1 e2 e3 e4 e5 = rw (e1, e2, e3, e4, e5) (fault-sent w d 11)
       go false false false false true e1 e2 e3 e4 e5 =
           let n1 = eqb-false n 0 e1 in
           let f1 = eqb-false f 0 e2 in

@@ -3,7 +3,7 @@ use mathlib.Core.Path.{_≡_, refl, sym, ap, _∙_}
 use mathlib.Core.Logic.{_≢_, _⊎_, inl, inr}
 use mathlib.Core.Bool.{Bool, true, false, cond}
 use mathlib.Core.List.{List, [], _∷_, _++_, append-nil, map}
-use Prim.Native.Nat.{ℕ, zero, suc, _+_, _-_, _*_, _/_, _%_, _≤_, _<_}
+use Prim.Native.Nat.{ℕ, zero, suc, _+_, _-_, _*_, _≤_, _<_}
 use native.Mathlib.Omega.{arith}
 use lib.ListN.{getD}
 use lib.Dec.{eqb}
@@ -11,7 +11,7 @@ use borrow.Author.Tests.{eqb-true, eqb-false}
 use Rattle.model.specs.Queue as Queue
 use Rattle.model.specs.Queue.{first}
 use Rattle.model.specs.Mail as Mail
-use Rattle.model.specs.Mail.{fits, Tested}
+use Rattle.model.specs.Mail.{Tested}
 use Rattle.model.specs.Mail.Tested.{tested}
 use Rattle.model.specs.Operate as Operate
 use Rattle.model.specs.Answer.{memoryOf}
@@ -19,13 +19,12 @@ use Rattle.model.specs.Bytes as Model
 use Rattle.model.specs.Bytes.{lists, queue, move, matches, testQ1}
 use Rattle.model.specs.Lists.{count, Lists}
 use Rattle.laws.specs.Count.{hit-or}
-use Rattle.laws.specs.Uses.{proc-page}
-use Rattle.laws.specs.Inv.{View, view, Waits, Base}
+use Rattle.laws.specs.Inv.{View, view, Base}
 use Rattle.laws.specs.Judged.{WellFormed}
 use Rattle.laws.specs.Changes.{own-sem}
 use Rattle.laws.specs.Who.{listed, Busy, busy}
 use Rattle.laws.specs.Chain.{Chain}
-use Rattle.laws.specs.Mails.{first-none, mail-chain, mail-queue, mail-some, test-end, test-hit, test-miss, test-nought}
+use Rattle.laws.specs.Mails.{mail-chain, mail-queue, test-end, test-hit, test-miss, test-nought, wnm-fit}
 use Rattle.history.specs.Order.{only, Fails}
 use Rattle.history.specs.Letter.{mailOf, key, asked, asked-page, waitingFor, Same, posts, waits-same, procs-same}
 use Rattle.history.specs.Put.{nothing}
@@ -134,27 +133,10 @@ module _ {m : List ℕ} (w : WellFormed m) (d : getD m 248 0 ≢ 0) where
       q5 : queue m (r * 32 + 5) ≡ lists m (r * 32 + 5)
       q5 = mail-queue b r 5 hr (omega arith) (omega arith)
 
-      none : first (matches m n f) (queue m (r * 32 + 5)) ≡ 0 → (q : ℕ) → 1 ≤ count q (lists m (r * 32 + 5)) → fits n f (getD m (q * 32 + 1) 0) ≡ false
-      none e q h = first-none (matches m n f) (lists m (r * 32 + 5)) (mail-some b r 5 hr (omega arith) (omega arith)) (rw q5 at e) q h
-
-      own : first (matches m n f) (queue m (r * 32 + 5)) ≡ 0 → (y : ℕ) → r * 32 + 3 ≡ y * 32 + 3
-          → Waits (n * 16 + f) (λ q. getD m (q * 32 + 1) 0) (lists m (y * 32 + 5)) y r
-      own z y e =
-          let t : y ≡ r = omega arith in
-          let c1 : (n * 16 + f) / 16 ≡ n = omega arith in
-          let c2 : (n * 16 + f) % 16 ≡ f = omega arith in
-          rw t (record { owner = refl; flag = omega arith; none = λ q h. rw (c1, c2) (none z q h) })
-
       go : (c : Bool) → eqb (Model.inQ1 m n f) 0 ≡ c → Told m (memoryOf (Model.wnm m n f len)) nothing
       go true e =
-          let z = eqb-true (Model.inQ1 m n f) 0 e in
-          let pg = proc-page (b .facts .sep) r hr in
           rw e (told-same b (memoryOf (Model.waits m (r * 32 + 3) (n * 16 + f))) (calm-waits b (r * 32 + 3) (n * 16 + f) d (own-sem (b .facts .sep) r hr)
-          (omega (arith, ready)) (record {
-            line = λ k h c. absurd (omega arith);
-            page = λ c. absurd (omega arith);
-            own = λ y h c. own z y c;
-          })))
+          (omega (arith, ready)) (wnm-fit w d n f hf (eqb-true (Model.inQ1 m n f) 0 e))))
       go false e =
           let q = Model.inQ1 m n f in
           let t : Found m n f q (queue m (r * 32 + 5)) = found m n f (queue m (r * 32 + 5)) (eqb-false (Model.inQ1 m n f) 0 e) in

@@ -26,12 +26,13 @@ use Rattle.laws.specs.Frames.{Kept, kept-refl, kept-set, quiet-word, bas
 use Rattle.laws.specs.Views.{put1, put1-same, put1-other, withReason, withLow}
 use Rattle.laws.specs.Stores.{reason-mem, clock-mem}
 use Rattle.laws.specs.Cells.{chain0}
-use Rattle.laws.specs.Changes.{int-sem, facts-low}
+use Rattle.laws.specs.Changes.{facts-low}
 use Rattle.laws.specs.Wake.{wake-base, woken, woken-proc, seat-head, not-procs}
 use Rattle.laws.specs.Grants.{Gave}
 use Rattle.laws.specs.Who.{who-inv, Busy, busy}
 use Rattle.laws.specs.Ends.{Fine, done-fine, waits-fine, advance-base}
 use Rattle.laws.specs.Simple.{fails}
+use Rattle.laws.specs.Waits.{line-fit}
 
 -- ---- a link along a chain
 abbrev pub head : List ℕ → ℕ
@@ -364,10 +365,5 @@ module _ {m : List ℕ} (w : WellFormed m) (d : getD m 248 0 ≢ 0) where
           let k1 = eqb-false k 0 e in
           let k2 = ltb-false 54 k f in
           let c1 = eqb-false c 0 g in
-          let at1 : 131 + 2 * (k - 1) ≡ 129 + 2 * k = omega arith in
-          rw (e, f, g) (waits-fine (advance-base b len) (129 + 2 * k) c d (rw at1 at (int-sem (lists m 247) (k - 1) (omega arith)))
-          (omega (arith, ready)) (record {
-            line = λ j h q. (omega arith, omega arith);
-            page = λ q. absurd (omega arith);
-            own = λ y h q. let t = proc-page (b .facts .sep) y h in absurd (omega arith);
-          }))
+          rw (e, f, g) (waits-fine (advance-base b len) (129 + 2 * k) c d (seat k c (omega arith) k2 (lists m 247)) (omega (arith, ready))
+          (line-fit (b .facts .sep) k c (omega arith) k2 (omega arith) u))

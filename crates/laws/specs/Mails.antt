@@ -36,6 +36,7 @@ use Rattle.laws.specs.Post.{notice-base, message-base}
 use Rattle.laws.specs.Who.{running-at, label-at, Busy, busy}
 use Rattle.laws.specs.Ends.{Fine, done-fine, jumps-fine, waits-fine}
 use Rattle.laws.specs.Simple.{first-in, named-in, quiet-clear, fails}
+use Rattle.laws.specs.Waits.{Fit, page-fit}
 
 -- ---- a search along a list
 pub first-none : (f : ℕ → Bool) (xs : List ℕ) → ((x : ℕ) → 1 ≤ count x xs → x ≢ 0) → first f xs ≡ 0 → (x : ℕ) → 1 ≤ count x xs → f x ≡ false
@@ -176,11 +177,7 @@ module _ {m : List ℕ} (w : WellFormed m) (d : getD m 248 0 ≢ 0) where
   -- "with none, they wait in the page queue, LR staying"
   pub waits-for-page : lists m 244 ≡ [] → length (lists m (320 + getD m (r * 32 + 7) 0 % 16)) ≡ 0 → Fine (Model.waitsForPage m)
   unfolding Operate.waitsForPage
-  waits-for-page f g = waits-fine b 245 0 d (page-sem (lists m 247)) idle (record {
-    line = λ k h e. absurd (omega arith);
-    page = λ e. (refl, ap length f, g);
-    own = λ y h e. let t = proc-page (b .facts .sep) y h in absurd (omega arith);
-  })
+  waits-for-page f g = waits-fine b 245 0 d (page-sem (lists m 247)) idle (page-fit (b .facts .sep) f g)
 
   posted-fine : (n f a l len q : ℕ) (m1 : List ℕ) → 1 ≤ n → n ≤ 15 → 1 ≤ f → f ≤ 7 → l ≤ 29 → Gave m1 (lists m 247) (q ∷ []) 32 (view m)
       → Fine (Model.done (Model.posted m1 q n f a l) len)
@@ -235,9 +232,14 @@ module _ {m : List ℕ} (w : WellFormed m) (d : getD m 248 0 ≢ 0) where
       let q = mail-queue b r k hr u v in
       rw q (first-in (matches m n f) (lists m (r * 32 + k)) (rw q at z) .0)
 
-  pub wnm-fine : (n f len : ℕ) → f < 8 → Fine (Model.wnm m n f len)
-  unfolding Operate.wnm Mail.matches
-  wnm-fine n f len hf = go (eqb (Model.inQ1 m n f) 0) refl
+  -- who waits for a message waits as its own wait must be
+  pub wnm-fit : (n f : ℕ) → f < 8 → Model.inQ1 m n f ≡ 0 → Fit (lists m 247) (lists m) (view m) (r * 32 + 3) r (n * 16 + f)
+  unfolding Mail.matches
+  wnm-fit n f hf z = let pg = proc-page (b .facts .sep) r hr in record {
+    line = λ k h c. absurd (omega arith);
+    page = λ c. absurd (omega arith);
+    own = λ y h c. own z y c;
+  }
     where
       none : first (matches m n f) (queue m (r * 32 + 5)) ≡ 0 → (q : ℕ) → 1 ≤ count q (lists m (r * 32 + 5)) → fits n f (getD m (q * 32 + 1) 0) ≡ false
       none e q h =
@@ -252,15 +254,13 @@ module _ {m : List ℕ} (w : WellFormed m) (d : getD m 248 0 ≢ 0) where
           let c2 : (n * 16 + f) % 16 ≡ f = omega arith in
           rw t (record { owner = refl; flag = omega arith; none = λ q h. rw (c1, c2) (none z q h) })
 
+  pub wnm-fine : (n f len : ℕ) → f < 8 → Fine (Model.wnm m n f len)
+  unfolding Operate.wnm
+  wnm-fine n f len hf = go (eqb (Model.inQ1 m n f) 0) refl
+    where
       go : (c : Bool) → eqb (Model.inQ1 m n f) 0 ≡ c → Fine (Model.wnm m n f len)
       go true e =
-          let z = eqb-true (Model.inQ1 m n f) 0 e in
-          let pg = proc-page (b .facts .sep) r hr in
-          rw e (waits-fine b (r * 32 + 3) (n * 16 + f) d (own-sem (b .facts .sep) r hr) idle (record {
-            line = λ k h c. absurd (omega arith);
-            page = λ c. absurd (omega arith);
-            own = λ y h c. own z y c;
-          }))
+          rw e (waits-fine b (r * 32 + 3) (n * 16 + f) d (own-sem (b .facts .sep) r hr) idle (wnm-fit n f hf (eqb-true (Model.inQ1 m n f) 0 e)))
       go false e =
           let z = eqb-false (Model.inQ1 m n f) 0 e in
           rw e (done-fine (move-base r (Model.inQ1 m n f) hr (found-in 5 n f (omega arith) (omega arith) z) b .1) len)
