@@ -6,12 +6,11 @@ use mathlib.Core.List.{List, [], _∷_, _++_, append-assoc, map}
 use Prim.Native.Nat.{ℕ, _+_, _-_, _*_, _≤_}
 use native.Mathlib.Omega.{arith}
 use Rattle.model.specs.Map.{place, q1}
-use Rattle.model.specs.Bytes.{deliver, queue, processors}
+use Rattle.model.specs.Bytes.{deliver, queue}
 use Rattle.model.specs.Lists.{count, Lists}
 use Rattle.laws.specs.Inv.{View, Message, Base}
 use Rattle.laws.specs.Post.{Delivered, deliver-all, deliver-frame}
 use Rattle.laws.specs.Mails.{mail-queue}
-use Rattle.laws.specs.Who.{listed}
 use Rattle.history.specs.Letter.{mailOf, map-append, waitingFor, held, waits-held}
 use Rattle.history.specs.Moving.{Texted, held-through}
 
@@ -55,6 +54,3 @@ module _ {m : List ℕ} {ps : List ℕ} {L : Lists} {W : View} {hs : List ℕ} {
       let e5 : held (deliver m p q) y 5 ≡ held m y 5 = stays y 5 h (omega arith) (omega arith) (omega arith) in
       let e6 : held (deliver m p q) y 6 ≡ held m y 6 = stays y 6 h (omega arith) (omega arith) (omega arith) in
       rw (waits-held (deliver m p q) y, waits-held m y, e5, e6)
-
-  pub delivered-procs : processors (deliver m p q) ≡ ps
-  delivered-procs = listed (all .gave .base)

@@ -137,10 +137,6 @@ module _ {m : List ℕ} {ps : List ℕ} {L : Lists} {W : View} {hs : List ℕ} {
             (λ z i. mine-proc sx h z 1 i (omega arith) (omega arith) (omega arith));
       })
 
-  created-run : getD m2 248 0 ≡ getD m 248 0
-  created-run =
-      created-word 248 (omega arith) (omega (arith, pg)) (λ z i. let t = proc-page sx z i in omega arith) ∙ only b n r v a .below 248 (omega (arith, pg))
-
   created-procs : processors m2 ≡ ps ++ q ∷ []
   created-procs =
       rw created-is (walk-chain 20 (set (set x (q * 32 + 1) 0) (last 1 247 ps) q) 1 247 (ps ++ q ∷ [])

@@ -28,9 +28,6 @@ use Rattle.history.specs.Letter.{Letter, mailOf, key, asked, one-key, Te
 pub record Texted (ps : List ℕ) (m m′ : List ℕ) : Type 0 where
   pub at : (x : ℕ) → Page x → count x ps ≡ 0 → Texts m m′ x
 
-pub texted-on : {ps : List ℕ} {m m1 m2 : List ℕ} → Texted ps m m1 → Texted ps m1 m2 → Texted ps m m2
-texted-on f g = record { at = λ x p o j k l. g .at x p o j k l ∙ f .at x p o j k l }
-
 -- then what waits is what the lists say, with the messages of before
 module _ {m m2 : List ℕ} {ps : List ℕ} {K : Lists} {X : View} {hs : List ℕ} {g : ℕ} (b2 : Base m2 ps K X hs g) (t : Texted ps m m2) where
   pub held-through : (p w : ℕ) → 1 ≤ count p ps → 5 ≤ w → w ≤ 6 → held m2 p w ≡ map (mailOf m) (K (p * 32 + w))

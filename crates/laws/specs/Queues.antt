@@ -150,7 +150,3 @@ module _ (m : List ℕ) (H : ℕ → Type 0) (L : Lists) (hm : length m ≡ 8192
       go (inr n) = rw (upd-other L a b (xs ++ ys) n) (other-put (set m c v) a b (p * 32 + linkOf a) 0 ia ib n
           (inr (p, rw e (omega (arith, count-append p xs (p ∷ ys), hit-self p)), refl))
           (other-put m a b c v ia ib n (own (last-cell a xs)) (rep b ib)))
-
-  -- a word that is neither a header nor a link
-  pub rep-put : (b v : ℕ) → ((a : ℕ) → H a → (b ≢ a) × Off b (linkOf a) (L a)) → Rep (set m b v) H L
-  rep-put b v o a ia = chain-put m b v (linkOf a) a (L a) (o a ia .0) (o a ia .1) (rep a ia)
