@@ -9,7 +9,7 @@ use Rattle.model.specs.Interrupt as Interrupt
 use Rattle.model.specs.Bytes as Model
 use Rattle.model.specs.Bytes.{lists, struck, servedFrom, serve, delivered, whoRuns}
 use Rattle.model.specs.Lists.{Lists}
-use Rattle.laws.specs.Count.{hit-self, count-append}
+use Rattle.laws.specs.Count.{count-mid}
 use Rattle.laws.specs.Uses.{list-short}
 use Rattle.laws.specs.Places.{in-queues, wait-page}
 use Rattle.laws.specs.Inv.{View, view, Clock, Base}
@@ -32,7 +32,7 @@ module _ (k c : ℕ) (k1 : 1 ≤ k) (k2 : k ≤ 54) where
   unfolding Interrupt.struck Interrupt.classed
   calm-struck {m} {ps} {L} p xs ys b e =
       let s = b .facts .sep in
-      let hp = wait-page s (a + 1) p (seat k c k1 k2 ps) (rw e (omega (arith, count-append p xs (p ∷ ys), hit-self p))) in
+      let hp = wait-page s (a + 1) p (seat k c k1 k2 ps) (rw e (count-mid p xs ys)) in
       let w : Same ps L m (Model.wake m a p) = calm-wake s (b .mem) a p xs ys (seat k c k1 k2 ps) hp e in
       let A = Model.wake m a p in
       either (Same ps L m) (eqb (getD m (p * 32 + 2) 0) 1)

@@ -15,7 +15,7 @@ use Rattle.model.specs.Answer.{memoryOf}
 use Rattle.model.specs.Bytes as Model
 use Rattle.model.specs.Bytes.{lists, processors, queue, pageOf, giveBack, unlisted, emptied, mailReturned, grantReturned, delete}
 use Rattle.model.specs.Lists.{count, Lists, some}
-use Rattle.laws.specs.Count.{hit-self, count-append}
+use Rattle.laws.specs.Count.{hit-self, count-append, count-mid}
 use Rattle.laws.specs.Chain.{chain-move, split-at-page}
 use Rattle.laws.specs.Queues.{upd, upd-same}
 use Rattle.laws.specs.Uses.{proc-page}
@@ -52,7 +52,7 @@ module _ (m0 : List ℕ) {m : List ℕ} (p n g : ℕ) (n1 : 1 ≤ n) (n2 : n ≤
   rest = t .q1 ++ p ∷ []
 
   in-rest : 1 ≤ count p rest
-  in-rest = omega (arith, count-append p (t .q1) (p ∷ []), hit-self p)
+  in-rest = count-mid p (t .q1) []
 
   abbrev m1 : List ℕ
   m1 = emptied 20 m n (p * 32 + 6)

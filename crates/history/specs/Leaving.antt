@@ -30,7 +30,7 @@ use Rattle.laws.specs.Members.{count-more}
 use Rattle.laws.specs.Shrink.{in-P, gone, shrink-mem, left-is}
 use Rattle.laws.specs.Shrink as Shrink
 use Rattle.laws.specs.Leave.{Bag, seat-is, queued-in, unlisted-bag}
-use Rattle.laws.specs.Simple.{first-in}
+use Rattle.laws.specs.Simple.{first-in, first-yes, first-no, named-same}
 use Rattle.laws.specs.Who.{label-at, listed}
 use Rattle.laws.specs.Delete.{tot-short}
 use Rattle.history.specs.Letter.{Same, Posts, queue-same, texts-same}
@@ -38,7 +38,7 @@ use Rattle.history.specs.Letter.Ours.{mail}
 use Rattle.history.specs.Put.{returnsTo}
 use Rattle.history.specs.Calm.{calm-refl, ours-seat, ours-wait, mine-high, mine-proc}
 use Rattle.history.specs.Returning.{Grown, grown-same}
-use Rattle.history.specs.Emptying.{first-yes, first-no, named-same, backTo, Aims}
+use Rattle.history.specs.Emptying.{backTo, Aims}
 
 -- ---- out of its wait queue
 record Out (m m1 : List ℕ) (ps : List ℕ) (L : Lists) (W : View) : Type 0 where

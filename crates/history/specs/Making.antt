@@ -16,7 +16,7 @@ use Rattle.model.specs.Answer.{memoryOf}
 use Rattle.model.specs.Bytes as Model
 use Rattle.model.specs.Bytes.{lists, takePage, takeFree, processors, pageOf, queue, created, waitsForPage}
 use Rattle.model.specs.Lists.{count, Lists}
-use Rattle.laws.specs.Count.{hit-self, hit-other, hit-or, count-append}
+use Rattle.laws.specs.Count.{hit-other, hit-or, count-append, count-mid}
 use Rattle.laws.specs.Chain.{Page, Chain, last, join-is, chain-join, walk-chain, off-page, last-not}
 use Rattle.laws.specs.Queues.{link-procs}
 use Rattle.laws.specs.Heads.{one-le, short}
@@ -182,7 +182,7 @@ module _ {m : List ℕ} (w : WellFormed m) (d : getD m 248 0 ≢ 0) where
           let ps1 : Posts (lists m 247) (lists m) m m2 = posts-then ag (posts s1) (created-posts (t .base) n r v a) in
           let keep : (p : ℕ) → 1 ≤ count p (lists m 247) → waitingFor (memoryOf (Model.done m2 len)) p ≡ waitingFor m p = λ p h.
           waits-same (c .base) (posts d2) p (rw pc (omega (arith, count-append p (lists m 247) (q ∷ [])))) ∙ waits-same b ps1 p h in
-          let qc : 1 ≤ count q (c .procs) = rw pc (omega (arith, count-append q (lists m 247) (q ∷ []), hit-self q)) in
+          let qc : 1 ≤ count q (c .procs) = rw pc (count-mid q (lists m 247) []) in
           rw (e, ne-eqb q 0 z) (record {
             at = λ p h i y f. rw (of-none p, keep p (rw lm at h), append-nil (waitingFor m p));
             born = λ p h i.

@@ -10,7 +10,7 @@ use native.Mathlib.Omega.{arith}
 use Rattle.model.specs.Mail as Mail
 use Rattle.model.specs.Bytes.{leave, move}
 use Rattle.model.specs.Lists.{count, Lists}
-use Rattle.laws.specs.Count.{hit-self, hit-or, count-append}
+use Rattle.laws.specs.Count.{hit-or, count-mid}
 use Rattle.laws.specs.Chain.{Page}
 use Rattle.laws.specs.Queues.{upd, upd-same, upd-other}
 use Rattle.laws.specs.Uses.{Sep, proc-page}
@@ -69,7 +69,7 @@ module _ {m : List ℕ} {ps : List ℕ} {L : Lists} {W : View} {hs : List ℕ} {
   b1 = take-mail b p 5 q xs ys h (omega arith) (omega arith) e
 
   in5 : 1 ≤ count q (L (p * 32 + 5))
-  in5 = rw e (omega (arith, count-append q xs (q ∷ ys), hit-self q))
+  in5 = rw e (count-mid q xs ys)
 
   pub moved : Lists
   moved = upd J (p * 32 + 6) (J (p * 32 + 6) ++ q ∷ [])

@@ -16,7 +16,7 @@ use Rattle.model.specs.Answer.{memoryOf}
 use Rattle.model.specs.Bytes as Model
 use Rattle.model.specs.Bytes.{lists, queue, processors, leave, copy, copyOut, giveBack}
 use Rattle.model.specs.Lists.{count, Lists}
-use Rattle.laws.specs.Count.{hit-self, hit-or, count-append}
+use Rattle.laws.specs.Count.{hit-or, count-append, count-mid}
 use Rattle.laws.specs.Queues.{upd, upd-same, upd-other}
 use Rattle.laws.specs.Uses.{Sep}
 use Rattle.laws.specs.Inv.{View, view, Base}
@@ -139,7 +139,7 @@ module _ {m : List ℕ} (w : WellFormed m) (d : getD m 248 0 ≢ 0) where
       mails-same m x zs (λ z i. texts-same b (posts sx) r 6 z hr (omega arith) (omega arith) (inside z (k z i))) in
       let mx = ms xs (λ z i. omega (arith, count-append z xs (q ∷ []))) in
       let mq : mailOf x q ≡ mailOf m q = let tq = texts-same b (posts sx) r 6 q hr (omega arith) (omega arith)
-      (inside q (omega (arith, count-append q xs (q ∷ []), hit-self q))) in mail-same m x q (tq .page .1) (tq .sized) (tq .texts) in
+      (inside q (count-mid q xs [])) in mail-same m x q (tq .page .1) (tq .sized) (tq .texts) in
       record {
         at = λ p h i k l.
             let j = rw (listed b) at h in

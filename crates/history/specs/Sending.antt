@@ -10,17 +10,14 @@ use lib.ListN.{getD, set}
 use lib.Dec.{eqb, ltb}
 use borrow.Author.Tests.{eqb-false, ne-eqb, ltb-false}
 use Rattle.model.specs.Address.{guarded, clear}
-use Rattle.model.specs.Queue as Queue
-use Rattle.model.specs.Queue.{first}
-use Rattle.model.specs.Processor as Processor
 use Rattle.model.specs.Mail as Mail
 use Rattle.model.specs.Page.Taken.{took}
 use Rattle.model.specs.Operate as Operate
 use Rattle.model.specs.Answer.{memoryOf}
 use Rattle.model.specs.Bytes as Model
-use Rattle.model.specs.Bytes.{lists, processors, deliver, writeMessage, makeNotice, posted, pageOf, isNamed, takePage, waitsForPage, running}
+use Rattle.model.specs.Bytes.{lists, processors, deliver, writeMessage, makeNotice, posted, pageOf, takePage, waitsForPage, running}
 use Rattle.model.specs.Lists.{count, Lists}
-use Rattle.laws.specs.Count.{hit-self, hit-or}
+use Rattle.laws.specs.Count.{hit-or}
 use Rattle.laws.specs.Chain.{Page}
 use Rattle.laws.specs.Inv.{View, view, Label, Message, Base}
 use Rattle.laws.specs.Judged.{WellFormed}
@@ -32,9 +29,9 @@ use Rattle.laws.specs.Grants.{Gave, Takes, take-page}
 use Rattle.laws.specs.Grants.Takes.{gets, lacks}
 use Rattle.laws.specs.Still.{aside-hand}
 use Rattle.laws.specs.Post.{deliver-all, two, word1, word2, copy-below}
-use Rattle.laws.specs.Who.{running-at, listed, label-at, Busy, busy}
+use Rattle.laws.specs.Who.{listed, label-at, Busy, busy, running-same, label-in}
 use Rattle.laws.specs.Mails.{clear-at}
-use Rattle.laws.specs.Simple.{named-in, Open, clear-open}
+use Rattle.laws.specs.Simple.{named-in, Open, clear-open, named-same}
 use Rattle.history.specs.Order.{only}
 use Rattle.history.specs.Letter.{Letter, mailOf, words, key, waitingFor, Same, posts, posts-then, agrees, waits-same, procs-same, words-moved, held, held-same}
 use Rattle.history.specs.Put.{of, nothing, putting, noticeFrom, posting, hasPage, smeMail}
@@ -175,15 +172,6 @@ module _ {m : List ℕ} {ps : List ℕ} {L : Lists} {W : View} {hs : List ℕ} {
         rw (written-words .0, written-words .1, e1, e2, e3, written-text far)
 
 -- ---- the instruction
-first-same : (f g : ℕ → Bool) (xs : List ℕ) → ((x : ℕ) → 1 ≤ count x xs → f x ≡ g x) → first f xs ≡ first g xs
-unfolding Queue.first
-first-same f g [] h = refl
-first-same f g (z ∷ zs) h = go (g z) refl (h z (omega (arith, hit-self z))) (first-same f g zs (λ y i. h y (omega arith)))
-  where
-    go : (c : Bool) → g z ≡ c → f z ≡ g z → first f zs ≡ first g zs → first f (z ∷ zs) ≡ first g (z ∷ zs)
-    go true e k ih = let e2 = k ∙ e in rw (e, e2, Queue.first)
-    go false e k ih = let e2 = k ∙ e in rw (e, e2, Queue.first) ih
-
 module _ {m : List ℕ} (w : WellFormed m) (d : getD m 248 0 ≢ 0) where
   open Busy (busy w d) using (base as b, runs as hr)
 
@@ -196,7 +184,7 @@ module _ {m : List ℕ} (w : WellFormed m) (d : getD m 248 0 ≢ 0) where
     s1 = calm-takes b r hr q m1 e
 
     run1 : getD m1 248 0 ≡ getD m 248 0
-    run1 = running-at (t .base) ∙ ap (λ (z : ℕ → ℕ). z 248) (t .low)
+    run1 = running-same b t
 
     in1 : 1 ≤ count (getD m1 248 0) (lists m 247)
     in1 = rw run1 hr
@@ -205,12 +193,10 @@ module _ {m : List ℕ} (w : WellFormed m) (d : getD m 248 0 ≢ 0) where
     label1 p h = label-at (t .base) p h ∙ ap (λ (z : ℕ → ℕ). z p) k
 
     page1 : (n : ℕ) → pageOf m1 n ≡ pageOf m n
-    unfolding Processor.isNamed
-    page1 n =
-        rw (listed (t .base), listed b) (first-same (isNamed m1 n) (isNamed m n) (lists m 247) (λ p h. rw (label1 p h)))
+    page1 n = rw (listed (t .base), listed b) (named-same m m1 n (lists m 247) label1)
 
     named : Label (getD m1 (getD m1 248 0 * 32 + 7) 0)
-    named = rw (label-at (t .base) (getD m1 248 0) in1) (t .base .facts .names .range (getD m1 248 0) in1)
+    named = label-in (t .base) (getD m1 248 0) in1
 
     notice-sent : (n f len : ℕ) → 1 ≤ n → n ≤ 15 → 1 ≤ f → f ≤ 7
         → Sent m (memoryOf (Model.done (deliver (makeNotice m1 q n f) (getD m1 248 0) q) len)) (putting ((getD m 248 0, noticeFrom n f) ∷ []))

@@ -20,7 +20,7 @@ use Rattle.model.specs.Instruction.{shapeFor}
 use Rattle.model.specs.Bytes as Model
 use Rattle.model.specs.Bytes.{lists, queue, running, leave, copy, copyOut, giveBack, direct, pointed}
 use Rattle.model.specs.Lists.{count, Lists}
-use Rattle.laws.specs.Count.{hit-self, count-append}
+use Rattle.laws.specs.Count.{count-mid}
 use Rattle.laws.specs.Chain.{Page}
 use Rattle.laws.specs.Uses.{proc-page}
 use Rattle.laws.specs.Places.{in-free, in-q, grant-high, all-pages, wait-page}
@@ -196,7 +196,7 @@ module _ {m : List ℕ} (w : WellFormed m) (d : getD m 248 0 ≢ 0) where
 
   module _ (q a : ℕ) (xs ys : List ℕ) (e : lists m (r * 32 + 6) ≡ xs ++ q ∷ ys) (la : a < 8192) (cl : clear (3 + getD m (q * 32 + 2) 0 % 128) a ≡ true) where
     in6 : 1 ≤ count q (lists m (r * 32 + 6))
-    in6 = rw e (omega (arith, count-append q xs (q ∷ ys), hit-self q))
+    in6 = rw e (count-mid q xs ys)
 
     pq : Page q
     pq = all-pages (b .facts .sep) (r * 32 + 6) q (in-q (lists m 247) r 6 (omega arith) (omega arith) hr) in6

@@ -8,7 +8,7 @@ use lib.ListN.{length, getD, set, length-set, length-append}
 use lib.Seq.{getD-set-same}
 use Rattle.model.specs.Bytes.{join, leave}
 use Rattle.model.specs.Lists.{count, Lists, some, linkOf, isGrant}
-use Rattle.laws.specs.Count.{hit-self, hit-or, count-append, zero-or}
+use Rattle.laws.specs.Count.{hit-self, hit-or, count-append, zero-or, count-mid}
 use Rattle.laws.specs.Chain.{Page, Chain, chain-move, last, last-in, last-not, join-is, leave-is, off-page}
 use Rattle.laws.specs.Queues.{upd, upd-same, upd-other, link-le, link-procs, link-other, rep-join, rep-leave}
 use Rattle.laws.specs.Heads.{Place, Seat, seat-of}
@@ -137,7 +137,7 @@ module _ {m : List ℕ} {ps : List ℕ} {L : Lists} {W : View} (s : Sep ps L) (x
     part z i = rw e (omega (arith, count-append z xs (p ∷ ys)))
 
     pub left-in : 1 ≤ count p (L a)
-    left-in = rw e (omega (arith, count-append p xs (p ∷ ys), hit-self p))
+    left-in = rw e (count-mid p xs ys)
 
     leave-eq : leave m a 0 p ≡ set (set m (last 0 a xs) (getD m (p * 32 + 0) 0)) (p * 32 + 0) 0
     leave-eq =

@@ -11,7 +11,7 @@ use borrow.Author.Tests.{eq-eqb, ne-eqb}
 use Rattle.model.specs.Store.{bytes}
 use Rattle.model.specs.Queue as Queue
 use Rattle.model.specs.Lists.{count}
-use Rattle.laws.specs.Count.{hit-self, hit-other, hit-or, count-append, count-ne}
+use Rattle.laws.specs.Count.{hit-self, hit-other, hit-or, count-append, count-ne, count-mid}
 
 abbrev pub Page : ℕ → Type 0
 Page x = (236 ≤ x) × (x < 256)
@@ -156,7 +156,7 @@ chain-leave m k a p [] ys hm ha hk o d c =
 chain-leave m k a p (x ∷ xs) ys hm ha hk o d c =
     let v = getD m (p * 32 + k) 0 in
     let l = last-in k a x xs in (
-      getD-set-other (set m (last k a (x ∷ xs)) v) (p * 32 + k) a 0 0 (o p (omega (arith, count-append p xs (p ∷ ys), hit-self p)))
+      getD-set-other (set m (last k a (x ∷ xs)) v) (p * 32 + k) a 0 0 (o p (count-mid p (x ∷ xs) ys))
           ∙ getD-set-other m (last k a (x ∷ xs)) a v 0 (rw (l .2) (o (l .0) (omega (arith, l .1, count-append (l .0) xs (p ∷ ys))))) ∙ c .0,
       c .1,
       chain-leave m k (x * 32 + k) p xs ys hm (omega arith) hk (off-next x k (xs ++ p ∷ ys) hk d) (λ z. omega (arith, d z)) (c .2),

@@ -15,7 +15,7 @@ use Rattle.model.specs.Operate as Operate
 use Rattle.model.specs.Bytes as Model
 use Rattle.model.specs.Bytes.{lists, leave, giveBack, deliver, makeNotice, pageOf, returned, emptied, mailReturned, grantReturned, delete}
 use Rattle.model.specs.Lists.{count, Lists, some}
-use Rattle.laws.specs.Count.{hit-self, count-append}
+use Rattle.laws.specs.Count.{hit-self, count-append, count-mid}
 use Rattle.laws.specs.Chain.{Page, Chain, NoDup, chain-move, chain-leave, leave-is}
 use Rattle.laws.specs.Queues.{upd-same}
 use Rattle.laws.specs.Heads.{one-le, short}
@@ -223,7 +223,7 @@ mail-back {m} p n g n1 n2 t =
       chain = t .chain2;
       letters = t .letters2;
     } in
-    let d2 = drain p 6 n (omega arith) (omega arith) n1 n2 (t .procs) (t .q1 ++ p ∷ []) g (omega (arith, count-append p (t .q1) (p ∷ []), hit-self p))
+    let d2 = drain p 6 n (omega arith) (omega arith) n1 n2 (t .procs) (t .q1 ++ p ∷ []) g (count-mid p (t .q1) [])
     (t .q2) 20
     (tot-short (a2 .base) (t .q2) (λ z. omega (arith, count-append z (t .q2) (t .q1 ++ p ∷ [])))) a2 in
     second d2
@@ -233,7 +233,7 @@ mail-back {m} p n g n1 n2 t =
     second d =
         let m1 = emptied 20 m n (p * 32 + 6) in
         let in1 : (y : ℕ) → 1 ≤ count y (t .q1) → 1 ≤ count y (t .q1 ++ p ∷ []) = λ y i. omega (arith, count-append y (t .q1) (p ∷ [])) in
-        let inp : 1 ≤ count p (t .q1 ++ p ∷ []) = omega (arith, count-append p (t .q1) (p ∷ []), hit-self p) in
+        let inp : 1 ≤ count p (t .q1 ++ p ∷ []) = count-mid p (t .q1) [] in
         let a1 : Queue m1 (t .procs) p 5 (t .q1) (p ∷ []) g = record {
           lists = d .lists;
           view = d .view;

@@ -14,7 +14,7 @@ use Rattle.model.specs.Operate as Operate
 use Rattle.model.specs.Bytes as Model
 use Rattle.model.specs.Bytes.{lists, ends, struck, classed, servedFrom, serve, counts, turns, delivered, whoRuns}
 use Rattle.model.specs.Lists.{count, Lists, queues}
-use Rattle.laws.specs.Count.{hit-self, hit-or, count-append}
+use Rattle.laws.specs.Count.{hit-or, count-mid}
 use Rattle.laws.specs.Chain.{Page, Chain}
 use Rattle.laws.specs.Queues.{upd, upd-same}
 use Rattle.laws.specs.Heads.{sum-one, sum-two}
@@ -139,7 +139,7 @@ module _ (k c : ℕ) (k1 : 1 ≤ k) (k2 : k ≤ 54) where
       s = b .facts .sep
 
       inside : 1 ≤ count p (L (a + 1))
-      inside = rw e (omega (arith, count-append p xs (p ∷ ys), hit-self p))
+      inside = rw e (count-mid p xs ys)
 
       pg : Page p
       pg = proc-page s p (wait-page s (a + 1) p (seat ps) inside)

@@ -1,5 +1,5 @@
 -- Instructions: SME, WNM, RME and TME leave a well-formed memory. Assumes nothing.
-use mathlib.Core.Path.{_≡_, refl, sym, ap, _∙_}
+use mathlib.Core.Path.{_≡_, refl, sym, _∙_}
 use mathlib.Core.Logic.{_≢_, _⊎_, inl, inr}
 use mathlib.Core.Bool.{Bool, true, false, cond}
 use mathlib.Core.List.{List, [], _∷_, _++_}
@@ -33,7 +33,7 @@ use Rattle.laws.specs.Hands.{take-mail, give-mail}
 use Rattle.laws.specs.Grants.{Gave, give-back, Takes, take-page}
 use Rattle.laws.specs.Grants.Takes.{gets, lacks}
 use Rattle.laws.specs.Post.{notice-base, message-base}
-use Rattle.laws.specs.Who.{running-at, label-at, Busy, busy}
+use Rattle.laws.specs.Who.{Busy, busy, running-same, label-in}
 use Rattle.laws.specs.Ends.{Fine, done-fine, jumps-fine, waits-fine}
 use Rattle.laws.specs.Simple.{first-in, named-in, quiet-clear, fails}
 use Rattle.laws.specs.Waits.{Fit, page-fit}
@@ -185,13 +185,13 @@ module _ {m : List ℕ} (w : WellFormed m) (d : getD m 248 0 ≢ 0) where
   posted-fine n f a l len q m1 n1 n2 f1 f2 l2 t = go (eqb (pageOf m1 n) 0) refl
     where
       run : getD m1 248 0 ≡ getD m 248 0
-      run = running-at (t .base) ∙ ap (λ (z : ℕ → ℕ). z 248) (t .low)
+      run = running-same b t
 
       in1 : 1 ≤ count (getD m1 248 0) (lists m 247)
       in1 = rw run hr
 
       named : Label (getD m1 (getD m1 248 0 * 32 + 7) 0)
-      named = rw (label-at (t .base) (getD m1 248 0) in1) (t .base .facts .names .range (getD m1 248 0) in1)
+      named = label-in (t .base) (getD m1 248 0) in1
 
       go : (c : Bool) → eqb (pageOf m1 n) 0 ≡ c → Fine (Model.done (Model.posted m1 q n f a l) len)
       go true e = rw e (done-fine (notice-base (t .base) n f (getD m1 248 0) n1 n2 f1 f2 in1 .base) len)

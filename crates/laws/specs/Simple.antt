@@ -1,5 +1,5 @@
 -- Instructions: CVI, DVI, ST1, STP, ST2 and code 13 leave a well-formed memory, and so does setting registers. Assumes nothing.
-use mathlib.Core.Path.{sym, _≡_, refl, ap}
+use mathlib.Core.Path.{_≡_, refl, sym, ap, _∙_}
 use mathlib.Core.Logic.{_≢_, _⊎_, inl, inr}
 use mathlib.Core.Bool.{Bool, true, false}
 use mathlib.Core.List.{List, [], _∷_}
@@ -41,7 +41,32 @@ pick P [] d k c i e h z = z
 pick P (x ∷ xs) d zero c i e h z = h .0 (omega arith)
 pick P (x ∷ xs) d (suc k) c i e h z = pick P xs d k c (suc i) (omega arith) (h .1) z
 
--- ---- a name on the list
+-- ---- the first that a test picks, and a name on the list
+pub first-yes : (f : ℕ → Bool) (z : ℕ) (zs : List ℕ) → f z ≡ true → first f (z ∷ zs) ≡ z
+unfolding Queue.first
+first-yes f z zs e = rw (e, Queue.first)
+
+pub first-no : (f : ℕ → Bool) (z : ℕ) (zs : List ℕ) → f z ≡ false → first f (z ∷ zs) ≡ first f zs
+unfolding Queue.first
+first-no f z zs e = rw (e, Queue.first)
+
+first-nil : (f : ℕ → Bool) → first f [] ≡ 0
+unfolding Queue.first
+first-nil f = refl
+
+first-same : (f g : ℕ → Bool) (zs : List ℕ) → ((z : ℕ) → 1 ≤ count z zs → f z ≡ g z) → first f zs ≡ first g zs
+first-same f g [] h = first-nil f ∙ sym (first-nil g)
+first-same f g (z ∷ zs) h = go (g z) refl (h z (omega (arith, hit-self z))) (first-same f g zs (λ y i. h y (omega arith)))
+  where
+    go : (c : Bool) → g z ≡ c → f z ≡ g z → first f zs ≡ first g zs → first f (z ∷ zs) ≡ first g (z ∷ zs)
+    go true e d ih = first-yes f z zs (d ∙ e) ∙ sym (first-yes g z zs e)
+    go false e d ih = first-no f z zs (d ∙ e) ∙ ih ∙ sym (first-no g z zs e)
+
+pub named-same : (m m1 : List ℕ) (n : ℕ) (zs : List ℕ) → ((z : ℕ) → 1 ≤ count z zs → getD m1 (z * 32 + 7) 0 ≡ getD m (z * 32 + 7) 0)
+    → first (isNamed m1 n) zs ≡ first (isNamed m n) zs
+unfolding Processor.isNamed
+named-same m m1 n zs h = first-same (isNamed m1 n) (isNamed m n) zs (λ z i. rw (h z i))
+
 pub first-in : (f : ℕ → Bool) (xs : List ℕ) → first f xs ≢ 0 → (1 ≤ count (first f xs) xs) × (f (first f xs) ≡ true)
 unfolding Queue.first
 first-in f [] n = absurd (n refl)

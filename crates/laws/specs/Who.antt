@@ -19,12 +19,13 @@ use Rattle.laws.specs.Chain.{Page, walk-chain}
 use Rattle.laws.specs.Queues.{link-procs}
 use Rattle.laws.specs.Uses.{Sep, proc-page, proc-once, list-short}
 use Rattle.laws.specs.Places.{in-procs, grant-low}
-use Rattle.laws.specs.Inv.{View, view, Runs, Clock, Best, Base, Inv}
+use Rattle.laws.specs.Inv.{View, view, Label, Runs, Clock, Best, Base, Inv}
 use Rattle.laws.specs.Judged.{WellFormed, invariant}
 use Rattle.laws.specs.Frames.{Kept, kept-refl, kept-set, quiet-low, quiet-word, base-kept}
 use Rattle.laws.specs.Views.{put1, withLow}
 use Rattle.laws.specs.Stores.{turn-mem}
 use Rattle.laws.specs.Changes.{facts-low}
+use Rattle.laws.specs.Grants.{Gave}
 
 -- ---- page 0's words, saved and loaded
 kept-kept : {m : List ℕ} (n : ℕ) (m′ : List ℕ) (p : ℕ) (w : List ℕ) → Page p → n ≤ 19 → Kept m m′ → Kept m (Model.kept n m′ p w)
@@ -312,6 +313,15 @@ module _ {m : List ℕ} {ps : List ℕ} {L : Lists} {W : View} {hs : List ℕ} {
 -- "Who runs, after each call": the invariant then holds whole
 pub who-inv : {m : List ℕ} {ps : List ℕ} {L : Lists} {W : View} (b : Base m ps L W [] 32) → (X : View) × Inv (whoRuns m) ps L X
 who-inv {W = W} b = let t = who-runs b in (withLow W (t .low), record { base = t .base; best = t .best })
+
+-- a step that leaves words 24 and 25 of page 7 leaves who runs
+pub running-same : {m m1 : List ℕ} {ps : List ℕ} {L : Lists} {W : View} {hs hs1 : List ℕ} {g g1 : ℕ} → Base m ps L W hs g → Gave m1 ps hs1 g1 W
+    → getD m1 248 0 ≡ getD m 248 0
+running-same b t = running-at (t .base) ∙ ap (λ (z : ℕ → ℕ). z 248) (t .low) ∙ sym (running-at b)
+
+pub label-in : {m : List ℕ} {ps : List ℕ} {L : Lists} {W : View} {hs : List ℕ} {g : ℕ} → Base m ps L W hs g → (p : ℕ) → 1 ≤ count p ps
+    → Label (getD m (p * 32 + 7) 0)
+label-in b p h = rw (label-at b p h) (b .facts .names .range p h)
 
 -- ---- a well-formed memory where someone runs, who is ready
 pub record Busy (m : List ℕ) : Type 0 where
