@@ -3,16 +3,26 @@
 use mathlib.Core.Path.{_≡_, sym, ap, _∙_}
 use mathlib.Core.Logic.{_≢_}
 use mathlib.Core.List.{List, [], _∷_, _++_, append-assoc, map}
-use Prim.Native.Nat.{ℕ, _+_, _-_, _*_, _≤_}
+use Prim.Native.Nat.{ℕ, _+_, _-_, _*_, _/_, _%_, _≤_}
 use native.Mathlib.Omega.{arith}
 use Rattle.model.specs.Map.{place, q1}
-use Rattle.model.specs.Bytes.{deliver, queue}
+use Rattle.model.specs.Bytes.{deliver, queue, makeNotice}
 use Rattle.model.specs.Lists.{count, Lists}
 use Rattle.laws.specs.Inv.{View, Message, Base}
-use Rattle.laws.specs.Post.{Delivered, deliver-all, deliver-frame}
+use Rattle.laws.specs.Post.{Delivered, deliver-all, deliver-frame, notice-words}
 use Rattle.laws.specs.Mails.{mail-queue}
-use Rattle.history.specs.Letter.{mailOf, map-append, waitingFor, held, waits-held}
+use Rattle.history.specs.Letter.{mailOf, map-append, waitingFor, held, waits-held, words}
+use Rattle.history.specs.Put.{noticeFrom}
 use Rattle.history.specs.Moving.{Texted, held-through}
+
+-- ---- the message of a notice in hand
+pub notice-mail : {m : List ℕ} {ps : List ℕ} {L : Lists} {W : View} {hs : List ℕ} {g q : ℕ} (b : Base m ps L W (q ∷ hs) g) (n f : ℕ) → f ≤ 7
+    → mailOf (makeNotice m q n f) q ≡ noticeFrom n f
+unfolding mailOf words
+notice-mail b n f l =
+    let e1 : (n * 16 + f) / 16 ≡ n = omega arith in
+    let e2 : (n * 16 + f) % 16 ≡ f = omega arith in
+    rw (notice-words b n f .0, notice-words b n f .1, e1, e2)
 
 -- ---- the delivery
 module _ {m : List ℕ} {ps : List ℕ} {L : Lists} {W : View} {hs : List ℕ} {g q : ℕ} (b : Base m ps L W (q ∷ hs) g) (p : ℕ) (hp : 1 ≤ count p ps)

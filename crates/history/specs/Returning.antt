@@ -4,29 +4,27 @@ use mathlib.Core.Path.{_≡_, refl, sym, ap, _∙_}
 use mathlib.Core.Logic.{_≢_, _⊎_, inl, inr}
 use mathlib.Core.Bool.{Bool, true, false, cond}
 use mathlib.Core.List.{List, [], _∷_, _++_, append-nil, append-assoc}
-use Prim.Native.Nat.{ℕ, _+_, _*_, _/_, _%_, _≤_}
+use Prim.Native.Nat.{ℕ, _+_, _*_, _%_, _≤_}
 use native.Mathlib.Omega.{arith}
-use lib.ListN.{getD, set}
+use lib.ListN.{getD}
 use lib.Dec.{eqb}
-use Rattle.model.specs.Mail as Mail
 use Rattle.model.specs.Bytes.{giveBack, deliver, makeNotice}
 use Rattle.model.specs.Lists.{count, Lists}
 use Rattle.laws.specs.Count.{hit-or}
 use Rattle.laws.specs.Chain.{Page}
 use Rattle.laws.specs.Uses.{proc-page}
 use Rattle.laws.specs.Inv.{View, Message, Base}
-use Rattle.laws.specs.Frames.{other}
 use Rattle.laws.specs.Changes.{hand-out}
 use Rattle.laws.specs.Hands.{in-hand, hand-base}
 use Rattle.laws.specs.Grants.{give-frame}
-use Rattle.laws.specs.Post.{two, word1, word2, deliver-frame}
+use Rattle.laws.specs.Post.{retold-letter, notice-only, notice-letter, deliver-frame}
 use Rattle.laws.specs.Still.{aside-hand}
-use Rattle.laws.specs.Delete.{letter}
-use Rattle.history.specs.Letter.{Letter, words, mailOf, waitingFor, Posts, posts, waits-same, held, held-same}
+use Rattle.laws.specs.Stores.{only-word}
+use Rattle.history.specs.Letter.{Letter, mailOf, waitingFor, Posts, posts, waits-same, held, held-same}
 use Rattle.history.specs.Put.{Log, of, noticeFrom, returnsTo, notices}
 use Rattle.history.specs.Calm.{calm-only, calm-give}
 use Rattle.history.specs.Told.{of-none, of-here, of-other}
-use Rattle.history.specs.Delivering.{delivered-last, delivered-other, delivered-here, delivered-away}
+use Rattle.history.specs.Delivering.{delivered-last, delivered-other, delivered-here, delivered-away, notice-mail}
 
 -- ---- what is put, one after the other
 of-yes : (p : ℕ) (x : ℕ × Letter) (l : Log) → eqb p (x .0) ≡ true → of p (x ∷ l) ≡ x .1 ∷ of p l
@@ -122,43 +120,28 @@ module _ {m : List ℕ} {ps : List ℕ} {L : Lists} {W : View} {hs : List ℕ} {
   pub give-grows : Grown ps m (giveBack m q) []
   give-grows = grown-same b (posts (calm-give b)) ps (λ y h. h) (give-names b)
 
-  abbrev note2 : ℕ → ℕ → List ℕ
-  note2 n f = set (set m (q * 32 + 1) (n * 16 + f)) (q * 32 + 2) 128
-
-  note-mail : (n f : ℕ) → f ≤ 7 → mailOf (note2 n f) q ≡ noticeFrom n f
-  unfolding mailOf words
-  note-mail n f l =
-      let e1 : (n * 16 + f) / 16 ≡ n = omega arith in
-      let e2 : (n * 16 + f) % 16 ≡ f = omega arith in
-      rw (word1 b (n * 16 + f) 128, word2 b (n * 16 + f) 128, e1, e2)
-
-  note-posts : (n f : ℕ) → Posts ps L m (note2 n f)
-  note-posts n f = posts (calm-only (b .facts .sep) m (note2 n f) q (aside-hand b q (in-hand b)) (two b (n * 16 + f) 128))
+  notice-posts : (n f : ℕ) → Posts ps L m (makeNotice m q n f)
+  notice-posts n f = posts (calm-only (b .facts .sep) m (makeNotice m q n f) q (aside-hand b q (in-hand b)) (notice-only b n f))
 
   pub notice-grows : (n f p : ℕ) → 1 ≤ n → n ≤ 15 → 1 ≤ f → f ≤ 7 → 1 ≤ count p ps → Grown ps m (deliver (makeNotice m q n f) p q) ((p, noticeFrom n f) ∷ [])
-  unfolding Mail.makeNotice
   notice-grows n f p n1 n2 f1 f2 hp =
-      let b2 = hand-base q (in-hand b) (two b (n * 16 + f) 128) b in
-      let t = letter b n f n1 n2 f1 f2 in
+      let o = notice-only b n f in
+      let b2 = hand-base q (in-hand b) o b in
+      let t = retold-letter b o (notice-letter b n f n1 n2 f1 f2) in
       record {
         waits = λ y h.
-            waits y (delivered-here b2 p hp t) (λ d. delivered-away b2 p hp t y h d) (waits-same b (note-posts n f) y h) (hit-or y p);
+            grows waitingFor y (delivered-here b2 p hp t) (λ d. delivered-away b2 p hp t y h d) (waits-same b (notice-posts n f) y h) (hit-or y p);
         last = λ y h.
-            last y (delivered-last b2 p hp t) (λ d. delivered-other b2 p hp t y h d) (held-same b (note-posts n f) y 5 h (omega arith) (omega arith)) (hit-or y p);
+            grows (λ x z. held x z 5) y (delivered-last b2 p hp t) (λ d. delivered-other b2 p hp t y h d)
+            (held-same b (notice-posts n f) y 5 h (omega arith) (omega arith)) (hit-or y p);
         names = λ y h.
             let d : y ≢ q = λ e. omega (arith, ap (λ (z : ℕ). count z ps) e, hand-out b q (in-hand b)) in
-            deliver-names b2 y h p hp t ∙ other (set m (q * 32 + 1) (n * 16 + f)) (q * 32 + 2) 128 (y * 32 + 7) (omega arith)
-            ∙ other m (q * 32 + 1) (n * 16 + f) (y * 32 + 7) (omega arith);
+            deliver-names b2 y h p hp t ∙ only-word o y 7 d (omega arith);
       }
     where
-      waits : (y : ℕ) → waitingFor (deliver (note2 n f) p q) p ≡ waitingFor (note2 n f) p ++ mailOf (note2 n f) q ∷ []
-          → (y ≢ p → waitingFor (deliver (note2 n f) p q) y ≡ waitingFor (note2 n f) y) → waitingFor (note2 n f) y ≡ waitingFor m y → (y ≡ p) ⊎ (y ≢ p)
-          → waitingFor (deliver (note2 n f) p q) y ≡ waitingFor m y ++ of y ((p, noticeFrom n f) ∷ [])
-      waits y here away same (inl z) = let k = rw z at same in rw (z, of-here p (noticeFrom n f), here, k, note-mail n f f2)
-      waits y here away same (inr d) = rw (of-other y p (noticeFrom n f) d, append-nil (waitingFor m y)) (away d ∙ same)
-
-      last : (y : ℕ) → held (deliver (note2 n f) p q) p 5 ≡ held (note2 n f) p 5 ++ mailOf (note2 n f) q ∷ []
-          → (y ≢ p → held (deliver (note2 n f) p q) y 5 ≡ held (note2 n f) y 5) → held (note2 n f) y 5 ≡ held m y 5 → (y ≡ p) ⊎ (y ≢ p)
-          → held (deliver (note2 n f) p q) y 5 ≡ held m y 5 ++ of y ((p, noticeFrom n f) ∷ [])
-      last y here away same (inl z) = let k = rw z at same in rw (z, of-here p (noticeFrom n f), here, k, note-mail n f f2)
-      last y here away same (inr d) = rw (of-other y p (noticeFrom n f) d, append-nil (held m y 5)) (away d ∙ same)
+      grows : (F : List ℕ → ℕ → List Letter) (y : ℕ)
+          → F (deliver (makeNotice m q n f) p q) p ≡ F (makeNotice m q n f) p ++ mailOf (makeNotice m q n f) q ∷ []
+          → (y ≢ p → F (deliver (makeNotice m q n f) p q) y ≡ F (makeNotice m q n f) y) → F (makeNotice m q n f) y ≡ F m y → (y ≡ p) ⊎ (y ≢ p)
+          → F (deliver (makeNotice m q n f) p q) y ≡ F m y ++ of y ((p, noticeFrom n f) ∷ [])
+      grows F y here away same (inl z) = let k = rw z at same in rw (z, of-here p (noticeFrom n f), here, k, notice-mail b n f f2)
+      grows F y here away same (inr d) = rw (of-other y p (noticeFrom n f) d, append-nil (F m y)) (away d ∙ same)

@@ -21,14 +21,14 @@ use Rattle.laws.specs.Count.{hit-or}
 use Rattle.laws.specs.Chain.{Page}
 use Rattle.laws.specs.Inv.{View, view, Label, Message, Base}
 use Rattle.laws.specs.Judged.{WellFormed}
-use Rattle.laws.specs.Frames.{other, Only, only-copy}
-use Rattle.laws.specs.Views.{put1-same, retold}
+use Rattle.laws.specs.Frames.{other, Only}
+use Rattle.laws.specs.Views.{retold}
 use Rattle.laws.specs.Changes.{hand-page}
 use Rattle.laws.specs.Hands.{in-hand, hand-base}
 use Rattle.laws.specs.Grants.{Gave, Takes, take-page}
 use Rattle.laws.specs.Grants.Takes.{gets, lacks}
 use Rattle.laws.specs.Still.{aside-hand}
-use Rattle.laws.specs.Post.{deliver-all, two, word1, word2, copy-below}
+use Rattle.laws.specs.Post.{deliver-all, retold-letter, two, notice-only, notice-letter, message-only, message-words, message-letter}
 use Rattle.laws.specs.Who.{listed, label-at, Busy, busy, running-same, label-in}
 use Rattle.laws.specs.Mails.{clear-at}
 use Rattle.laws.specs.Simple.{named-in, Open, clear-open, named-same}
@@ -39,7 +39,7 @@ use Rattle.history.specs.Calm.{calm-only}
 use Rattle.history.specs.Told.{Told, Stands, of-none, of-here, of-other, calm-done, runs-in, Sent, sent-same}
 use Rattle.history.specs.Quiet.{fault-sent}
 use Rattle.history.specs.Making.{calm-takes, takes-word, page-waits}
-use Rattle.history.specs.Delivering.{delivered-last, delivered-here, delivered-away}
+use Rattle.history.specs.Delivering.{delivered-last, delivered-here, delivered-away, notice-mail}
 use Rattle.history.specs.Copied.{copy-at}
 
 -- ---- a page taken from m, then written, then delivered
@@ -50,7 +50,7 @@ module _ {m : List ℕ} {ps : List ℕ} {L : Lists} {W : View} (b : Base m ps L 
   b2 = hand-base q (in-hand b1) o b1
 
   t2 : Message (retold m2 X q .note q) (retold m2 X q .reason q)
-  t2 = rw (put1-same (X .note) q (getD m2 (q * 32 + 1) 0) q refl, put1-same (X .reason) q (getD m2 (q * 32 + 2) 0) q refl) letter
+  t2 = retold-letter b1 o letter
 
   abbrev m3 : List ℕ
   m3 = deliver m2 p q
@@ -103,27 +103,6 @@ module _ {m : List ℕ} {ps : List ℕ} {L : Lists} {W : View} {hs : List ℕ} {
   hq : Page q
   hq = hand-page b q (in-hand b)
 
-  notice-only : (n f : ℕ) → Only q m (makeNotice m q n f)
-  unfolding Mail.makeNotice
-  notice-only n f = two b (n * 16 + f) 128
-
-  notice-words : (n f : ℕ) → (getD (makeNotice m q n f) (q * 32 + 1) 0 ≡ n * 16 + f) × (getD (makeNotice m q n f) (q * 32 + 2) 0 ≡ 128)
-  unfolding Mail.makeNotice
-  notice-words n f = (word1 b (n * 16 + f) 128, word2 b (n * 16 + f) 128)
-
-  notice-mail : (n f : ℕ) → f ≤ 7 → mailOf (makeNotice m q n f) q ≡ noticeFrom n f
-  unfolding mailOf words
-  notice-mail n f u =
-      let e1 : (n * 16 + f) / 16 ≡ n = omega arith in
-      let e2 : (n * 16 + f) % 16 ≡ f = omega arith in
-      rw (notice-words n f .0, notice-words n f .1, e1, e2)
-
-  notice-letter : (n f : ℕ) → 1 ≤ n → n ≤ 15 → 1 ≤ f → f ≤ 7
-      → Message (getD (makeNotice m q n f) (q * 32 + 1) 0) (getD (makeNotice m q n f) (q * 32 + 2) 0)
-  notice-letter n f i j k l =
-      rw (notice-words n f .0, notice-words n f .1)
-      (record { sender = omega arith; known = omega arith; flag = omega arith; small = omega arith; long = λ z. absurd (z refl) })
-
   module _ (f a l : ℕ) (f1 : 1 ≤ f) (f2 : f ≤ 7) (l2 : l ≤ 29) (la : a < 8192) where
     abbrev v : ℕ
     v = getD m (getD m 248 0 * 32 + 7) 0 % 16 * 16 + f
@@ -133,22 +112,6 @@ module _ {m : List ℕ} {ps : List ℕ} {L : Lists} {W : View} {hs : List ℕ} {
 
     abbrev mc : List ℕ
     mc = writeMessage m q f a l
-
-    written-only : Only q m mc
-    unfolding Mail.writeMessage
-    written-only = only-copy l mw a (q * 32 + 3) (omega (arith, hq)) (omega arith) (omega arith) (two b v l)
-
-    written-words : (getD mc (q * 32 + 1) 0 ≡ v) × (getD mc (q * 32 + 2) 0 ≡ l)
-    unfolding Mail.writeMessage
-    written-words = (
-      copy-below l mw a (q * 32 + 3) (q * 32 + 1) (omega arith) (omega (arith, hq)) ∙ word1 b v l,
-      copy-below l mw a (q * 32 + 3) (q * 32 + 2) (omega arith) (omega (arith, hq)) ∙ word2 b v l,
-    )
-
-    written-letter : Label (getD m (getD m 248 0 * 32 + 7) 0) → Message (getD mc (q * 32 + 1) 0) (getD mc (q * 32 + 2) 0)
-    written-letter n =
-        rw (written-words .0, written-words .1)
-        (record { sender = omega (arith, n .name); known = omega arith; flag = omega arith; small = omega arith; long = λ z. l2 })
 
     -- the text, from words that are on no control page
     written-text : ((i : ℕ) → i < l → (a + i) % 8192 < 7552) → words mc (q * 32 + 3) l ≡ words m a l
@@ -169,7 +132,7 @@ module _ {m : List ℕ} {ps : List ℕ} {L : Lists} {W : View} {hs : List ℕ} {
         let e1 : (getD m (getD m 248 0 * 32 + 7) 0 % 16 * 16 + f) / 16 ≡ getD m (getD m 248 0 * 32 + 7) 0 % 16 = omega arith in
         let e2 : (getD m (getD m 248 0 * 32 + 7) 0 % 16 * 16 + f) % 16 ≡ f = omega arith in
         let e3 : l % 128 ≡ l = omega arith in
-        rw (written-words .0, written-words .1, e1, e2, e3, written-text far)
+        rw (message-words b f a l f1 f2 l2 .0, message-words b f a l f1 f2 l2 .1, e1, e2, e3, written-text far)
 
 -- ---- the instruction
 module _ {m : List ℕ} (w : WellFormed m) (d : getD m 248 0 ≢ 0) where
@@ -213,7 +176,7 @@ module _ {m : List ℕ} (w : WellFormed m) (d : getD m 248 0 ≢ 0) where
         let lb : getD m1 (getD m1 248 0 * 32 + 7) 0 ≡ getD m (getD m 248 0 * 32 + 7) 0 =
         label1 (getD m1 248 0) in1 ∙ ap (λ (z : ℕ). getD m (z * 32 + 7) 0) run1 in
         let wm = written-mail (t .base) f a l f1 f2 l2 la (λ i h. o i h .below) in
-        let h = put-sent b s1 (t .base) (written-only (t .base) f a l f1 f2 l2 la) p hp (written-letter (t .base) f a l f1 f2 l2 la named) len in
+        let h = put-sent b s1 (t .base) (message-only (t .base) f a l f1 f2 l2) p hp (message-letter (t .base) f a l f1 f2 l2 named) len in
         rw (wm, lb, tx) at h
 
     posted-sent : (n f a len : ℕ) → 1 ≤ n → n ≤ 15 → 1 ≤ f → f ≤ 7 → getD m a 0 ≤ 29 → clear (getD m a 0) ((a + 1) % 8192) ≡ true

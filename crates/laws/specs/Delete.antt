@@ -10,7 +10,6 @@ use lib.ListN.{length, getD, set}
 use lib.Dec.{eqb, leb}
 use borrow.Author.Tests.{eqb-true, eqb-false, eq-eqb, ne-eqb, leb-true}
 use Rattle.model.specs.Delete as Delete
-use Rattle.model.specs.Mail as Mail
 use Rattle.model.specs.Operate as Operate
 use Rattle.model.specs.Bytes as Model
 use Rattle.model.specs.Bytes.{lists, leave, giveBack, deliver, makeNotice, pageOf, returned, emptied, mailReturned, grantReturned, delete}
@@ -23,16 +22,17 @@ use Rattle.laws.specs.Uses.{proc-page}
 use Rattle.laws.specs.Inv.{View, view, Message, Facts, Base}
 use Rattle.laws.specs.Judged.{WellFormed}
 use Rattle.laws.specs.Frames.{other, only-refl, only-set}
-use Rattle.laws.specs.Views.{put1-same, retold}
+use Rattle.laws.specs.Views.{retold}
 use Rattle.laws.specs.Changes.{hand-page}
 use Rattle.laws.specs.Hands.{hand-base, in-hand, take-grant}
 use Rattle.laws.specs.Who.{Busy, busy}
 use Rattle.laws.specs.Grants.{Any, any-of, give-back, some-is}
-use Rattle.laws.specs.Post.{notice-base, two, word1, word2}
+use Rattle.laws.specs.Post.{retold-letter, notice-only, notice-letter, notice-base}
 use Rattle.laws.specs.Still.{give-still, deliver-still}
 use Rattle.laws.specs.Leave.{Letters, Bag, unlisted-bag}
 use Rattle.laws.specs.Ends.{Fine, done-fine}
 use Rattle.laws.specs.Simple.{named-in, fails, st1-fine, stp-fine}
+use Rattle.laws.specs.Stores.{only-word}
 
 -- ---- one message returned: the words of the pages that stay in hand stay
 pub record Returned (m m1 : List ℕ) (ps : List ℕ) (hs : List ℕ) (g : ℕ) : Type 0 where
@@ -48,27 +48,11 @@ module _ {m : List ℕ} {ps : List ℕ} {L : Lists} {W : View} {hs : List ℕ} {
   not-q : (y : ℕ) → 1 ≤ count y hs → y ≢ q
   not-q y h e = omega (arith, b .all q, one-le q, hit-self q, ap (λ (z : ℕ). count z hs) e)
 
-  abbrev note2 : ℕ → ℕ → List ℕ
-  note2 n f = set (set m (q * 32 + 1) (n * 16 + f)) (q * 32 + 2) 128
-
-  pub letter : (n f : ℕ) → 1 ≤ n → n ≤ 15 → 1 ≤ f → f ≤ 7 → Message (retold (note2 n f) W q .note q) (retold (note2 n f) W q .reason q)
-  letter n f i j k l =
-      rw (
-        put1-same (W .note) q (getD (note2 n f) (q * 32 + 1) 0) q refl,
-        put1-same (W .reason) q (getD (note2 n f) (q * 32 + 2) 0) q refl,
-        word1 b (n * 16 + f) 128,
-        word2 b (n * 16 + f) 128,
-      )
-      (record { sender = omega arith; known = omega arith; flag = omega arith; small = omega arith; long = λ z. absurd (z refl) })
-
   notice-still : (n f p y j : ℕ) → 1 ≤ n → n ≤ 15 → 1 ≤ f → f ≤ 7 → 1 ≤ count p ps → 1 ≤ count y hs → j < 32
       → getD (deliver (makeNotice m q n f) p q) (y * 32 + j) 0 ≡ getD m (y * 32 + j) 0
-  unfolding Mail.makeNotice
   notice-still n f p y j n1 n2 f1 f2 hp h l =
-      let d = not-q y h in
-      let b2 = hand-base q (in-hand b) (two b (n * 16 + f) 128) b in
-      deliver-still b2 y j h l p hp (letter n f n1 n2 f1 f2)
-      ∙ other (set m (q * 32 + 1) (n * 16 + f)) (q * 32 + 2) 128 (y * 32 + j) (omega arith) ∙ other m (q * 32 + 1) (n * 16 + f) (y * 32 + j) (omega arith)
+      let o = notice-only b n f in
+      deliver-still (hand-base q (in-hand b) o b) y j h l p hp (retold-letter b o (notice-letter b n f n1 n2 f1 f2)) ∙ only-word o y j (not-q y h) l
 
   pub returned-base : (n : ℕ) → 1 ≤ n → n ≤ 15 → Message (getD m (q * 32 + 1) 0) (getD m (q * 32 + 2) 0) → Returned m (returned m n q) ps hs g
   unfolding Delete.returned Delete.noticed

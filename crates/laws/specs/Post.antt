@@ -23,7 +23,7 @@ use Rattle.laws.specs.Uses.{Sep, proc-page, single}
 use Rattle.laws.specs.Places.{in-q, in-own, own-once, grant-high}
 use Rattle.laws.specs.Inv.{View, Label, Message, Facts, Mem, Base}
 use Rattle.laws.specs.Frames.{other, Only, only-refl, only-set, only-copy}
-use Rattle.laws.specs.Views.{put1, put1-same, put1-other}
+use Rattle.laws.specs.Views.{put1, put1-same, put1-other, retold}
 use Rattle.laws.specs.Cells.{chain0, join-frame}
 use Rattle.laws.specs.Changes.{own-sem, hand-page, hand-out}
 use Rattle.laws.specs.Wake.{woken, facts-wake, wake-mem, wake-frame}
@@ -206,33 +206,59 @@ module _ {m : List ℕ} {ps : List ℕ} {L : Lists} {W : View} {hs : List ℕ} {
   pub word2 : (v w : ℕ) → getD (set (set m (q * 32 + 1) v) (q * 32 + 2) w) (q * 32 + 2) 0 ≡ w
   word2 v w = getD-set-same (set m (q * 32 + 1) v) (q * 32 + 2) w 0 (omega (arith, hp, size1 v))
 
+  -- the page in hand is written, then delivered
+  module _ {m2 : List ℕ} (o : Only q m m2) (letter : Message (getD m2 (q * 32 + 1) 0) (getD m2 (q * 32 + 2) 0)) where
+    pub retold-letter : Message (retold m2 W q .note q) (retold m2 W q .reason q)
+    retold-letter = rw (put1-same (W .note) q (getD m2 (q * 32 + 1) 0) q refl, put1-same (W .reason) q (getD m2 (q * 32 + 2) 0) q refl) letter
+
+    written-base : (p : ℕ) → 1 ≤ count p ps → Gave (deliver m2 p q) ps hs g W
+    written-base p h =
+        let t = deliver-base (hand-base q (in-hand b) o b) p h retold-letter in
+        record { lists = t .lists; view = t .view; base = t .base; low = t .low }
+
   -- "a notice with NI as sender and the same flag"
-  pub notice-base : (n f p : ℕ) → 1 ≤ n → n ≤ 15 → 1 ≤ f → f ≤ 7 → 1 ≤ count p ps → Gave (deliver (makeNotice m q n f) p q) ps hs g W
+  pub notice-only : (n f : ℕ) → Only q m (makeNotice m q n f)
   unfolding Mail.makeNotice
-  notice-base n f p i j k l h =
-      let m2 = set (set m (q * 32 + 1) (n * 16 + f)) (q * 32 + 2) 128 in
-      let t = deliver-base (hand-base q (in-hand b) (two (n * 16 + f) 128) b) p h
-      (rw (
-        put1-same (W .note) q (getD m2 (q * 32 + 1) 0) q refl,
-        put1-same (W .reason) q (getD m2 (q * 32 + 2) 0) q refl,
-        word1 (n * 16 + f) 128,
-        word2 (n * 16 + f) 128,
-      )
-      (record { sender = omega arith; known = omega arith; flag = omega arith; small = omega arith; long = λ z. absurd (z refl) })) in
-      record { lists = t .lists; view = t .view; base = t .base; low = t .low }
+  notice-only n f = two (n * 16 + f) 128
+
+  pub notice-words : (n f : ℕ) → (getD (makeNotice m q n f) (q * 32 + 1) 0 ≡ n * 16 + f) × (getD (makeNotice m q n f) (q * 32 + 2) 0 ≡ 128)
+  unfolding Mail.makeNotice
+  notice-words n f = (word1 (n * 16 + f) 128, word2 (n * 16 + f) 128)
+
+  pub notice-letter : (n f : ℕ) → 1 ≤ n → n ≤ 15 → 1 ≤ f → f ≤ 7
+      → Message (getD (makeNotice m q n f) (q * 32 + 1) 0) (getD (makeNotice m q n f) (q * 32 + 2) 0)
+  notice-letter n f i j k l =
+      rw (notice-words n f .0, notice-words n f .1)
+      (record { sender = omega arith; known = omega arith; flag = omega arith; small = omega arith; long = λ z. absurd (z refl) })
+
+  pub notice-base : (n f p : ℕ) → 1 ≤ n → n ≤ 15 → 1 ≤ f → f ≤ 7 → 1 ≤ count p ps → Gave (deliver (makeNotice m q n f) p q) ps hs g W
+  notice-base n f p i j k l h = written-base (notice-only n f) (notice-letter n f i j k l) p h
 
   -- "text length at A, text from A+1, to processor NI"
+  module _ (f a l : ℕ) (f1 : 1 ≤ f) (f2 : f ≤ 7) (l2 : l ≤ 29) where
+    abbrev v : ℕ
+    v = getD m (getD m 248 0 * 32 + 7) 0 % 16 * 16 + f
+
+    abbrev mw : List ℕ
+    mw = set (set m (q * 32 + 1) v) (q * 32 + 2) l
+
+    pub message-only : Only q m (writeMessage m q f a l)
+    unfolding Mail.writeMessage
+    message-only = only-copy l mw a (q * 32 + 3) (omega (arith, hp)) (omega arith) (omega arith) (two v l)
+
+    pub message-words : (getD (writeMessage m q f a l) (q * 32 + 1) 0 ≡ v) × (getD (writeMessage m q f a l) (q * 32 + 2) 0 ≡ l)
+    unfolding Mail.writeMessage
+    message-words = (
+      copy-below l mw a (q * 32 + 3) (q * 32 + 1) (omega arith) (omega (arith, hp)) ∙ word1 v l,
+      copy-below l mw a (q * 32 + 3) (q * 32 + 2) (omega arith) (omega (arith, hp)) ∙ word2 v l,
+    )
+
+    pub message-letter : Label (getD m (getD m 248 0 * 32 + 7) 0)
+        → Message (getD (writeMessage m q f a l) (q * 32 + 1) 0) (getD (writeMessage m q f a l) (q * 32 + 2) 0)
+    message-letter n =
+        rw (message-words .0, message-words .1)
+        (record { sender = omega (arith, n .name); known = omega arith; flag = omega arith; small = omega arith; long = λ z. l2 })
+
   pub message-base : (f a l p : ℕ) → 1 ≤ f → f ≤ 7 → l ≤ 29 → Label (getD m (getD m 248 0 * 32 + 7) 0) → 1 ≤ count p ps
       → Gave (deliver (writeMessage m q f a l) p q) ps hs g W
-  unfolding Mail.writeMessage
-  message-base f a l p i j k n h =
-      let v = getD m (getD m 248 0 * 32 + 7) 0 % 16 * 16 + f in
-      let m1 = set (set m (q * 32 + 1) v) (q * 32 + 2) l in
-      let m2 = copy l m1 a (q * 32 + 3) in
-      let o : Only q m m2 = only-copy l m1 a (q * 32 + 3) (omega (arith, hp)) (omega arith) (omega arith) (two v l) in
-      let w1 : getD m2 (q * 32 + 1) 0 ≡ v = copy-below l m1 a (q * 32 + 3) (q * 32 + 1) (omega arith) (omega (arith, hp)) ∙ word1 v l in
-      let w2 : getD m2 (q * 32 + 2) 0 ≡ l = copy-below l m1 a (q * 32 + 3) (q * 32 + 2) (omega arith) (omega (arith, hp)) ∙ word2 v l in
-      let t = deliver-base (hand-base q (in-hand b) o b) p h
-      (rw (put1-same (W .note) q (getD m2 (q * 32 + 1) 0) q refl, put1-same (W .reason) q (getD m2 (q * 32 + 2) 0) q refl, w1, w2)
-      (record { sender = omega (arith, n .name); known = omega arith; flag = omega arith; small = omega arith; long = λ z. k })) in
-      record { lists = t .lists; view = t .view; base = t .base; low = t .low }
+  message-base f a l p i j k n h = written-base (message-only f a l i j k) (message-letter f a l i j k n) p h
