@@ -7,18 +7,17 @@ use lib.ListN.{length, getD, set}
 use lib.Dec.{eqb, ltb}
 use Rattle.model.specs.Interrupt as Interrupt
 use Rattle.model.specs.Bytes as Model
-use Rattle.model.specs.Bytes.{lists, struck, servedFrom, serve, delivered, whoRuns}
+use Rattle.model.specs.Bytes.{struck, servedFrom, serve, delivered, whoRuns}
 use Rattle.model.specs.Lists.{Lists}
 use Rattle.laws.specs.Count.{count-mid}
 use Rattle.laws.specs.Uses.{list-short}
 use Rattle.laws.specs.Places.{in-queues, wait-page}
-use Rattle.laws.specs.Inv.{View, view, Clock, Base}
+use Rattle.laws.specs.Inv.{View, Clock, Base}
 use Rattle.laws.specs.Views.{put1}
 use Rattle.laws.specs.Cells.{chain0}
 use Rattle.laws.specs.Wake.{seat-head, not-procs}
 use Rattle.laws.specs.Words.{either}
-use Rattle.laws.specs.Interrupts.{head, chain-head, struck-base, from-end, next, seat, counter-base}
-use Rattle.laws.specs.Interrupts.{serve-base, Some, some-of, delivered-kept}
+use Rattle.laws.specs.Interrupts.{head, chain-head, struck-base, from-end, next, seat, counter-base, serve-base, Some, some-of, delivered-kept}
 use Rattle.history.specs.Letter.{Agree, Same, same-then, same-on, posts, agrees}
 use Rattle.history.specs.Calm.{calm-refl, calm-low, calm-proc, calm-turn, calm-wake}
 use Rattle.history.specs.Told.{runs-in}

@@ -36,8 +36,7 @@ use Rattle.laws.specs.Who.{listed, Busy, busy}
 use Rattle.laws.specs.Create.{made, z, headed-is, only, below, created-base, nobody}
 use Rattle.laws.specs.Simple.{Open}
 use Rattle.laws.specs.Waits.{page-fit}
-use Rattle.history.specs.Letter.{Same, Posts, posts, posts-on, posts-then, agrees, waitingFor, waits-same}
-use Rattle.history.specs.Letter.{procs-same}
+use Rattle.history.specs.Letter.{Same, Posts, posts, posts-on, posts-then, agrees, waitingFor, waits-same, procs-same}
 use Rattle.history.specs.Letter.Mine.{page}
 use Rattle.history.specs.Put.{nothing}
 use Rattle.history.specs.Calm.{calm-refl, calm-low, calm-take, calm-only, mine-high, mine-hand, mine-proc}

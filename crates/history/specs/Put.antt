@@ -11,8 +11,7 @@ use Rattle.model.specs.Address.{unless, wrapped, guarded, clear}
 use Rattle.model.specs.Page.{Taken}
 use Rattle.model.specs.Page.Taken.{took}
 use Rattle.model.specs.Instruction.{firstWord, lengthFor, shapeFor, builtIn}
-use Rattle.model.specs.Bytes.{at, queue, running, name, pageOf, takePage, inQ2, lengthOf, sender, flag, isNotice, stopped, kind, isForeign}
-use Rattle.model.specs.Bytes.{argumentFault}
+use Rattle.model.specs.Bytes.{at, queue, running, name, pageOf, takePage, inQ2, lengthOf, sender, flag, isNotice, stopped, kind, isForeign, argumentFault}
 use Rattle.model.specs.Bytes.{pointed, direct, indexed, codeAt, judged, lr}
 use Rattle.history.specs.Letter.{Letter, words, mailOf}
 

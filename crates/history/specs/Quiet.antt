@@ -16,8 +16,7 @@ use Rattle.model.specs.Processor as Processor
 use Rattle.model.specs.Operate as Operate
 use Rattle.model.specs.Answer.{memoryOf}
 use Rattle.model.specs.Bytes as Model
-use Rattle.model.specs.Bytes.{lists, serve, setCode, pageOf}
-use Rattle.model.specs.Bytes.{setRegistersOf}
+use Rattle.model.specs.Bytes.{lists, serve, setCode, pageOf, setRegistersOf}
 use Rattle.model.specs.Lists.{count}
 use Rattle.laws.specs.Uses.{Sep, proc-page}
 use Rattle.laws.specs.Judged.{WellFormed}

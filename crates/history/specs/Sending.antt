@@ -33,7 +33,8 @@ use Rattle.laws.specs.Who.{listed, label-at, Busy, busy, running-same, label-in
 use Rattle.laws.specs.Mails.{clear-at}
 use Rattle.laws.specs.Simple.{named-in, Open, clear-open, named-same}
 use Rattle.history.specs.Order.{only}
-use Rattle.history.specs.Letter.{Letter, mailOf, words, key, waitingFor, Same, posts, posts-then, agrees, waits-same, procs-same, words-moved, held, held-same}
+use Rattle.history.specs.Letter.{Letter, mailOf, words, key, waitingFor, Same, posts, posts-then, agrees, waits-same, procs-same, words-moved, held}
+use Rattle.history.specs.Letter.{held-same}
 use Rattle.history.specs.Put.{of, nothing, putting, noticeFrom, posting, hasPage, smeMail}
 use Rattle.history.specs.Calm.{calm-only}
 use Rattle.history.specs.Told.{Told, Stands, of-none, of-here, of-other, calm-done, runs-in, Sent, sent-same}

@@ -17,8 +17,7 @@ use Rattle.model.specs.Answer.{memoryOf}
 use Rattle.model.specs.Execute as Execute
 use Rattle.model.specs.Call as Call
 use Rattle.model.specs.Bytes as Model
-use Rattle.model.specs.Bytes.{Step, lists, direct, pointed, run, foreign, isForeign, argumentFault, argued, exi, fetched, kind, lr}
-use Rattle.model.specs.Bytes.{instruction}
+use Rattle.model.specs.Bytes.{Step, lists, direct, pointed, run, foreign, isForeign, argumentFault, argued, exi, fetched, kind, lr, instruction}
 use Rattle.laws.specs.Judged.{WellFormed, invariant}
 use Rattle.laws.specs.Words.{Small, either}
 use Rattle.laws.specs.Run.{Bound, direct-bound, pointed-bound}

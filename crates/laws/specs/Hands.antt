@@ -25,9 +25,7 @@ use Rattle.laws.specs.Frames.{Only}
 use Rattle.laws.specs.Views.{put1, put1-same, put1-other, withSem, retold}
 use Rattle.laws.specs.Stores.{sem-mem, hand-mem}
 use Rattle.laws.specs.Cells.{join-mem, leave-mem, grant-mem}
-use Rattle.laws.specs.Changes.{uses-upd, queue-same, uses-sep, facts-uses, facts-less, stock-same, hand-page, hand-out}
-use Rattle.laws.specs.Changes.{hand-free, facts-off}
-use Rattle.laws.specs.Changes.{page-sem}
+use Rattle.laws.specs.Changes.{uses-upd, queue-same, uses-sep, facts-uses, facts-less, stock-same, hand-page, hand-out, hand-free, facts-off, page-sem}
 
 -- ---- words of a page in hand
 pub hand-base : {m m′ : List ℕ} {ps : List ℕ} {L : Lists} {W : View} {hs : List ℕ} {g : ℕ} (q : ℕ) → 1 ≤ count q hs → Only q m m′ → Base m ps L W hs g

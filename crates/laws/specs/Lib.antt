@@ -11,6 +11,7 @@ pub mod Places
 pub mod Members
 -- The invariant, and that the judge says the same
 pub mod Inv
+pub mod Accepted
 pub mod Judged
 -- Stores: what they leave, what the memory then holds, which sentences stay
 pub mod Frames

@@ -11,8 +11,7 @@ use Rattle.model.specs.Instruction as Instruction
 use Rattle.model.specs.Instruction.{shapeFor, arguments, countedArguments}
 use Rattle.model.specs.Answer as Answer
 use Rattle.model.specs.Bytes as Model
-use Rattle.model.specs.Bytes.{direct, pointed, argument}
-use Rattle.model.specs.Bytes.{fetched, fieldAt}
+use Rattle.model.specs.Bytes.{direct, pointed, argument, fetched, fieldAt}
 use Rattle.laws.specs.Judged.{WellFormed}
 use Rattle.laws.specs.Words.{Small}
 use Rattle.laws.specs.Ends.{Fine}

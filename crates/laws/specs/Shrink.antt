@@ -14,7 +14,6 @@ use Rattle.laws.specs.Count.{hit-self, hit-other, hit-or, count-append, 
 use Rattle.laws.specs.Chain.{Page, Chain, last, last-not, leave-is}
 use Rattle.laws.specs.Queues.{upd, upd-same, upd-other, link-procs, link-other, Rep, rep-leave}
 use Rattle.laws.specs.Heads.{sum-one, sum-upd, sum-skip, Seat, seat-of}
-use Rattle.laws.specs.Heads.Seat.{own}
 use Rattle.laws.specs.Uses.{Among, Head, Sep, proc-page, proc-once, list-short, good, apart, single}
 use Rattle.laws.specs.Places.{in-procs, in-q, grant-low, grant-high, own-once}
 use Rattle.laws.specs.Inv.{View, bearers, Facts, Mem}

@@ -10,7 +10,6 @@ use Rattle.model.specs.Lists.{count, Lists}
 use Rattle.laws.specs.Count.{hit-self, count-ne}
 use Rattle.laws.specs.Chain.{Page}
 use Rattle.laws.specs.Heads.{one-le}
-use Rattle.laws.specs.Heads.Seat.{page}
 use Rattle.laws.specs.Uses.{Among, Sep}
 use Rattle.laws.specs.Places.{in-free, in-q, wait-page}
 use Rattle.laws.specs.Inv.{View, Message, Base}

@@ -18,8 +18,7 @@ use Rattle.laws.specs.Queues.{upd, upd-same, upd-other}
 use Rattle.laws.specs.Heads.{sum-one, sum-skip, sum-upd, Seat, seat-of}
 use Rattle.laws.specs.Heads.Seat.{line, page, own}
 use Rattle.laws.specs.Uses.{Head, Sep, proc-page, proc-once, list-short}
-use Rattle.laws.specs.Places.{in-queues, in-free, int-queue, own-once, q-once, free-once, grant-once, grant-low, grant-high}
-use Rattle.laws.specs.Places.{q-free, wait-page}
+use Rattle.laws.specs.Places.{in-queues, in-free, int-queue, own-once, q-once, free-once, grant-once, grant-low, grant-high, q-free, wait-page}
 use Rattle.laws.specs.Inv.{View, stock, stock-page, stock-else, Facts, Mem, Base}
 use Rattle.laws.specs.Frames.{other}
 use Rattle.laws.specs.Views.{put1, put1-same, put1-other, withWords, withSem}
