@@ -8,9 +8,8 @@ use lib.ListN.{length, getD, set, length-set}
 use lib.Seq.{getD-set-same}
 use Rattle.model.specs.Address as Address
 use Rattle.model.specs.Bytes.{copy}
-use Rattle.laws.specs.Frames.{other}
+use Rattle.laws.specs.Frames.{other, copy-far}
 use Rattle.history.specs.Letter.{words, next-sum, first-sum, sum-below}
-use Rattle.history.specs.Reading.{copy-far}
 
 -- n words from a on and n words from b on have none in common
 abbrev pub Apart : ℕ → ℕ → ℕ → Type 0

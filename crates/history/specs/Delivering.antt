@@ -11,9 +11,8 @@ use Rattle.model.specs.Lists.{count, Lists}
 use Rattle.laws.specs.Inv.{View, Message, Base}
 use Rattle.laws.specs.Post.{Delivered, deliver-all, deliver-frame, notice-words}
 use Rattle.laws.specs.Mails.{mail-queue}
-use Rattle.history.specs.Letter.{mailOf, map-append, waitingFor, held, waits-held, words}
+use Rattle.history.specs.Letter.{mailOf, map-append, waitingFor, held, waits-held, words, Texted, held-through}
 use Rattle.history.specs.Put.{noticeFrom}
-use Rattle.history.specs.Moving.{Texted, held-through}
 
 -- ---- the message of a notice in hand
 pub notice-mail : {m : List ℕ} {ps : List ℕ} {L : Lists} {W : View} {hs : List ℕ} {g q : ℕ} (b : Base m ps L W (q ∷ hs) g) (n f : ℕ) → f ≤ 7

@@ -231,3 +231,18 @@ module _ {m : List ℕ} {ps : List ℕ} {L : Lists} {W : View} {hs : List ℕ} {
       let c = rw (link-procs, s .procs) at (b .mem .holds .rep 247 h) in
       walk-chain 20 m′ 1 247 ps (chain-move m m′ 1 247 247 ps (t .at 247 (first refl)) (λ x i. t .at (x * 32 + 1) (next x i refl)) c)
       (rw (s .procs) at (list-short s 247 (in-procs ps)))
+
+-- ---- a step that may change the lists, and leaves words 1 to 31 of every page that is no processor's
+pub record Texted (ps : List ℕ) (m m′ : List ℕ) : Type 0 where
+  pub at : (x : ℕ) → Page x → count x ps ≡ 0 → Texts m m′ x
+
+-- then what waits is what the lists say, with the messages of before
+module _ {m m2 : List ℕ} {ps : List ℕ} {K : Lists} {X : View} {hs : List ℕ} {g : ℕ} (b2 : Base m2 ps K X hs g) (t : Texted ps m m2) where
+  pub held-through : (p w : ℕ) → 1 ≤ count p ps → 5 ≤ w → w ≤ 6 → held m2 p w ≡ map (mailOf m) (K (p * 32 + w))
+  held-through p w h u v =
+      rw (mail-queue b2 p w h u v) (sym (mails-same m2 m (K (p * 32 + w)) (λ x i.
+      let f = q-free (b2 .facts .sep) p w x u v h i in
+      record { page = f .0; sized = letter-sized b2 p w x h u v i; texts = λ j k l. sym (t .at x (f .0) (f .1) j k l) })))
+
+  pub waits-through : (p : ℕ) → 1 ≤ count p ps → waitingFor m2 p ≡ map (mailOf m) (K (p * 32 + 6)) ++ map (mailOf m) (K (p * 32 + 5))
+  waits-through p h = waits-held m2 p ∙ rw (held-through p 6 h (omega arith) (omega arith), held-through p 5 h (omega arith) (omega arith))

@@ -1,5 +1,5 @@
--- Instructions: WNM and TME move messages from Q1 to Q2 of the one that runs. They put and read nothing, and of any sender and flag what waits stays in its
--- order. Assumes nothing.
+-- A message leaves Q1 or Q2, or moves from Q1 to Q2 of its processor: the texts stay, and of any sender and flag what waits stays in its order. Assumes
+-- nothing.
 use mathlib.Core.Path.{_≡_, sym, ap, _∙_}
 use mathlib.Core.Logic.{_≢_, _⊎_, inl, inr}
 use mathlib.Core.Bool.{true}
@@ -13,30 +13,14 @@ use Rattle.laws.specs.Count.{hit-or, count-mid}
 use Rattle.laws.specs.Chain.{Page}
 use Rattle.laws.specs.Queues.{upd, upd-same, upd-other}
 use Rattle.laws.specs.Uses.{Sep, proc-page}
-use Rattle.laws.specs.Places.{in-q, q-free, grant-high}
+use Rattle.laws.specs.Places.{in-q, grant-high}
 use Rattle.laws.specs.Members.{head-off}
 use Rattle.laws.specs.Inv.{View, Base}
 use Rattle.laws.specs.Cells.{join-frame, leave-frame}
 use Rattle.laws.specs.Changes.{hand-page}
 use Rattle.laws.specs.Hands.{in-hand, hand-new, take-mail, give-mail}
-use Rattle.laws.specs.Mails.{mail-queue}
 use Rattle.history.specs.Order.{only, only-append, Fails, overtakes-none}
-use Rattle.history.specs.Letter.{Letter, mailOf, key, asked, one-key, Texts, letter-sized, mails-same, map-append, waitingFor, waits-by, held, waits-held}
-
--- words 1 to 31 of every page that is no processor's stay
-pub record Texted (ps : List ℕ) (m m′ : List ℕ) : Type 0 where
-  pub at : (x : ℕ) → Page x → count x ps ≡ 0 → Texts m m′ x
-
--- then what waits is what the lists say, with the messages of before
-module _ {m m2 : List ℕ} {ps : List ℕ} {K : Lists} {X : View} {hs : List ℕ} {g : ℕ} (b2 : Base m2 ps K X hs g) (t : Texted ps m m2) where
-  pub held-through : (p w : ℕ) → 1 ≤ count p ps → 5 ≤ w → w ≤ 6 → held m2 p w ≡ map (mailOf m) (K (p * 32 + w))
-  held-through p w h u v =
-      rw (mail-queue b2 p w h u v) (sym (mails-same m2 m (K (p * 32 + w)) (λ x i.
-      let f = q-free (b2 .facts .sep) p w x u v h i in
-      record { page = f .0; sized = letter-sized b2 p w x h u v i; texts = λ j k l. sym (t .at x (f .0) (f .1) j k l) })))
-
-  pub waits-through : (p : ℕ) → 1 ≤ count p ps → waitingFor m2 p ≡ map (mailOf m) (K (p * 32 + 6)) ++ map (mailOf m) (K (p * 32 + 5))
-  waits-through p h = waits-held m2 p ∙ rw (held-through p 6 h (omega arith) (omega arith), held-through p 5 h (omega arith) (omega arith))
+use Rattle.history.specs.Letter.{Letter, mailOf, key, asked, one-key, map-append, waitingFor, waits-by, Texted, waits-through}
 
 -- a message that leaves Q1 or Q2 leaves all texts
 pub leave-texts : {m : List ℕ} {ps : List ℕ} {L : Lists} {W : View} {hs : List ℕ} {g : ℕ} → Base m ps L W hs g → (p w q : ℕ) (xs ys : List ℕ) → 1 ≤ count p ps

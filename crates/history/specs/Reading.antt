@@ -3,49 +3,37 @@ use mathlib.Core.Path.{_≡_, refl, sym, ap, _∙_}
 use mathlib.Core.Logic.{_≢_, _⊎_, inl, inr}
 use mathlib.Core.Bool.{Bool, true, false}
 use mathlib.Core.List.{List, [], _∷_, _++_, append-assoc, append-nil, map}
-use Prim.Native.Nat.{ℕ, zero, suc, _+_, _-_, _*_, _/_, _%_, _≤_, _<_}
+use Prim.Native.Nat.{ℕ, _+_, _-_, _*_, _/_, _%_, _≤_, _<_}
 use native.Mathlib.Omega.{arith}
 use lib.ListN.{getD, set}
 use lib.Dec.{eqb}
 use borrow.Author.Tests.{eqb-false}
-use Rattle.model.specs.Address as Address
 use Rattle.model.specs.Address.{clear}
 use Rattle.model.specs.Mail as Mail
 use Rattle.model.specs.Operate as Operate
 use Rattle.model.specs.Answer.{memoryOf}
 use Rattle.model.specs.Bytes as Model
-use Rattle.model.specs.Bytes.{lists, queue, processors, leave, copy, copyOut, giveBack}
+use Rattle.model.specs.Bytes.{lists, queue, processors, leave, copyOut, giveBack}
 use Rattle.model.specs.Lists.{count, Lists}
 use Rattle.laws.specs.Count.{hit-or, count-append, count-mid}
 use Rattle.laws.specs.Queues.{upd, upd-same, upd-other}
 use Rattle.laws.specs.Uses.{Sep}
 use Rattle.laws.specs.Inv.{View, view, Base}
 use Rattle.laws.specs.Judged.{WellFormed}
-use Rattle.laws.specs.Frames.{other, base-kept}
+use Rattle.laws.specs.Frames.{other, base-kept, copy-far}
 use Rattle.laws.specs.Hands.{take-mail}
 use Rattle.laws.specs.Grants.{give-back}
 use Rattle.laws.specs.Who.{listed, Busy, busy}
 use Rattle.laws.specs.Mails.{mail-queue, out-kept, clear-at}
 use Rattle.history.specs.Order.{only, Fails, overtakes-none}
-use Rattle.history.specs.Letter.{Letter, mailOf, key, asked, one-key, map-append, waitingFor, waits-by, Ours, Same, posts}
+use Rattle.history.specs.Letter.{Letter, mailOf, key, asked, one-key, map-append, waitingFor, waits-by, Ours, Same, posts, Texted, waits-through}
 use Rattle.history.specs.Letter.{waits-same, procs-same, mail-same, mails-same, texts-same}
 use Rattle.history.specs.Put.{of, reading, rmeMail}
 use Rattle.history.specs.Calm.{ours-low, ours-fits, calm-give}
 use Rattle.history.specs.Told.{Told, of-none, of-here, of-other, calm-done, runs-in}
 use Rattle.history.specs.Quiet.{clear-far, fault-sent}
-use Rattle.history.specs.Moving.{Texted, waits-through, leave-texts}
+use Rattle.history.specs.Moving.{leave-texts}
 use Rattle.history.specs.Tests.{Found, found}
-
--- ---- n words copied leave every other word
-pub copy-far : (n : ℕ) (m : List ℕ) (a b c : ℕ) → b < 8192 → ((i : ℕ) → i < n → c ≢ (b + i) % 8192) → getD (copy n m a b) c 0 ≡ getD m c 0
-unfolding Address.copy
-copy-far zero m a b c l f = refl
-copy-far (suc n) m a b c l f =
-    let e : (b + 0) % 8192 ≡ b = omega arith in
-    let f0 : c ≢ b = λ z. f 0 (omega arith) (z ∙ sym e) in
-    copy-far n (set m b (getD m a 0)) ((a + 1) % 8192) ((b + 1) % 8192) c (omega arith)
-    (λ i h z. f (suc i) (omega arith) (z ∙ (let d : ((b + 1) % 8192 + i) % 8192 ≡ (b + suc i) % 8192 = omega arith in d)))
-    ∙ other m b (getD m a 0) c f0
 
 -- what RME writes: three words and the text
 pub out-calm : {ps : List ℕ} {L : Lists} → Sep ps L → (m : List ℕ) (q a : ℕ) → clear (3 + getD m (q * 32 + 2) 0 % 128) a ≡ true → Same ps L m (copyOut m q a)

@@ -39,7 +39,7 @@ use Rattle.history.specs.Put.{of, nothing, putting, noticeFrom, posting,
 use Rattle.history.specs.Calm.{calm-only}
 use Rattle.history.specs.Told.{Told, Stands, of-none, of-here, of-other, calm-done, runs-in, Sent, sent-same}
 use Rattle.history.specs.Quiet.{fault-sent}
-use Rattle.history.specs.Making.{calm-takes, takes-word, page-waits}
+use Rattle.history.specs.Taking.{calm-takes, takes-word, page-waits}
 use Rattle.history.specs.Delivering.{delivered-last, delivered-here, delivered-away, notice-mail}
 use Rattle.history.specs.Copied.{copy-at}
 

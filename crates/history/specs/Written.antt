@@ -26,7 +26,7 @@ use Rattle.laws.specs.Uses.{proc-page}
 use Rattle.laws.specs.Places.{in-free, in-q, grant-high, all-pages, wait-page}
 use Rattle.laws.specs.Inv.{View, view, Base}
 use Rattle.laws.specs.Judged.{WellFormed}
-use Rattle.laws.specs.Frames.{other, base-kept}
+use Rattle.laws.specs.Frames.{other, base-kept, copy-far}
 use Rattle.laws.specs.Words.{Small}
 use Rattle.laws.specs.Cells.{leave-frame}
 use Rattle.laws.specs.Changes.{hand-page}
@@ -38,7 +38,6 @@ use Rattle.laws.specs.Simple.{Open, clear-open}
 use Rattle.history.specs.Letter.{Letter, mailOf, words, letter-sized}
 use Rattle.history.specs.Put.{Log, Mailed, nothing, reading, rmeMail}
 use Rattle.history.specs.Tests.{Found, found}
-use Rattle.history.specs.Reading.{copy-far}
 use Rattle.history.specs.Copied.{copy-at, words-at}
 use Rattle.history.specs.Went.{wentTo, done-went}
 

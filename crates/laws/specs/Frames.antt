@@ -1,6 +1,6 @@
 -- What stays when words change that the judge does not look at: page 0 and unprotected words, registers and kept words of a processor; and when only
 -- one control page, which is in hand, changes. Assumes nothing.
-use mathlib.Core.Path.{_≡_, refl, _∙_}
+use mathlib.Core.Path.{_≡_, refl, sym, _∙_}
 use mathlib.Core.Logic.{_≢_, _⊎_, inl, inr}
 use mathlib.Core.List.{List}
 use Prim.Native.Nat.{ℕ, zero, suc, _+_, _-_, _*_, _%_, _≤_, _<_}
@@ -143,6 +143,17 @@ only-set {q} {m} {m′} b v l u o = record {
   below = λ a h. other m′ b v a (omega arith) ∙ o .below a h;
   above = λ a h. other m′ b v a (omega arith) ∙ o .above a h;
 }
+
+-- ---- n words copied leave every other word
+pub copy-far : (n : ℕ) (m : List ℕ) (a b c : ℕ) → b < 8192 → ((i : ℕ) → i < n → c ≢ (b + i) % 8192) → getD (copy n m a b) c 0 ≡ getD m c 0
+unfolding Address.copy
+copy-far zero m a b c l f = refl
+copy-far (suc n) m a b c l f =
+    let e : (b + 0) % 8192 ≡ b = omega arith in
+    let f0 : c ≢ b = λ z. f 0 (omega arith) (z ∙ sym e) in
+    copy-far n (set m b (getD m a 0)) ((a + 1) % 8192) ((b + 1) % 8192) c (omega arith)
+    (λ i h z. f (suc i) (omega arith) (z ∙ (let d : ((b + 1) % 8192 + i) % 8192 ≡ (b + suc i) % 8192 = omega arith in d)))
+    ∙ other m b (getD m a 0) c f0
 
 -- n words copied to words of page q
 pub only-copy : {q : ℕ} {m : List ℕ} (n : ℕ) (m′ : List ℕ) (a b : ℕ) → q < 256 → q * 32 ≤ b → b + n ≤ q * 32 + 32 → Only q m m′ → Only q m (copy n m′ a b)

@@ -4,16 +4,15 @@ use mathlib.Core.Path.{_≡_, refl, ap, _∙_}
 use mathlib.Core.Logic.{_≢_}
 use mathlib.Core.Bool.{Bool, true, false}
 use mathlib.Core.List.{List, [], _∷_, _++_}
-use Prim.Native.Nat.{ℕ, zero, suc, _+_, _-_, _*_, _/_, _%_, _≤_, _<_}
+use Prim.Native.Nat.{ℕ, _+_, _-_, _*_, _/_, _%_, _≤_}
 use native.Mathlib.Omega.{arith}
 use lib.ListN.{length, getD, set, length-set}
 use lib.Seq.{getD-set-same}
 use lib.Dec.{eqb}
 use borrow.Author.Tests.{ne-eqb}
-use Rattle.model.specs.Address as Address
 use Rattle.model.specs.Mail as Mail
 use Rattle.model.specs.Mail.{fits}
-use Rattle.model.specs.Bytes.{join, wake, copy, deliver, writeMessage, makeNotice}
+use Rattle.model.specs.Bytes.{join, wake, deliver, writeMessage, makeNotice}
 use Rattle.model.specs.Lists.{hit, count, Lists, sum, uses}
 use Rattle.laws.specs.Count.{hit-self}
 use Rattle.laws.specs.Chain.{Page, Chain}
@@ -22,7 +21,7 @@ use Rattle.laws.specs.Heads.{one, sum-skip}
 use Rattle.laws.specs.Uses.{Sep, proc-page, single}
 use Rattle.laws.specs.Places.{in-q, in-own, own-once, grant-high}
 use Rattle.laws.specs.Inv.{View, Label, Message, Facts, Mem, Base}
-use Rattle.laws.specs.Frames.{other, Only, only-refl, only-set, only-copy}
+use Rattle.laws.specs.Frames.{other, Only, only-refl, only-set, only-copy, copy-far}
 use Rattle.laws.specs.Views.{put1, put1-same, put1-other, retold}
 use Rattle.laws.specs.Cells.{chain0, join-frame}
 use Rattle.laws.specs.Changes.{own-sem, hand-page, hand-out}
@@ -182,14 +181,6 @@ module _ {m : List ℕ} {ps : List ℕ} {L : Lists} {W : View} {hs : List ℕ} {
           (hand-new b) c (n 5 (omega arith)) nl nq
 
 -- ---- what is written in a page in hand
-pub copy-below : (n : ℕ) (m : List ℕ) (a b i : ℕ) → i < b → b + n ≤ 8192 → getD (copy n m a b) i 0 ≡ getD m i 0
-unfolding Address.copy
-copy-below zero m a b i h l = refl
-copy-below (suc zero) m a b i h l = other m b (getD m a 0) i (omega arith)
-copy-below (suc (suc n)) m a b i h l =
-    let w : (b + 1) % 8192 ≡ b + 1 = omega arith in
-    rw w (copy-below (suc n) (set m b (getD m a 0)) ((a + 1) % 8192) (b + 1) i (omega arith) (omega arith) ∙ other m b (getD m a 0) i (omega arith))
-
 module _ {m : List ℕ} {ps : List ℕ} {L : Lists} {W : View} {hs : List ℕ} {g q : ℕ} (b : Base m ps L W (q ∷ hs) g) where
   hp : Page q
   hp = hand-page b q (in-hand b)
@@ -249,8 +240,8 @@ module _ {m : List ℕ} {ps : List ℕ} {L : Lists} {W : View} {hs : List ℕ} {
     pub message-words : (getD (writeMessage m q f a l) (q * 32 + 1) 0 ≡ v) × (getD (writeMessage m q f a l) (q * 32 + 2) 0 ≡ l)
     unfolding Mail.writeMessage
     message-words = (
-      copy-below l mw a (q * 32 + 3) (q * 32 + 1) (omega arith) (omega (arith, hp)) ∙ word1 v l,
-      copy-below l mw a (q * 32 + 3) (q * 32 + 2) (omega arith) (omega (arith, hp)) ∙ word2 v l,
+      copy-far l mw a (q * 32 + 3) (q * 32 + 1) (omega (arith, hp)) (λ i u. omega (arith, hp)) ∙ word1 v l,
+      copy-far l mw a (q * 32 + 3) (q * 32 + 2) (omega (arith, hp)) (λ i u. omega (arith, hp)) ∙ word2 v l,
     )
 
     pub message-letter : Label (getD m (getD m 248 0 * 32 + 7) 0)
