@@ -227,8 +227,10 @@ calm-give {q = q} b = let s = b .facts .sep in record {
     hand = ours-hand s i q 0 (aside-hand b q (in-hand b)) (omega arith);
     free = λ z j. ours-free s i z j;
     waiter = λ p j.
-        let o : (w : ℕ) → w < 5 → w ≢ 1 → c ≢ p * 32 + w = λ w u n. ours-proc s i p w (wait-page s 246 p (omega arith) j) (omega arith) n (omega arith) (omega arith) in
-        let o12 = ours-proc s i p 12 (wait-page s 246 p (omega arith) j) (omega arith) (omega arith) (omega arith) (omega arith) in
-        (o 0 (omega arith) (omega arith), o 2 (omega arith) (omega arith), o12);
+        let hp = wait-page s 246 p (omega arith) j in (
+          ours-proc s i p 0 hp (omega arith) (omega arith) (omega arith) (omega arith),
+          ours-proc s i p 2 hp (omega arith) (omega arith) (omega arith) (omega arith),
+          ours-proc s i p 12 hp (omega arith) (omega arith) (omega arith) (omega arith),
+        );
   });
 }

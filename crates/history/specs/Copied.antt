@@ -1,4 +1,4 @@
--- Words copied: each word of the target holds what its word of the source held, where source and target do not overlap; so texts are equal. Assumes nothing.
+-- Words copied: each word of the target holds what its word of the source held, where source and target do not overlap. Assumes nothing.
 use mathlib.Core.Path.{_≡_, _∙_}
 use mathlib.Core.Logic.{_≢_}
 use mathlib.Core.List.{List}

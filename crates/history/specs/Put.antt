@@ -1,5 +1,5 @@
--- What an instruction puts to which processor and what it reads, as functions of the memory before it: decoded and tested as the model decodes and tests, direct
--- and by EXI. A processor is named by its page. Assumes nothing.
+-- What an instruction puts to which processor and what it reads, as functions of the memory before it: decoded and tested as the model decodes and tests,
+-- direct and by EXI. A processor is named by its page. Assumes nothing.
 use Prim.Native.Nat.{ℕ, zero, suc, _+_, _-_}
 use mathlib.Core.Bool.{Bool, true, false, cond}
 use mathlib.Core.List.{List, [], _∷_, _++_}

@@ -84,7 +84,8 @@ module _ {m : List ℕ} (w : WellFormed m) (d : getD m 248 0 ≢ 0) where
   pub dvi-calm : (c n : ℕ) → c < 16 → Calm (memoryOf (Model.dvi m c n))
   unfolding Operate.dvi
   dvi-calm c n l =
-      either (λ (o : Model.Step). Calm (memoryOf o)) (ltb c 2) (fails 4) (either (λ (o : Model.Step). Calm (memoryOf o)) (eqb (getD m (256 + 2 * c) 0 / 32) 0) (fails 1)
+      either (λ (o : Model.Step). Calm (memoryOf o)) (ltb c 2) (fails 4)
+      (either (λ (o : Model.Step). Calm (memoryOf o)) (eqb (getD m (256 + 2 * c) 0 / 32) 0) (fails 1)
       (then-done (setCode m c 0 0) n (calm-code c 0 0 l) (code-run c 0 0)))
 
   pub gin-calm : (len : ℕ) → Calm (memoryOf (Model.gin m len))
@@ -114,7 +115,8 @@ module _ {m : List ℕ} (w : WellFormed m) (d : getD m 248 0 ≢ 0) where
   state-calm : (p v len : ℕ) → 1 ≤ count p (lists m 247) → Calm (memoryOf (Model.done (set m (p * 32 + 12) v) len))
   state-calm p v len h =
       let g = proc-page s p h in
-      then-done (set m (p * 32 + 12) v) len (calm-proc s m p 12 v h (omega arith) (omega arith) (omega arith) (omega arith)) (other m (p * 32 + 12) v 248 (omega arith))
+      then-done (set m (p * 32 + 12) v) len (calm-proc s m p 12 v h (omega arith) (omega arith) (omega arith) (omega arith))
+      (other m (p * 32 + 12) v 248 (omega arith))
 
   pub st1-calm : (p len : ℕ) → 1 ≤ count p (lists m 247) → Calm (memoryOf (Model.st1 m p len))
   unfolding Operate.st1 Processor.start
@@ -146,8 +148,8 @@ module _ {m : List ℕ} (w : WellFormed m) (d : getD m 248 0 ≢ 0) where
       let c1 : Calm m1 = calm-proc s m p 10 v h (omega arith) (omega arith) (omega arith) (omega arith) in
       let c2 : Calm m2 = same-on c1 (calm-proc s m1 p 11 (a % 256) h (omega arith) (omega arith) (omega arith) (omega arith)) in
       let c3 : Calm (set m2 (p * 32 + 12) t) = same-on c2 (calm-proc s m2 p 12 t h (omega arith) (omega arith) (omega arith) (omega arith)) in
-      let e : getD (set m2 (p * 32 + 12) t) 248 0 ≡ getD m 248 0 = other m2 (p * 32 + 12) t 248 (omega arith) ∙ other m1 (p * 32 + 11) (a % 256) 248 (omega arith)
-      ∙ other m (p * 32 + 10) v 248 (omega arith) in
+      let e : getD (set m2 (p * 32 + 12) t) 248 0 ≡ getD m 248 0 = other m2 (p * 32 + 12) t 248 (omega arith)
+      ∙ other m1 (p * 32 + 11) (a % 256) 248 (omega arith) ∙ other m (p * 32 + 10) v 248 (omega arith) in
       either (λ (o : Model.Step). Calm (memoryOf o)) (leb 128 (getD m (p * 32 + 12) 0)) (either (λ (o : Model.Step). Calm (memoryOf o))
       (eqb (getD m (p * 32 + 12) 0 % 128 / 64) 0)
       (then-done (set m2 (p * 32 + 12) t) len c3 e) (fails 8)) (fails 8)
@@ -215,5 +217,5 @@ module _ {m : List ℕ} (w : WellFormed m) (d : getD m 248 0 ≢ 0) where
   unfolding Processor.setRegistersOf Processor.setFlagsLr
   registers-calm x =
       let k : Both m = (calm-refl m, refl) in
-      reg 12 _ _ (omega arith) (omega arith) (reg 11 _ _ (omega arith) (omega arith) (reg 10 _ _ (omega arith) (omega arith) (reg 9 _ _ (omega arith) (omega arith)
-      (reg 8 _ m (omega arith) (omega arith) k)))) .0
+      reg 12 _ _ (omega arith) (omega arith) (reg 11 _ _ (omega arith) (omega arith) (reg 10 _ _ (omega arith) (omega arith)
+      (reg 9 _ _ (omega arith) (omega arith) (reg 8 _ m (omega arith) (omega arith) k)))) .0

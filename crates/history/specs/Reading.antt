@@ -131,7 +131,8 @@ module _ {m : List ℕ} (w : WellFormed m) (d : getD m 248 0 ≢ 0) where
       record {
         at = λ p h i k l.
             let j = rw (listed b) at h in
-            cases (memoryOf (Model.done m2 len)) m2 x p j k l (same p j) (before p j) (left-order bx r q xs ys hr (t .is) n f (rw mq (t .match)) (rw mx (t .none)) k l) mq
+            cases (memoryOf (Model.done m2 len)) m2 x p j k l (same p j) (before p j)
+            (left-order bx r q xs ys hr (t .is) n f (rw mq (t .match)) (rw mx (t .none)) k l) mq
             (λ z. left-away bx r q xs ys hr (t .is) p j z) (hit-or p r);
         born = λ p h i. absurd (omega (arith, ap (count p) pr));
       }

@@ -1,5 +1,5 @@
--- A page given back and a notice delivered, and a queue of the deleted one emptied from the front: what waits for each processor grows at its end by the
--- notices to it, in that order, and no processor's name changes. Assumes nothing.
+-- What a deletion puts, as a list of notices. A page given back and a notice delivered: what waits for each processor grows at the end of its Q1 by the notices
+-- to it, and no processor's name changes. Assumes nothing.
 use mathlib.Core.Path.{_≡_, refl, sym, ap, _∙_}
 use mathlib.Core.Logic.{_≢_, _⊎_, inl, inr}
 use mathlib.Core.Bool.{Bool, true, false, cond}

@@ -1,5 +1,5 @@
--- Pages: "SME and CRP use the page granted to them, else the first free one", and with none they wait for a page. Q1 and Q2 of every processor stay, and so does
--- every unprotected word. Assumes nothing.
+-- Pages: "SME and CRP use the page granted to them, else the first free one", and with none they wait for a page. Q1 and Q2 of every processor stay, and so
+-- does every unprotected word. Assumes nothing.
 use mathlib.Core.Path.{_≡_, refl, _∙_}
 use mathlib.Core.Logic.{_≢_}
 use mathlib.Core.Bool.{Bool, true, false}

@@ -1,5 +1,5 @@
--- The step law as a relation: what a processor reads and what then waits for it, of any sender and flag, is what waited for it and what is put to it; and how a
--- call that moves no message keeps it. Assumes nothing.
+-- The step law as a relation: what a processor reads and what then waits for it, of any sender and flag, is what waited for it and what is put to it; with it,
+-- that what was put stands at the end of Q1. How a call that moves no message keeps both. Assumes nothing.
 use mathlib.Core.Path.{_≡_, refl, sym, ap, _∙_}
 use mathlib.Core.Logic.{_≢_}
 use mathlib.Core.Bool.{Bool, true, false}

@@ -1,5 +1,5 @@
--- The instruction as a whole: what holds of each instruction with its mail, and of every end that moves no message, holds of the call, direct and by EXI. So the
--- step law holds of it, what it put stands at the end of Q1, and what it read stands where it was to go. Assumes nothing.
+-- The instruction as a whole: what holds of each instruction with its mail, and of every end that moves no message, holds of the call, direct and by EXI. So
+-- the step law holds of it, what it put stands at the end of Q1, and what it read stands where it was to go. Assumes nothing.
 use mathlib.Core.Path.{_≡_, refl}
 use mathlib.Core.Logic.{_≢_, inl, inr}
 use mathlib.Core.Bool.{Bool, true, false}
@@ -176,7 +176,8 @@ module _ {m : List ℕ} (w : WellFormed m) (d : getD m 248 0 ≢ 0) (s : Small m
       go false true false true true e1 e2 e3 e4 e5 =
           let c = Model.codeAt m n in
           let x = direct m n (shapeFor c) in
-          rw (e1, e2, e3, e4, e5) (run-all (exi 1) (exiMail 1) c x (lengthFor c) (record { bound = direct-bound m s n c; target = direct-address m s n c }) (exi-all 1 x))
+          let k : Asks c x = record { bound = direct-bound m s n c; target = direct-address m s n c } in
+          rw (e1, e2, e3, e4, e5) (run-all (exi 1) (exiMail 1) c x (lengthFor c) k (exi-all 1 x))
 
 -- ---- the call
 pub instruction-all : {m : List ℕ} → Sound m → (P : List ℕ → Mailed → Type 0) → Idles m P → (getD m 248 0 ≢ 0 → Parts m P)

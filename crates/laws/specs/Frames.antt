@@ -74,7 +74,8 @@ module _ {m m′ : List ℕ} (k : Kept m m′) where
       go (slot t) = rw (t .is) (k .words (t .page) (t .word) (proc-page s (t .page) (t .proc)) (omega arith))
 
   kept-sems : {ps : List ℕ} {L : Lists} → Sep ps L → (a : ℕ) → 1 ≤ count (a + 1) (queues ps) → getD m′ a 0 ≡ getD m a 0
-  kept-sems {ps} s a h = seat-same m m′ (λ a i j. k .fixed a (omega arith) (omega arith)) (λ p u. k .words p 3 (proc-page s p u) (omega arith)) a (seat-of ps a h)
+  kept-sems {ps} s a h =
+      seat-same m m′ (λ a i j. k .fixed a (omega arith) (omega arith)) (λ p u. k .words p 3 (proc-page s p u) (omega arith)) a (seat-of ps a h)
 
   pub mem-kept : {ps : List ℕ} {L : Lists} {W : View} → Sep ps L → Mem m ps L W → Mem m′ ps L W
   mem-kept {ps} {L} {W} s x =

@@ -1,5 +1,6 @@
 -- Pages: "A page given back goes to the first waiter as its grant and wakes it; with no waiter, to the end of the free list"; "SME and CRP use the page
--- granted to them, else the first free one". The model's steps. Assumes nothing.
+-- granted to them, else the first free one". The model's steps, and which words giving
+-- back leaves. Assumes nothing.
 use mathlib.Core.Path.{_≡_, refl, sym, ap, _∙_}
 use mathlib.Core.Logic.{_≢_, _⊎_, inl, inr}
 use mathlib.Core.List.{List, [], _∷_, _++_}
@@ -207,8 +208,9 @@ module _ {m : List ℕ} {ps : List ℕ} {L : Lists} {W : View} {hs : List ℕ} {
   free-frame =
       let s = b .facts .sep in
       let v = (getD m 245 0 + 1) % 256 in
-      join-frame s (sem-mem s (b .mem) 245 v (page-sem ps)) 244 (in-free ps, grant-low 244 (omega arith)) (omega arith) q (hand-page b q (in-hand b)) (hand-new b) c
-      (o .low 244 (omega arith) (omega arith)) (o .free) (o .hand) ∙ other m 245 v c (o .low 245 (omega arith) (omega arith))
+      join-frame s (sem-mem s (b .mem) 245 v (page-sem ps)) 244 (in-free ps, grant-low 244 (omega arith)) (omega arith) q
+      (hand-page b q (in-hand b)) (hand-new b) c (o .low 244 (omega arith) (omega arith)) (o .free) (o .hand)
+      ∙ other m 245 v c (o .low 245 (omega arith) (omega arith))
 
   grant-frame : (p : ℕ) (ws : List ℕ) → L 246 ≡ p ∷ ws → getD (grantPage m p q) c 0 ≡ getD m c 0
   unfolding Page.grantPage

@@ -130,8 +130,8 @@ module _ (k c : ℕ) (k1 : 1 ≤ k) (k2 : k ≤ 54) where
   pub seat : (ps : List ℕ) → 1 ≤ count (a + 1) (queues ps)
   seat ps = rw (← at-head) (int-queue ps (k - 1) (omega arith))
 
-  pub struck-base : {m : List ℕ} {ps : List ℕ} {L : Lists} {W : View} {hs : List ℕ} {g : ℕ} (p : ℕ) (xs ys : List ℕ) → Base m ps L W hs g → L (a + 1) ≡ xs ++ p ∷ ys
-      → Struck (struck m k c p) ps a ys hs g W
+  pub struck-base : {m : List ℕ} {ps : List ℕ} {L : Lists} {W : View} {hs : List ℕ} {g : ℕ} (p : ℕ) (xs ys : List ℕ) → Base m ps L W hs g
+      → L (a + 1) ≡ xs ++ p ∷ ys → Struck (struck m k c p) ps a ys hs g W
   unfolding Interrupt.struck
   struck-base {m} {ps} {L} {W} {hs} {g} p xs ys b e = go (eqb (W .reason p) 1) refl
     where
@@ -322,7 +322,8 @@ module _ {ps hs : List ℕ} {g : ℕ} (G : List ℕ → Type 0) (now : (m : List
       let k = now m t .base .facts .clock in
       let end : getD m 251 0 ≡ now m t .view .low 251 = now m t .base .mem .reads .fixed .turn 251 (omega arith) (omega arith) in
       turned t 240 51 (getD m 251 0) (Model.c1Counts (turns m 240 51)) (omega arith) (omega arith) (omega arith) (omega arith)
-      (clock0 l 0 (omega (arith, k .divider)) k) (λ n. clock0 (now m t .view .low) ((now m t .view .low 240 + 1) % 256) (omega (arith, k .c0, k .divider, end)) k) c1-kept
+      (clock0 l 0 (omega (arith, k .divider)) k)
+      (λ n. clock0 (now m t .view .low) ((now m t .view .low 240 + 1) % 256) (omega (arith, k .c0, k .divider, end)) k) c1-kept
 
   -- "An interrupt on the clock line is served, then C0 counts"
   pub delivered-kept : (m : List ℕ) (k c : ℕ) → G (serve m k c) → G (delivered m k c)

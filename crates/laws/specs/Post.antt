@@ -1,5 +1,5 @@
--- Sending: "The page joins NI's Q1; if NI waits for it, NI wakes." "A notice wakes one that waits for it alike." A message or a notice in hand, delivered,
--- keeps the invariant. Assumes nothing.
+-- Sending: "The page joins NI's Q1; if NI waits for it, NI wakes." "A notice wakes one that waits for it alike." A message or a notice, written in a page in
+-- hand and delivered, keeps the invariant; and which words a delivery leaves. Assumes nothing.
 use mathlib.Core.Path.{_≡_, refl, ap, _∙_}
 use mathlib.Core.Logic.{_≢_}
 use mathlib.Core.Bool.{Bool, true, false}
@@ -177,8 +177,8 @@ module _ {m : List ℕ} {ps : List ℕ} {L : Lists} {W : View} {hs : List ℕ} {
 
       joined : getD m1 c 0 ≡ getD m c 0
       joined =
-          join-frame s (b .mem) a5 (in-q ps p 5 (omega arith) (omega arith) h, grant-high a5 (omega (arith, pg))) (omega (arith, pg)) q (hand-page b q (in-hand b))
-          (hand-new b) c (n 5 (omega arith)) nl nq
+          join-frame s (b .mem) a5 (in-q ps p 5 (omega arith) (omega arith) h, grant-high a5 (omega (arith, pg))) (omega (arith, pg)) q
+          (hand-page b q (in-hand b)) (hand-new b) c (n 5 (omega arith)) nl nq
 
 -- ---- what is written in a page in hand
 module _ {m : List ℕ} {ps : List ℕ} {L : Lists} {W : View} {hs : List ℕ} {g q : ℕ} (b : Base m ps L W (q ∷ hs) g) where

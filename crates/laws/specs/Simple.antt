@@ -1,4 +1,5 @@
--- Instructions: CVI, DVI, ST1, STP, ST2 and code 13 leave a well-formed memory, and so does setting registers. Assumes nothing.
+-- Instructions: CVI, DVI, ST1, STP, ST2 and code 13 leave a well-formed memory, and so does setting registers. Before them the tests that instructions share:
+-- a case picked from a list, the first that a test picks, a word that is not protected. Assumes nothing.
 use mathlib.Core.Path.{_≡_, refl, sym, ap, _∙_}
 use mathlib.Core.Logic.{_≢_, _⊎_, inl, inr}
 use mathlib.Core.Bool.{Bool, true, false}

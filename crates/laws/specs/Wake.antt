@@ -1,5 +1,5 @@
 -- Sending: "Waking leaves the queue and clears the waiting bit and reason." A processor that wakes, from any of the wait queues, keeps the invariant; so
--- does one whose reason falls by one. Assumes nothing.
+-- does one whose reason falls by one; and which words waking leaves. Assumes nothing.
 use mathlib.Core.Path.{_≡_, sym, ap, _∙_}
 use mathlib.Core.Logic.{_≢_, _⊎_, inl, inr}
 use mathlib.Core.Bool.{false}

@@ -1,5 +1,6 @@
 -- Who runs: "the running one stays if ready (neither bit set) and no ready one has higher priority; else the first on the processor list of the highest
--- ready priority; else nobody". After it the right one runs, whoever ran before. Assumes nothing.
+-- ready priority; else nobody". After it the right one runs, whoever ran before. What a well-formed memory gives where someone runs.
+-- Assumes nothing.
 use mathlib.Core.Path.{_≡_, refl, sym, ap, _∙_}
 use mathlib.Core.Logic.{_≢_, _⊎_, inl, inr}
 use mathlib.Core.Bool.{Bool, true, false, cond}
