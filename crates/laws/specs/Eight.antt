@@ -117,7 +117,7 @@ module _ {m : List ℕ} (s : Small m) where
   unfolding Operate.tme Operate.tmeQ1
   tme-tiny n f a len =
       let t = small-test 20 (getD m 248 0) n f s in
-      either Tiny (eqb (Model.inQ2 m n f) 0) (rw (t .is) (either Tiny (t .found) (jumps-tiny (t .small) a) (done-tiny (t .small) len))) (jumps-tiny s a)
+      either Tiny (eqb (Model.inQ2 m n f) 0) (rw (t .is) (either Tiny (t .found) (jumps-tiny (t .kept) a) (done-tiny (t .kept) len))) (jumps-tiny s a)
 
   named-tiny : (c n len : ℕ) → Tiny (Model.named m c n len)
   unfolding Operate.named Operate.onPage Operate.st1 Operate.stp Operate.dep

@@ -1,23 +1,22 @@
 -- Instructions: SME, WNM, RME and TME leave a well-formed memory. Assumes nothing.
 use mathlib.Core.Path.{_≡_, refl, sym, _∙_}
 use mathlib.Core.Logic.{_≢_, _⊎_, inl, inr}
-use mathlib.Core.Bool.{Bool, true, false, cond}
+use mathlib.Core.Bool.{Bool, true, false}
 use mathlib.Core.List.{List, [], _∷_, _++_}
 use Prim.Native.Nat.{ℕ, zero, suc, _+_, _-_, _*_, _/_, _%_, _≤_, _<_}
 use native.Mathlib.Omega.{arith}
 use lib.ListN.{length, getD, set}
 use lib.Dec.{eqb, ltb}
-use borrow.Author.Tests.{eqb-true, eqb-false, eq-eqb, ne-eqb, ltb-true, ltb-false}
+use borrow.Author.Tests.{eqb-true, eqb-false, ne-eqb, ltb-true, ltb-false}
 use Rattle.model.specs.Address as Address
 use Rattle.model.specs.Address.{guarded, clear}
 use Rattle.model.specs.Queue as Queue
 use Rattle.model.specs.Queue.{first}
 use Rattle.model.specs.Mail as Mail
-use Rattle.model.specs.Mail.{fits, Tested}
-use Rattle.model.specs.Mail.Tested.{tested}
+use Rattle.model.specs.Mail.{fits}
 use Rattle.model.specs.Operate as Operate
 use Rattle.model.specs.Bytes as Model
-use Rattle.model.specs.Bytes.{lists, queue, pageOf, matches, move, testQ1, copy, copyOut}
+use Rattle.model.specs.Bytes.{Step, lists, queue, pageOf, matches, move, testQ1, copy, copyOut}
 use Rattle.model.specs.Lists.{count, Lists}
 use Rattle.laws.specs.Count.{hit-self, hit-other, hit-or}
 use Rattle.laws.specs.Chain.{Page, Chain, walk-chain, split-at-page}
@@ -37,6 +36,7 @@ use Rattle.laws.specs.Who.{Busy, busy, running-same, label-in}
 use Rattle.laws.specs.Ends.{Fine, done-fine, jumps-fine, waits-fine}
 use Rattle.laws.specs.Simple.{first-in, named-in, quiet-clear, fails}
 use Rattle.laws.specs.Waits.{Fit, page-fit}
+use Rattle.laws.specs.Words.{Tried, test-kept, either}
 
 -- ---- a search along a list
 pub first-none : (f : ℕ → Bool) (xs : List ℕ) → ((x : ℕ) → 1 ≤ count x xs → x ≢ 0) → first f xs ≡ 0 → (x : ℕ) → 1 ≤ count x xs → f x ≡ false
@@ -76,52 +76,21 @@ move-base {m} {ps} {L} {W} p q h i b =
       give-mail b1 p 6 h (omega arith) (omega arith) (b .facts .mail p 5 h (omega arith) (omega arith) q i) (λ x j e. absurd (omega arith)),
     )
 
--- "Q1 messages tested, the found one too, go to Q2 in order"
-pub record Proved (t : Tested (List ℕ)) (ps : List ℕ) (W : View) (hs : List ℕ) (g : ℕ) : Type 0 where
-  pub found : Bool
-  pub memory : List ℕ
-  pub is : t ≡ tested found memory
-  pub lists : Lists
-  pub base : Base memory ps lists W hs g
-
-pub test-end : (k : ℕ) (m : List ℕ) (p n f : ℕ) → getD m (p * 32 + 5) 0 ≡ 0 → testQ1 (suc k) m p n f ≡ tested false m
-unfolding Mail.testQ1
-test-end k m p n f e = rw (eq-eqb (getD m (p * 32 + 5) 0) 0 e, Mail.testQ1)
-
-pub test-hit : (k : ℕ) (m : List ℕ) (p n f : ℕ) → getD m (p * 32 + 5) 0 ≢ 0 → matches m n f (getD m (p * 32 + 5) 0) ≡ true
-    → testQ1 (suc k) m p n f ≡ tested true (move m p (getD m (p * 32 + 5) 0))
-unfolding Mail.testQ1
-test-hit k m p n f d e = rw (ne-eqb (getD m (p * 32 + 5) 0) 0 d, e, Mail.testQ1)
-
-pub test-miss : (k : ℕ) (m : List ℕ) (p n f : ℕ) → getD m (p * 32 + 5) 0 ≢ 0 → matches m n f (getD m (p * 32 + 5) 0) ≡ false
-    → testQ1 (suc k) m p n f ≡ testQ1 k (move m p (getD m (p * 32 + 5) 0)) p n f
-unfolding Mail.testQ1
-test-miss k m p n f d e = rw (ne-eqb (getD m (p * 32 + 5) 0) 0 d, e, Mail.testQ1)
-
-pub test-nought : (m : List ℕ) (p n f : ℕ) → testQ1 0 m p n f ≡ tested false m
-unfolding Mail.testQ1
-test-nought m p n f = refl
-
-pub test-base : {ps : List ℕ} {W : View} {hs : List ℕ} {g : ℕ} (k : ℕ) (m : List ℕ) (L : Lists) (p n f : ℕ) → 1 ≤ count p ps → Base m ps L W hs g
-    → Proved (testQ1 k m p n f) ps W hs g
-test-base zero m L p n f h b = record { found = false; memory = m; is = test-nought m p n f; lists = L; base = b }
-test-base {ps} {W} {hs} {g} (suc k) m L p n f h b =
-    go (λ m′ K c. test-base k m′ K p n f h c) (L (p * 32 + 5)) refl (mail-chain b p 5 h (omega arith) (omega arith)) (matches m n f (getD m (p * 32 + 5) 0))
-    refl
+-- the first of Q1
+pub first-mail : {m : List ℕ} {ps : List ℕ} {L : Lists} {W : View} {hs : List ℕ} {g : ℕ} → Base m ps L W hs g → (p : ℕ) → 1 ≤ count p ps
+    → getD m (p * 32 + 5) 0 ≢ 0 → (xs : List ℕ) × (L (p * 32 + 5) ≡ getD m (p * 32 + 5) 0 ∷ xs)
+first-mail {m} {L = L} b p h d = go (L (p * 32 + 5)) refl (mail-chain b p 5 h (omega arith) (omega arith))
   where
-    go : ((m′ : List ℕ) (K : Lists) → Base m′ ps K W hs g → Proved (testQ1 k m′ p n f) ps W hs g) → (xs : List ℕ) → L (p * 32 + 5) ≡ xs
-        → Chain m 0 (p * 32 + 5) (L (p * 32 + 5)) → (c : Bool) → matches m n f (getD m (p * 32 + 5) 0) ≡ c → Proved (testQ1 (suc k) m p n f) ps W hs g
-    go ih [] e c t d = record { found = false; memory = m; is = test-end k m p n f (rw e at c); lists = L; base = b }
-    go ih (x ∷ xs) e c true d =
-        let z = rw e at c in
-        let x0 = getD m (p * 32 + 5) 0 in
-        let r = move-base p x0 h (rw (e, z .0) (omega (arith, hit-self x))) b in
-        record { found = true; memory = move m p x0; is = test-hit k m p n f (omega (arith, z)) d; lists = r .0; base = r .1 }
-    go ih (x ∷ xs) e c false d =
-        let z = rw e at c in
-        let x0 = getD m (p * 32 + 5) 0 in
-        let r = move-base p x0 h (rw (e, z .0) (omega (arith, hit-self x))) b in
-        rw (test-miss k m p n f (omega (arith, z)) d) (ih (move m p x0) (r .0) (r .1))
+    go : (xs : List ℕ) → L (p * 32 + 5) ≡ xs → Chain m 0 (p * 32 + 5) (L (p * 32 + 5)) → (ys : List ℕ) × (L (p * 32 + 5) ≡ getD m (p * 32 + 5) 0 ∷ ys)
+    go [] e c = absurd (d (rw e at c))
+    go (x ∷ xs) e c = let z = rw e at c in (xs, rw (z .0) e)
+
+-- "Q1 messages tested, the found one too, go to Q2 in order"
+pub test-base : {m : List ℕ} {ps : List ℕ} {L : Lists} {W : View} {hs : List ℕ} {g : ℕ} (p n f : ℕ) → 1 ≤ count p ps → Base m ps L W hs g
+    → Tried (λ x. (K : Lists) × Base x ps K W hs g) (testQ1 20 m p n f)
+test-base {m} {ps} {L} {W} {hs} {g} p n f h b =
+    test-kept (λ x. (K : Lists) × Base x ps K W hs g) p (λ x t d.
+    let r = first-mail (t .1) p h d in move-base p (getD x (p * 32 + 5) 0) h (rw (r .1) (omega (arith, hit-self (getD x (p * 32 + 5) 0)))) (t .1)) 20 m n f (L, b)
 
 -- ---- RME writes to unprotected words
 quiet-high : (a : ℕ) → 8192 ≤ a → Quiet a
@@ -286,11 +255,9 @@ module _ {m : List ℕ} (w : WellFormed m) (d : getD m 248 0 ≢ 0) where
 
   tested-fine : (n f a len : ℕ) → Fine (Model.tmeQ1 m n f a len)
   unfolding Operate.tmeQ1
-  tested-fine n f a len = let t = test-base 20 m (lists m) r n f hr b in rw (t .is) (go (t .found) t)
-    where
-      go : (c : Bool) → (t : Proved (testQ1 20 m r n f) (lists m 247) (view m) [] 32) → Fine (cond c (Model.jumps (t .memory) a) (Model.done (t .memory) len))
-      go true t = jumps-fine (t .base) a
-      go false t = done-fine (t .base) len
+  tested-fine n f a len =
+      let t = test-base r n f hr b in
+      rw (t .is) (either (λ (o : Step). Fine o) (t .found) (jumps-fine (t .kept .1) a) (done-fine (t .kept .1) len))
 
   pub tme-fine : (n f a len : ℕ) → Fine (Model.tme m n f a len)
   unfolding Operate.tme
