@@ -3,13 +3,12 @@ use mathlib.Core.Path.{_≡_, refl, sym, ap, _∙_}
 use mathlib.Core.Logic.{_≢_, _⊎_, inl, inr}
 use mathlib.Core.Bool.{Bool, true, false}
 use mathlib.Core.List.{List, [], _∷_, _++_, append-assoc, append-nil, map}
-use Prim.Native.Nat.{ℕ, _+_, _-_, _*_, _/_, _%_, _≤_, _<_}
+use Prim.Native.Nat.{ℕ, _+_, _-_, _*_, _%_, _≤_}
 use native.Mathlib.Omega.{arith}
-use lib.ListN.{getD, set}
+use lib.ListN.{getD}
 use lib.Dec.{eqb}
 use borrow.Author.Tests.{eqb-false}
 use Rattle.model.specs.Address.{clear}
-use Rattle.model.specs.Mail as Mail
 use Rattle.model.specs.Operate as Operate
 use Rattle.model.specs.Answer.{memoryOf}
 use Rattle.model.specs.Bytes as Model
@@ -20,13 +19,13 @@ use Rattle.laws.specs.Queues.{upd, upd-same, upd-other}
 use Rattle.laws.specs.Uses.{Sep}
 use Rattle.laws.specs.Inv.{View, view, Base}
 use Rattle.laws.specs.Judged.{WellFormed}
-use Rattle.laws.specs.Frames.{other, base-kept, copy-far}
+use Rattle.laws.specs.Frames.{base-kept}
 use Rattle.laws.specs.Hands.{take-mail}
 use Rattle.laws.specs.Grants.{give-back}
 use Rattle.laws.specs.Who.{listed, Busy, busy}
-use Rattle.laws.specs.Mails.{mail-queue, out-kept, clear-at}
+use Rattle.laws.specs.Mails.{mail-queue, out-kept, clear-at, out-far}
 use Rattle.history.specs.Order.{only, Fails, overtakes-none}
-use Rattle.history.specs.Letter.{Letter, mailOf, key, asked, one-key, map-append, waitingFor, waits-by, Ours, Same, posts, Texted, waits-through}
+use Rattle.history.specs.Letter.{Letter, mailOf, key, asked, one-key, map-append, waitingFor, waits-by, Same, posts, Texted, waits-through}
 use Rattle.history.specs.Letter.{waits-same, procs-same, mail-same, mails-same, texts-same}
 use Rattle.history.specs.Put.{of, reading, rmeMail}
 use Rattle.history.specs.Calm.{ours-low, ours-fits, calm-give}
@@ -37,24 +36,10 @@ use Rattle.history.specs.Tests.{Found, found}
 
 -- what RME writes: three words and the text
 pub out-calm : {ps : List ℕ} {L : Lists} → Sep ps L → (m : List ℕ) (q a : ℕ) → clear (3 + getD m (q * 32 + 2) 0 % 128) a ≡ true → Same ps L m (copyOut m q a)
-unfolding Mail.copyOut
-out-calm {ps} {L} s m q a h = record { at = λ c o. go c o (far c o) }
-  where
-    far : (c : ℕ) → Ours ps L c → (i : ℕ) → i < 3 + getD m (q * 32 + 2) 0 % 128 → c ≢ (a + i) % 8192
-    far c o i l = let t = clear-far ((a + i) % 8192) (clear-at (3 + getD m (q * 32 + 2) 0 % 128) a h i l) in ours-low s o ((a + i) % 8192) (t .0) (t .1)
-
-    go : (c : ℕ) → Ours ps L c → ((i : ℕ) → i < 3 + getD m (q * 32 + 2) 0 % 128 → c ≢ (a + i) % 8192) → getD (copyOut m q a) c 0 ≡ getD m c 0
-    go c o f =
-        let n = getD m (q * 32 + 2) 0 % 128 in
-        let u = ours-fits s o in
-        let m1 = set m a (getD m (q * 32 + 1) 0 / 16) in
-        let m2 = set m1 ((a + 1) % 8192) (getD m (q * 32 + 1) 0 % 16) in
-        let m3 = set m2 ((a + 2) % 8192) n in
-        let f0 = f 0 (omega arith) in
-        copy-far n m3 (q * 32 + 3) ((a + 3) % 8192) c (omega arith)
-        (λ i l z. f (3 + i) (omega arith) (z ∙ (let d : ((a + 3) % 8192 + i) % 8192 ≡ (a + (3 + i)) % 8192 = omega arith in d)))
-        ∙ other m2 ((a + 2) % 8192) n c (f 2 (omega arith)) ∙ other m1 ((a + 1) % 8192) (getD m (q * 32 + 1) 0 % 16) c (f 1 (omega arith))
-        ∙ other m a (getD m (q * 32 + 1) 0 / 16) c (λ z. f0 (omega arith))
+out-calm s m q a h = record {
+  at = λ c o. out-far m q a c (ours-fits s o) (λ i l.
+      let t = clear-far ((a + i) % 8192) (clear-at (3 + getD m (q * 32 + 2) 0 % 128) a h i l) in ours-low s o ((a + i) % 8192) (t .0) (t .1));
+}
 
 -- ---- message q leaves Q2, and its page is given back
 module _ {m : List ℕ} {ps : List ℕ} {L : Lists} {W : View} (b : Base m ps L W [] 32) (p q : ℕ) (xs ys : List ℕ) (h : 1 ≤ count p ps)

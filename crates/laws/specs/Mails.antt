@@ -5,9 +5,9 @@ use mathlib.Core.Bool.{Bool, true, false}
 use mathlib.Core.List.{List, [], _∷_, _++_}
 use Prim.Native.Nat.{ℕ, zero, suc, _+_, _-_, _*_, _/_, _%_, _≤_, _<_}
 use native.Mathlib.Omega.{arith}
-use lib.ListN.{length, getD, set}
+use lib.ListN.{length, getD, set, length-set}
 use lib.Dec.{eqb, ltb}
-use borrow.Author.Tests.{eqb-true, eqb-false, ne-eqb, ltb-true, ltb-false}
+use borrow.Author.Tests.{eqb-true, eqb-false, ne-eqb, ltb-false}
 use Rattle.model.specs.Address as Address
 use Rattle.model.specs.Address.{guarded, clear}
 use Rattle.model.specs.Queue as Queue
@@ -25,7 +25,7 @@ use Rattle.laws.specs.Uses.{proc-page, list-short}
 use Rattle.laws.specs.Places.{in-q, grant-high, all-pages}
 use Rattle.laws.specs.Inv.{View, view, Label, Waits, Base}
 use Rattle.laws.specs.Judged.{WellFormed}
-use Rattle.laws.specs.Frames.{Kept, kept-refl, kept-set, base-kept, Quiet}
+use Rattle.laws.specs.Frames.{Kept, base-kept, other, copy-far}
 use Rattle.laws.specs.Cells.{chain0}
 use Rattle.laws.specs.Changes.{own-sem, page-sem}
 use Rattle.laws.specs.Hands.{take-mail, give-mail}
@@ -34,7 +34,7 @@ use Rattle.laws.specs.Grants.Takes.{gets, lacks}
 use Rattle.laws.specs.Post.{notice-base, message-base}
 use Rattle.laws.specs.Who.{Busy, busy, running-same, label-in}
 use Rattle.laws.specs.Ends.{Fine, done-fine, jumps-fine, waits-fine}
-use Rattle.laws.specs.Simple.{first-in, named-in, quiet-clear, fails}
+use Rattle.laws.specs.Simple.{first-in, named-in, fails, Open, clear-open}
 use Rattle.laws.specs.Waits.{Fit, page-fit}
 use Rattle.laws.specs.Words.{Tried, test-kept, either}
 
@@ -90,12 +90,10 @@ pub test-base : {m : List ℕ} {ps : List ℕ} {L : Lists} {W : View} {hs : List
     → Tried (λ x. (K : Lists) × Base x ps K W hs g) (testQ1 20 m p n f)
 test-base {m} {ps} {L} {W} {hs} {g} p n f h b =
     test-kept (λ x. (K : Lists) × Base x ps K W hs g) p (λ x t d.
-    let r = first-mail (t .1) p h d in move-base p (getD x (p * 32 + 5) 0) h (rw (r .1) (omega (arith, hit-self (getD x (p * 32 + 5) 0)))) (t .1)) 20 m n f (L, b)
+    let r = first-mail (t .1) p h d in
+    move-base p (getD x (p * 32 + 5) 0) h (rw (r .1) (omega (arith, hit-self (getD x (p * 32 + 5) 0)))) (t .1)) 20 m n f (L, b)
 
 -- ---- RME writes to unprotected words
-quiet-high : (a : ℕ) → 8192 ≤ a → Quiet a
-quiet-high a h = record { fixed = λ c i j. omega arith; words = λ p j i k. omega arith; state = λ p i. omega arith }
-
 pub clear-at : (n a : ℕ) → clear n a ≡ true → (i : ℕ) → i < n → guarded ((a + i) % 8192) ≡ false
 unfolding Address.clear
 clear-at zero a h i l = absurd (omega arith)
@@ -107,31 +105,35 @@ clear-at (suc n) a h i l = go (guarded ((a + n) % 8192)) refl (hit-or i n) (clea
     go false e (inl d) ih = rw d e
     go false e (inr d) ih = let k : clear (suc n) a ≡ clear n a = rw (e, Address.clear) in ih (sym k ∙ h) i (omega arith)
 
-copy-kept : {m : List ℕ} (n : ℕ) (m′ : List ℕ) (a b : ℕ) → b < 8192 → ((i : ℕ) → i < n → Quiet ((b + i) % 8192)) → Kept m m′ → Kept m (copy n m′ a b)
+copy-size : (n : ℕ) (m : List ℕ) (a b : ℕ) → length (copy n m a b) ≡ length m
 unfolding Address.copy
-copy-kept zero m′ a b l q k = k
-copy-kept (suc n) m′ a b l q k =
-    let e : (b + 0) % 8192 ≡ b = omega arith in
-    copy-kept n (set m′ b (getD m′ a 0)) ((a + 1) % 8192) ((b + 1) % 8192) (omega arith)
-    (λ i h. let d : ((b + 1) % 8192 + i) % 8192 ≡ (b + suc i) % 8192 = omega arith in rw d (q (suc i) (omega arith)))
-    (kept-set b (getD m′ a 0) (rw e at (q 0 (omega arith))) k)
+copy-size zero m a b = refl
+copy-size (suc n) m a b = copy-size n (set m b (getD m a 0)) ((a + 1) % 8192) ((b + 1) % 8192) ∙ simp length-set
+
+-- three words and the text: every other word stays
+pub out-far : (m : List ℕ) (q a c : ℕ) → c < 8192 → ((i : ℕ) → i < 3 + getD m (q * 32 + 2) 0 % 128 → c ≢ (a + i) % 8192)
+    → getD (copyOut m q a) c 0 ≡ getD m c 0
+unfolding Mail.copyOut
+out-far m q a c u f =
+    let n = getD m (q * 32 + 2) 0 % 128 in
+    let m1 = set m a (getD m (q * 32 + 1) 0 / 16) in
+    let m2 = set m1 ((a + 1) % 8192) (getD m (q * 32 + 1) 0 % 16) in
+    let f0 = f 0 (omega arith) in
+    copy-far n (set m2 ((a + 2) % 8192) n) (q * 32 + 3) ((a + 3) % 8192) c (omega arith)
+    (λ i l. let d : ((a + 3) % 8192 + i) % 8192 ≡ (a + (3 + i)) % 8192 = omega arith in rw d (f (3 + i) (omega arith)))
+    ∙ other m2 ((a + 2) % 8192) _ c (f 2 (omega arith)) ∙ other m1 ((a + 1) % 8192) _ c (f 1 (omega arith)) ∙ other m a _ c (λ z. f0 (omega arith))
 
 pub out-kept : (m : List ℕ) (q a : ℕ) → clear (3 + getD m (q * 32 + 2) 0 % 128) a ≡ true → Kept m (copyOut m q a)
 unfolding Mail.copyOut
-out-kept m q a h =
-    let n = getD m (q * 32 + 2) 0 % 128 in
-    let at : (i : ℕ) → i < 3 + n → Quiet ((a + i) % 8192) = λ i l. quiet-clear ((a + i) % 8192) (clear-at (3 + n) a h i l) in
-    let m1 = set m a (getD m (q * 32 + 1) 0 / 16) in
-    let m2 = set m1 ((a + 1) % 8192) (getD m (q * 32 + 1) 0 % 16) in
-    let m3 = set m2 ((a + 2) % 8192) n in
-    copy-kept n m3 (q * 32 + 3) ((a + 3) % 8192) (omega arith)
-    (λ i l. let d : ((a + 3) % 8192 + i) % 8192 ≡ (a + (3 + i)) % 8192 = omega arith in rw d (at (3 + i) (omega arith)))
-    (kept-set ((a + 2) % 8192) n (at 2 (omega arith)) (kept-set ((a + 1) % 8192) (getD m (q * 32 + 1) 0 % 16) (at 1 (omega arith))
-    (kept-set a (getD m (q * 32 + 1) 0 / 16) (here (ltb a 8192) refl (at 0 (omega arith))) (kept-refl m))))
+out-kept m q a h = record {
+  size = copy-size (getD m (q * 32 + 2) 0 % 128) _ (q * 32 + 3) ((a + 3) % 8192) ∙ simp length-set;
+  fixed = λ c l u. out-far m q a c (omega arith) (λ i k e. at i k .between c l u (sym e));
+  words = λ p j g l. out-far m q a (p * 32 + j) (omega (arith, g)) (λ i k. omega (arith, g, at i k .below));
+  state = λ p g. out-far m q a (p * 32 + 12) (omega (arith, g)) (λ i k. omega (arith, g, at i k .below));
+}
   where
-    here : (c : Bool) → ltb a 8192 ≡ c → Quiet ((a + 0) % 8192) → Quiet a
-    here true e s = let l = ltb-true a 8192 e in let d : (a + 0) % 8192 ≡ a = omega arith in rw d at s
-    here false e s = quiet-high a (ltb-false a 8192 e)
+    at : (i : ℕ) → i < 3 + getD m (q * 32 + 2) 0 % 128 → Open ((a + i) % 8192)
+    at i l = clear-open ((a + i) % 8192) (clear-at (3 + getD m (q * 32 + 2) 0 % 128) a h i l)
 
 -- ---- the instructions, of a well-formed memory where someone runs
 module _ {m : List ℕ} (w : WellFormed m) (d : getD m 248 0 ≢ 0) where
