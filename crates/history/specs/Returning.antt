@@ -23,26 +23,10 @@ use Rattle.laws.specs.Stores.{only-word}
 use Rattle.history.specs.Letter.{Letter, mailOf, waitingFor, Posts, posts, waits-same, held, held-same}
 use Rattle.history.specs.Put.{Log, of, noticeFrom, returnsTo, notices}
 use Rattle.history.specs.Calm.{calm-only, calm-give}
-use Rattle.history.specs.Told.{of-none, of-here, of-other}
+use Rattle.history.specs.Told.{of-none, of-here, of-other, of-append}
 use Rattle.history.specs.Delivering.{delivered-last, delivered-other, delivered-here, delivered-away, notice-mail}
 
 -- ---- what is put, one after the other
-of-yes : (p : ℕ) (x : ℕ × Letter) (l : Log) → eqb p (x .0) ≡ true → of p (x ∷ l) ≡ x .1 ∷ of p l
-unfolding of
-of-yes p x l e = rw (e, of)
-
-of-no : (p : ℕ) (x : ℕ × Letter) (l : Log) → eqb p (x .0) ≡ false → of p (x ∷ l) ≡ of p l
-unfolding of
-of-no p x l e = rw (e, of)
-
-pub of-append : (p : ℕ) (l k : Log) → of p (l ++ k) ≡ of p l ++ of p k
-of-append p [] k = rw (of-none p)
-of-append p (x ∷ l) k = go (eqb p (x .0)) refl (of-append p l k)
-  where
-    go : (b : Bool) → eqb p (x .0) ≡ b → of p (l ++ k) ≡ of p l ++ of p k → of p (x ∷ l ++ k) ≡ of p (x ∷ l) ++ of p k
-    go true e ih = rw (of-yes p x (l ++ k) e, of-yes p x l e, ih)
-    go false e ih = rw (of-no p x (l ++ k) e, of-no p x l e, ih)
-
 -- the notice from the name n with flag f to the processor of page r, if there is one
 abbrev pub sentBack : ℕ → ℕ → ℕ → Log
 sentBack r n f = cond (eqb r 0) [] ((r, noticeFrom n f) ∷ [])

@@ -104,7 +104,7 @@ module _ {m : List ℕ} {ps : List ℕ} {L : Lists} {W : View} {hs : List ℕ} {
   hq : Page q
   hq = hand-page b q (in-hand b)
 
-  module _ (f a l : ℕ) (f1 : 1 ≤ f) (f2 : f ≤ 7) (l2 : l ≤ 29) (la : a < 8192) where
+  module _ (f a l : ℕ) (f2 : f ≤ 7) (l2 : l ≤ 29) (la : a < 8192) where
     abbrev v : ℕ
     v = getD m (getD m 248 0 * 32 + 7) 0 % 16 * 16 + f
 
@@ -133,7 +133,7 @@ module _ {m : List ℕ} {ps : List ℕ} {L : Lists} {W : View} {hs : List ℕ} {
         let e1 : (getD m (getD m 248 0 * 32 + 7) 0 % 16 * 16 + f) / 16 ≡ getD m (getD m 248 0 * 32 + 7) 0 % 16 = omega arith in
         let e2 : (getD m (getD m 248 0 * 32 + 7) 0 % 16 * 16 + f) % 16 ≡ f = omega arith in
         let e3 : l % 128 ≡ l = omega arith in
-        rw (message-words b f a l f1 f2 l2 .0, message-words b f a l f1 f2 l2 .1, e1, e2, e3, written-text far)
+        rw (message-words b f a l l2 .0, message-words b f a l l2 .1, e1, e2, e3, written-text far)
 
 -- ---- the instruction
 module _ {m : List ℕ} (w : WellFormed m) (d : getD m 248 0 ≢ 0) where
@@ -176,8 +176,8 @@ module _ {m : List ℕ} (w : WellFormed m) (d : getD m 248 0 ≢ 0) where
         let tx : words m1 a l ≡ words m a l = words-moved m m1 a a l la la (λ i h. takes-word b r hr q m1 e ((a + i) % 8192) (o i h)) in
         let lb : getD m1 (getD m1 248 0 * 32 + 7) 0 ≡ getD m (getD m 248 0 * 32 + 7) 0 =
         label1 (getD m1 248 0) in1 ∙ ap (λ (z : ℕ). getD m (z * 32 + 7) 0) run1 in
-        let wm = written-mail (t .base) f a l f1 f2 l2 la (λ i h. o i h .below) in
-        let h = put-sent b s1 (t .base) (message-only (t .base) f a l f1 f2 l2) p hp (message-letter (t .base) f a l f1 f2 l2 named) len in
+        let wm = written-mail (t .base) f a l f2 l2 la (λ i h. o i h .below) in
+        let h = put-sent b s1 (t .base) (message-only (t .base) f a l l2) p hp (message-letter (t .base) f a l l2 f1 f2 named) len in
         rw (wm, lb, tx) at h
 
     posted-sent : (n f a len : ℕ) → 1 ≤ n → n ≤ 15 → 1 ≤ f → f ≤ 7 → getD m a 0 ≤ 29 → clear (getD m a 0) ((a + 1) % 8192) ≡ true

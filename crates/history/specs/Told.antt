@@ -7,7 +7,7 @@ use mathlib.Core.List.{List, [], _∷_, _++_, append-nil, map}
 use Prim.Native.Nat.{ℕ, _+_, _-_, _*_, _/_, _%_, _≤_}
 use native.Mathlib.Omega.{arith}
 use lib.ListN.{getD, set}
-use lib.Dec.{ltb}
+use lib.Dec.{eqb, ltb}
 use borrow.Author.Tests.{ltb-true, eq-eqb, ne-eqb}
 use Rattle.model.specs.Map.{place, q1}
 use Rattle.model.specs.Fault as Fault
@@ -24,7 +24,7 @@ use Rattle.laws.specs.Who.{running-at, running-in, listed}
 use Rattle.laws.specs.Waits.{Fit, wait-base, waits-not}
 use Rattle.history.specs.Order.{only}
 use Rattle.history.specs.Letter.{Letter, mailOf, key, waitingFor, Same, same-on, posts, waits-same, procs-same}
-use Rattle.history.specs.Put.{of, Mailed, nothing}
+use Rattle.history.specs.Put.{of, Mailed, nothing, Log}
 use Rattle.history.specs.Calm.{calm-low, calm-run, calm-lr, calm-turn, calm-wait, calm-refl}
 
 -- ---- from m to m′ with the mail e, for every processor that lives before and after
@@ -38,17 +38,32 @@ pub record Told (m m′ : List ℕ) (e : Mailed) : Type 0 where
 pub record Stands (m′ : List ℕ) (e : Mailed) : Type 0 where
   pub at : (p : ℕ) → 1 ≤ count p (processors m′) → (zs : List Letter) × (map (mailOf m′) (queue m′ (place p q1)) ≡ zs ++ of p (e .puts))
 
+-- ---- what is put to one processor, one after the other
 pub of-none : (p : ℕ) → of p [] ≡ []
 unfolding of
 of-none p = refl
 
-pub of-here : (p : ℕ) (x : Letter) → of p ((p, x) ∷ []) ≡ x ∷ []
+of-yes : (p : ℕ) (x : ℕ × Letter) (l : Log) → eqb p (x .0) ≡ true → of p (x ∷ l) ≡ x .1 ∷ of p l
 unfolding of
-of-here p x = rw (eq-eqb p p refl, of)
+of-yes p x l e = rw (e, of)
+
+of-no : (p : ℕ) (x : ℕ × Letter) (l : Log) → eqb p (x .0) ≡ false → of p (x ∷ l) ≡ of p l
+unfolding of
+of-no p x l e = rw (e, of)
+
+pub of-append : (p : ℕ) (l k : Log) → of p (l ++ k) ≡ of p l ++ of p k
+of-append p [] k = rw (of-none p)
+of-append p (x ∷ l) k = go (eqb p (x .0)) refl (of-append p l k)
+  where
+    go : (b : Bool) → eqb p (x .0) ≡ b → of p (l ++ k) ≡ of p l ++ of p k → of p (x ∷ l ++ k) ≡ of p (x ∷ l) ++ of p k
+    go true e ih = rw (of-yes p x (l ++ k) e, of-yes p x l e, ih)
+    go false e ih = rw (of-no p x (l ++ k) e, of-no p x l e, ih)
+
+pub of-here : (p : ℕ) (x : Letter) → of p ((p, x) ∷ []) ≡ x ∷ []
+of-here p x = rw (of-yes p (p, x) [] (eq-eqb p p refl), of-none p)
 
 pub of-other : (p r : ℕ) (x : Letter) → p ≢ r → of p ((r, x) ∷ []) ≡ []
-unfolding of
-of-other p r x n = rw (ne-eqb p r n, of)
+of-other p r x n = rw (of-no p (r, x) [] (ne-eqb p r n), of-none p)
 
 -- nothing was put
 pub stands-empty : (m′ : List ℕ) (e : Mailed) → e .puts ≡ [] → Stands m′ e

@@ -226,7 +226,7 @@ module _ {m : List ℕ} {ps : List ℕ} {L : Lists} {W : View} {hs : List ℕ} {
   notice-base n f p i j k l h = written-base (notice-only n f) (notice-letter n f i j k l) p h
 
   -- "text length at A, text from A+1, to processor NI"
-  module _ (f a l : ℕ) (f1 : 1 ≤ f) (f2 : f ≤ 7) (l2 : l ≤ 29) where
+  module _ (f a l : ℕ) (l2 : l ≤ 29) where
     abbrev v : ℕ
     v = getD m (getD m 248 0 * 32 + 7) 0 % 16 * 16 + f
 
@@ -244,12 +244,12 @@ module _ {m : List ℕ} {ps : List ℕ} {L : Lists} {W : View} {hs : List ℕ} {
       copy-far l mw a (q * 32 + 3) (q * 32 + 2) (omega (arith, hp)) (λ i u. omega (arith, hp)) ∙ word2 v l,
     )
 
-    pub message-letter : Label (getD m (getD m 248 0 * 32 + 7) 0)
+    pub message-letter : 1 ≤ f → f ≤ 7 → Label (getD m (getD m 248 0 * 32 + 7) 0)
         → Message (getD (writeMessage m q f a l) (q * 32 + 1) 0) (getD (writeMessage m q f a l) (q * 32 + 2) 0)
-    message-letter n =
+    message-letter f1 f2 n =
         rw (message-words .0, message-words .1)
         (record { sender = omega (arith, n .name); known = omega arith; flag = omega arith; small = omega arith; long = λ z. l2 })
 
   pub message-base : (f a l p : ℕ) → 1 ≤ f → f ≤ 7 → l ≤ 29 → Label (getD m (getD m 248 0 * 32 + 7) 0) → 1 ≤ count p ps
       → Gave (deliver (writeMessage m q f a l) p q) ps hs g W
-  message-base f a l p i j k n h = written-base (message-only f a l i j k) (message-letter f a l i j k n) p h
+  message-base f a l p i j k n h = written-base (message-only f a l k) (message-letter f a l k i j n) p h
