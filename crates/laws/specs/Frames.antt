@@ -109,6 +109,14 @@ module _ {m m′ : List ℕ} (k : Kept m m′) where
 pub kept-refl : (m : List ℕ) → Kept m m
 kept-refl m = record { size = refl; fixed = λ a i j. refl; words = λ p j h i. refl; state = λ p h. refl }
 
+pub kept-on : {m m1 m2 : List ℕ} → Kept m m1 → Kept m1 m2 → Kept m m2
+kept-on f g = record {
+  size = g .size ∙ f .size;
+  fixed = λ a i j. g .fixed a i j ∙ f .fixed a i j;
+  words = λ p j h i. g .words p j h i ∙ f .words p j h i;
+  state = λ p h. g .state p h ∙ f .state p h;
+}
+
 -- ---- a store to a word that is not judged
 pub record Quiet (b : ℕ) : Type 0 where
   pub fixed : (a : ℕ) → 128 ≤ a → a < 352 → a ≢ b

@@ -1,4 +1,5 @@
--- Memory map: "8,192 words of 8 bits". Every step keeps words below 256, on any memory. Assumes nothing.
+-- Memory map: "8,192 words of 8 bits". Every step keeps words below 256, on any memory. With it what other laws share: either arm of a test, and the walk of
+-- a test of Q1. Assumes nothing.
 use mathlib.Core.Path.{_≡_, refl}
 use mathlib.Core.Logic.{_≢_, _⊎_, inl, inr}
 use mathlib.Core.Bool.{Bool, true, false, cond}
