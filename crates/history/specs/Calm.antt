@@ -22,7 +22,7 @@ use Rattle.laws.specs.Uses.{Head, Sep, proc-page}
 use Rattle.laws.specs.Places.{in-free, in-q, q-free, q-once, free-once, grant-low, wait-page}
 use Rattle.laws.specs.Inv.{View, Mem, Base}
 use Rattle.laws.specs.Frames.{other, Only}
-use Rattle.laws.specs.Frame.{turn-frame}
+use Rattle.laws.specs.Frame.{turn-frame, Unmoved}
 use Rattle.laws.specs.Stores.{sem-mem, state-mem, reason-mem}
 use Rattle.laws.specs.Cells.{join-frame, leave-frame}
 use Rattle.laws.specs.Changes.{page-sem}
@@ -155,20 +155,20 @@ module _ {ps : List ℕ} {L : Lists} (s : Sep ps L) where
       same-on (calm-run m r 10 v g (omega arith) (omega arith)) (calm-run (set m (r * 32 + 10) v) r 11 (a % 256) g (omega arith) (omega arith))
 
   -- who runs
-  pub calm-turn : (m : List ℕ) → (getD m 248 0 ≢ 0 → 1 ≤ count (getD m 248 0) ps) → Same ps L m (whoRuns m)
-  calm-turn m g = record {
-    at = λ c h.
-        turn-frame m c (record {
-          page = ours-low s h 248 (omega arith) (omega arith);
-          label = ours-low s h 249 (omega arith) (omega arith);
-          zero = λ i l. (let z = zero-low i l in ours-low s h (zeroPlace i) (omega arith) (omega arith));
-          kept = λ i l. kept c h i l (hit-or (getD m 248 0) 0);
-        });
+  pub ours-unmoved : {c : ℕ} → Ours ps L c → (r : ℕ) → (r ≢ 0 → 1 ≤ count r ps) → Unmoved r c
+  ours-unmoved {c} h r g = record {
+    page = ours-low s h 248 (omega arith) (omega arith);
+    label = ours-low s h 249 (omega arith) (omega arith);
+    zero = λ i l. (let z = zero-low i l in ours-low s h (zeroPlace i) (omega arith) (omega arith));
+    kept = λ i l. kept i l (hit-or r 0);
   }
     where
-      kept : (c : ℕ) → Ours ps L c → (i : ℕ) → i < 19 → (getD m 248 0 ≡ 0) ⊎ (getD m 248 0 ≢ 0) → c ≢ getD m 248 0 * 32 + (13 + i)
-      kept c h i l (inl e) = ours-low s h (getD m 248 0 * 32 + (13 + i)) (omega arith) (omega arith)
-      kept c h i l (inr d) = ours-proc s h (getD m 248 0) (13 + i) (g d) (omega arith) (omega arith) (omega arith) (omega arith)
+      kept : (i : ℕ) → i < 19 → (r ≡ 0) ⊎ (r ≢ 0) → c ≢ r * 32 + (13 + i)
+      kept i l (inl e) = ours-low s h (r * 32 + (13 + i)) (omega arith) (omega arith)
+      kept i l (inr d) = ours-proc s h r (13 + i) (g d) (omega arith) (omega arith) (omega arith) (omega arith)
+
+  pub calm-turn : (m : List ℕ) → (getD m 248 0 ≢ 0 → 1 ≤ count (getD m 248 0) ps) → Same ps L m (whoRuns m)
+  calm-turn m g = record { at = λ c h. turn-frame m c (ours-unmoved h (getD m 248 0) g) }
 
 -- ---- wait queues
 module _ {m : List ℕ} {ps : List ℕ} {L : Lists} {W : View} (s : Sep ps L) (x : Mem m ps L W) where

@@ -50,7 +50,7 @@ module _ {m : List ℕ} (w : WellFormed m) (d : getD m 248 0 ≢ 0) where
   r = getD m 248 0
 
   pub fails : (f : ℕ) → Calm (memoryOf (Model.fault m f))
-  fails f = calm-fault s m (runs-in b) f
+  fails f = calm-fault b d f
 
   pub fault-sent : (f : ℕ) → Sent m (memoryOf (Model.fault m f)) nothing
   fault-sent f = sent-same b (memoryOf (Model.fault m f)) (fails f)

@@ -63,7 +63,8 @@ kept-at (suc n) m p w z l u i h = go (hit-or i n) (kept-at n (set m (p * 32 + (1
     go : (i ≡ n) ⊎ (i ≢ n) → (i < n → getD (kept n (set m (p * 32 + (13 + n)) (getD w n 0)) p w) (p * 32 + (13 + i)) 0 ≡ getD w i 0)
         → getD (kept n (set m (p * 32 + (13 + n)) (getD w n 0)) p w) (p * 32 + (13 + i)) 0 ≡ getD w i 0
     go (inl e) ih =
-        rw e (kept-frame n (set m (p * 32 + (13 + n)) (getD w n 0)) p w (p * 32 + (13 + n)) (λ j k. omega arith) ∙ getD-set-same m (p * 32 + (13 + n)) (getD w n 0) 0 (omega arith))
+        rw e (kept-frame n (set m (p * 32 + (13 + n)) (getD w n 0)) p w (p * 32 + (13 + n)) (λ j k. omega arith)
+        ∙ getD-set-same m (p * 32 + (13 + n)) (getD w n 0) 0 (omega arith))
     go (inr e) ih = ih (omega arith)
 
 -- a list is f k, f (k + 1) and so on
