@@ -80,21 +80,21 @@ sems m L f pg g h s (own p i e) =
     let n = pg p i in
     rw (e, d, stock-else L (p * 32 + 3) (omega arith)) (g p i)
 
-abbrev pub Letter : ℕ → ℕ → Type 0
-Letter n w = ((1 ≤ n / 16) × (n / 16 ≤ 15)) × (((1 ≤ n % 16) × (n % 16 ≤ 7)) × (w ≢ 128 → w ≤ 29))
+abbrev pub MessageRule : ℕ → ℕ → Type 0
+MessageRule n w = ((1 ≤ n / 16) × (n / 16 ≤ 15)) × (((1 ≤ n % 16) × (n % 16 ≤ 7)) × (w ≢ 128 → w ≤ 29))
 
-letter : {n w : ℕ} → Letter n w → Message n w
-letter t = record { sender = t .0 .0; known = t .0 .1; flag = t .1 .0 .0; small = t .1 .0 .1; long = t .1 .1 }
+of-rule : {n w : ℕ} → MessageRule n w → Message n w
+of-rule t = record { sender = t .0 .0; known = t .0 .1; flag = t .1 .0 .0; small = t .1 .0 .1; long = t .1 .1 }
 
-pub letter-of : {n w : ℕ} → Message n w → Letter n w
-letter-of t = ((t .sender, t .known), ((t .flag, t .small), t .long))
+pub as-rule : {n w : ℕ} → Message n w → MessageRule n w
+as-rule t = ((t .sender, t .known), ((t .flag, t .small), t .long))
 
 mail : (m : List ℕ) (ps : List ℕ) (L : Lists) → means (Judge.messages bytes m ps L) → (p w : ℕ) → 1 ≤ count p ps → 5 ≤ w → w ≤ 6
-    → (q : ℕ) → 1 ≤ count q (L (p * 32 + w)) → Letter (getD m (q * 32 + 1) 0) (getD m (q * 32 + 2) 0)
+    → (q : ℕ) → 1 ≤ count q (L (p * 32 + w)) → MessageRule (getD m (q * 32 + 1) 0) (getD m (q * 32 + 2) 0)
 unfolding Judge.messages Judge.mail Judge.message Judge.sized
 mail m ps L t p w h i j q c = go (hit-or w 5)
   where
-    go : (w ≡ 5) ⊎ (w ≢ 5) → Letter (getD m (q * 32 + 1) 0) (getD m (q * 32 + 2) 0)
+    go : (w ≡ 5) ⊎ (w ≢ 5) → MessageRule (getD m (q * 32 + 1) 0) (getD m (q * 32 + 2) 0)
     go (inl e) = t p h .0 q (rw e at c)
     go (inr n) = let e : w ≡ 6 = omega arith in t p h .1 q (rw e at c)
 
@@ -144,7 +144,7 @@ judge-inv m size e =
           own = λ p h x i. let q = t .1 .1 .1 .1 .1 .0 p h x i in record { owner = q .0; flag = q .1 .0; none = q .1 .1 };
           sems = λ s h. sems m L (t .1 .1 .1 .1 .1 .1 .0 .0) (proc-page sp) (t .1 .1 .1 .1 .1 .1 .0 .1 .0) (t .1 .1 .1 .1 .1 .1 .0 .1 .1) s (seat-of ps s h);
           granted = record { bare = λ p h. t .1 .1 .1 .1 .1 .1 .1 .0 p h; known = λ k h d n. t .1 .1 .1 .1 .1 .1 .1 .1 .0 k h n };
-          mail = λ p w h i j q c. letter (mail m ps L (t .1 .1 .1 .1 .1 .1 .1 .1 .1 .0) p w h i j q c);
+          mail = λ p w h i j q c. of-rule (mail m ps L (t .1 .1 .1 .1 .1 .1 .1 .1 .1 .0) p w h i j q c);
           runs = record {
             idle = t .1 .1 .1 .1 .1 .1 .1 .1 .1 .1 .0 .0;
             listed = λ n. t .1 .1 .1 .1 .1 .1 .1 .1 .1 .1 .0 .1 .0 n .0;

@@ -18,7 +18,7 @@ use Rattle.laws.specs.Uses.{Among, Sep, proc-page, list-short}
 use Rattle.laws.specs.Places.{in-uses, in-queues, in-procs, in-free, in-asking, in-own, in-q, in-grant, int-queue, grant-of}
 use Rattle.laws.specs.Places.{q-free, wait-page, all-pages, own-once, asking-once}
 use Rattle.laws.specs.Inv.{View, view, bearers, stock, stock-page, stock-else, Facts, Mem, Base, Best, Inv}
-use Rattle.laws.specs.Accepted.{lists-walk, lists-some, letter-of, judge-inv}
+use Rattle.laws.specs.Accepted.{lists-walk, lists-some, as-rule, judge-inv}
 
 pub each-ext : (f g : ℕ → ℕ) (ps : List ℕ) → ((p : ℕ) → 1 ≤ count p ps → f p ≡ g p) → each-of f ps ≡ each-of g ps
 each-ext f g [] h = refl
@@ -187,8 +187,8 @@ module _ {m : List ℕ} {ps : List ℕ} {L : Lists} {W : View} (inv : Inv m ps L
                         (λ k h n. f .granted .known k h (omega arith) n),
                         (
                           (λ p h. (
-                            λ q j. letter-of (f .mail p 5 h (omega arith) (omega arith) q j),
-                            λ q j. letter-of (f .mail p 6 h (omega arith)
+                            λ q j. as-rule (f .mail p 5 h (omega arith) (omega arith) q j),
+                            λ q j. as-rule (f .mail p 6 h (omega arith)
                                 (omega arith) q j),
                           )),
                           (

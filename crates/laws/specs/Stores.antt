@@ -92,10 +92,10 @@ deaf-mid : (b : ℕ) → Mid b → Deaf b
 deaf-mid b i = record { line = λ c1 c2. omega arith; page = i .2 245 (omega arith) (omega arith); own = λ c1 c2. omega arith }
 
 -- b is no word k of a control page
-abbrev Off : ℕ → ℕ → Type 0
-Off b k = (p : ℕ) → Page p → p * 32 + k ≢ b
+abbrev NoWord : ℕ → ℕ → Type 0
+NoWord b k = (p : ℕ) → Page p → p * 32 + k ≢ b
 
-pub words-off : {m : List ℕ} (b v : ℕ) {ps : List ℕ} {n r l t : ℕ → ℕ} → Off b 1 → Off b 2 → Off b 7 → Off b 12 → Words m ps n r l t
+pub words-off : {m : List ℕ} (b v : ℕ) {ps : List ℕ} {n r l t : ℕ → ℕ} → NoWord b 1 → NoWord b 2 → NoWord b 7 → NoWord b 12 → Words m ps n r l t
     → Words (set m b v) ps n r l t
 words-off {m} b v {ps} {n} {r} {l} {t} n1 n2 n7 n12 f = record {
   note = λ p h z. other m b v (p * 32 + 1) (n1 p h) ∙ f .note p h z;
