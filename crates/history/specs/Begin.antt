@@ -15,7 +15,7 @@ use Rattle.model.specs.Turn as Turn
 use Rattle.model.specs.Fresh as Fresh
 use Rattle.model.specs.Fresh.{startable}
 use Rattle.model.specs.Answer.{memoryOf}
-use Rattle.model.specs.Bytes.{lists, started, fresh, processors, queue}
+use Rattle.model.specs.Bytes.{lists, started, fresh, processors}
 use Rattle.model.specs.Lists.{count}
 use Rattle.laws.specs.Count.{hit-other, hit-or}
 use Rattle.laws.specs.Inv.{view, Base}
@@ -35,8 +35,8 @@ record Empty (line divider : ℕ) (S : Store) : Type 0 where
   second : Queue.queue S (Fresh.started S (S .zeros) line divider) 7558 ≡ []
 
 at-trees : (line divider : ℕ) → Empty line divider trees
-unfolding trees tget tput tzero getT putT sizeT Queue.walk Address.zeroed Processor.setFlagsLr Processor.setRegistersOf Processor.handBack Turn.runs Fresh.cleared
-    Fresh.timed Fresh.firstProcessor Fresh.chained Fresh.freed Fresh.allBuiltIn Fresh.started
+unfolding trees tget tput tzero getT putT sizeT Queue.walk Address.zeroed Processor.setFlagsLr Processor.setRegistersOf Processor.handBack Turn.runs
+    Fresh.cleared Fresh.timed Fresh.firstProcessor Fresh.chained Fresh.freed Fresh.allBuiltIn Fresh.started
 at-trees line divider = record { procs = refl; first = refl; second = refl }
 
 computed : (line divider : ℕ) → Empty line divider bytes

@@ -1,39 +1,37 @@
 -- Which steps leave Q1 and Q2 of every processor alone: stores elsewhere, waking, waiting, taking a page, giving one back, who runs. Assumes nothing.
-use mathlib.Core.Path.{_≡_, refl, sym, ap, _∙_}
+use mathlib.Core.Path.{_≡_, refl, sym, ap}
 use mathlib.Core.Logic.{_≢_, _⊎_, inl, inr}
 use mathlib.Core.Bool.{Bool, true, false}
 use mathlib.Core.List.{List, [], _∷_, _++_}
-use Prim.Native.Nat.{ℕ, zero, suc, _+_, _-_, _*_, _/_, _%_, _≤_, _<_}
+use Prim.Native.Nat.{ℕ, _+_, _-_, _*_, _/_, _%_, _≤_, _<_}
 use native.Mathlib.Omega.{arith}
-use lib.ListN.{length, getD, set}
-use lib.Dec.{eqb, ltb}
-use borrow.Author.Tests.{ne-eqb, ltb-true, ltb-false}
+use lib.ListN.{getD, set}
+use lib.Dec.{ltb}
+use borrow.Author.Tests.{ltb-true, ltb-false}
 use Rattle.model.specs.Map.{zeroPlace}
 use Rattle.model.specs.Wait as Wait
 use Rattle.model.specs.Page as Page
 use Rattle.model.specs.Processor as Processor
-use Rattle.model.specs.Bytes.{join, leave, wake, putToWait, takeFree, freePage, grantPage, giveBack, whoRuns, setLr, advance, lr}
-use Rattle.model.specs.Lists.{count, Lists, some, uses, queues}
-use Rattle.laws.specs.Count.{hit-self, hit-other, hit-or, count-ne, count-append}
-use Rattle.laws.specs.Chain.{Page, Chain}
-use Rattle.laws.specs.Queues.{upd, upd-same, upd-other}
+use Rattle.model.specs.Bytes.{wake, putToWait, takeFree, giveBack, whoRuns, setLr}
+use Rattle.model.specs.Lists.{count, Lists, uses, queues}
+use Rattle.laws.specs.Count.{hit-or, count-ne}
+use Rattle.laws.specs.Chain.{Page}
 use Rattle.laws.specs.Heads.{Seat, seat-of, sum-two, one-le}
 use Rattle.laws.specs.Heads.Seat.{line, page, own}
-use Rattle.laws.specs.Uses.{Among, Head, Sep, proc-page}
-use Rattle.laws.specs.Places.{in-free, in-asking, in-q, q-free, q-once, free-once, grant-low, wait-page}
+use Rattle.laws.specs.Uses.{Head, Sep, proc-page}
+use Rattle.laws.specs.Places.{in-free, in-q, q-free, q-once, free-once, grant-low, wait-page}
 use Rattle.laws.specs.Inv.{View, Mem, Base}
 use Rattle.laws.specs.Frames.{other, Only}
-use Rattle.laws.specs.Frame.{turn-frame}
+use Rattle.laws.specs.Frame.{turn-frame, Unmoved}
 use Rattle.laws.specs.Stores.{sem-mem, state-mem, reason-mem}
-use Rattle.laws.specs.Cells.{chain0, join-frame, leave-frame, grant-mem}
-use Rattle.laws.specs.Changes.{hand-page, page-sem}
-use Rattle.laws.specs.Wake.{seat-head, not-procs}
-use Rattle.laws.specs.Waits.{waits-not}
-use Rattle.laws.specs.Hands.{in-hand, hand-new}
-use Rattle.laws.specs.Grants.{waiter-proc, sep-G}
+use Rattle.laws.specs.Cells.{join-frame, leave-frame}
+use Rattle.laws.specs.Changes.{page-sem}
+use Rattle.laws.specs.Wake.{seat-head, not-procs, wake-frame}
+use Rattle.laws.specs.Hands.{in-hand}
+use Rattle.laws.specs.Grants.{give-frame}
 use Rattle.laws.specs.Still.{Aside, aside-hand}
 use Rattle.laws.specs.Who.{zero-low}
-use Rattle.history.specs.Letter.{Mine, Ours, Same, Agree, same-then, same-on}
+use Rattle.history.specs.Letter.{Mine, Ours, Same, same-on}
 use Rattle.history.specs.Letter.Mine.{head, page}
 use Rattle.history.specs.Letter.Ours.{mail, first, next}
 
@@ -157,39 +155,30 @@ module _ {ps : List ℕ} {L : Lists} (s : Sep ps L) where
       same-on (calm-run m r 10 v g (omega arith) (omega arith)) (calm-run (set m (r * 32 + 10) v) r 11 (a % 256) g (omega arith) (omega arith))
 
   -- who runs
-  pub calm-turn : (m : List ℕ) → (getD m 248 0 ≢ 0 → 1 ≤ count (getD m 248 0) ps) → Same ps L m (whoRuns m)
-  calm-turn m g = record {
-    at = λ c h.
-        turn-frame m c (record {
-          page = ours-low s h 248 (omega arith) (omega arith);
-          label = ours-low s h 249 (omega arith) (omega arith);
-          zero = λ i l. (let z = zero-low i l in ours-low s h (zeroPlace i) (omega arith) (omega arith));
-          kept = λ i l. kept c h i l (hit-or (getD m 248 0) 0);
-        });
+  pub ours-unmoved : {c : ℕ} → Ours ps L c → (r : ℕ) → (r ≢ 0 → 1 ≤ count r ps) → Unmoved r c
+  ours-unmoved {c} h r g = record {
+    page = ours-low s h 248 (omega arith) (omega arith);
+    label = ours-low s h 249 (omega arith) (omega arith);
+    zero = λ i l. (let z = zero-low i l in ours-low s h (zeroPlace i) (omega arith) (omega arith));
+    kept = λ i l. kept i l (hit-or r 0);
   }
     where
-      kept : (c : ℕ) → Ours ps L c → (i : ℕ) → i < 19 → (getD m 248 0 ≡ 0) ⊎ (getD m 248 0 ≢ 0) → c ≢ getD m 248 0 * 32 + (13 + i)
-      kept c h i l (inl e) = ours-low s h (getD m 248 0 * 32 + (13 + i)) (omega arith) (omega arith)
-      kept c h i l (inr d) = ours-proc s h (getD m 248 0) (13 + i) (g d) (omega arith) (omega arith) (omega arith) (omega arith)
+      kept : (i : ℕ) → i < 19 → (r ≡ 0) ⊎ (r ≢ 0) → c ≢ r * 32 + (13 + i)
+      kept i l (inl e) = ours-low s h (r * 32 + (13 + i)) (omega arith) (omega arith)
+      kept i l (inr d) = ours-proc s h r (13 + i) (g d) (omega arith) (omega arith) (omega arith) (omega arith)
+
+  pub calm-turn : (m : List ℕ) → (getD m 248 0 ≢ 0 → 1 ≤ count (getD m 248 0) ps) → Same ps L m (whoRuns m)
+  calm-turn m g = record { at = λ c h. turn-frame m c (ours-unmoved h (getD m 248 0) g) }
 
 -- ---- wait queues
 module _ {m : List ℕ} {ps : List ℕ} {L : Lists} {W : View} (s : Sep ps L) (x : Mem m ps L W) where
   pub calm-wake : (a p : ℕ) (xs ys : List ℕ) → 1 ≤ count (a + 1) (queues ps) → 1 ≤ count p ps → L (a + 1) ≡ xs ++ p ∷ ys → Same ps L m (wake m a p)
-  unfolding Wait.wake Wait.unqueue
-  calm-wake a p xs ys h hp e =
-      let v = (getD m a 0 + 1) % 256 in
-      let m1 = set m a v in
-      let x1 = sem-mem s x a v h in
-      let m2 = leave m1 (a + 1) 0 p in
-      let t = getD m2 (p * 32 + 12) 0 / 128 * 128 + getD m2 (p * 32 + 12) 0 % 64 in
-      let m3 = set m2 (p * 32 + 12) t in
-      let c1 : Same ps L m m1 = calm-set m a v (λ c i. ours-seat s i a h .0) in
-      let c2 : Same ps L m1 m2 = record {
-        at = λ c i. leave-frame s x1 (a + 1) (seat-head s a h) (λ d. not-procs s a h (sym d)) p xs ys e c
-            (ours-seat s i a h .1) (λ z j. ours-wait s i a z h j);
-      } in
-      let c3 : Same ps L m2 m3 = calm-proc s m2 p 12 t hp (omega arith) (omega arith) (omega arith) (omega arith) in
-      same-on (same-on (same-on c1 c2) c3) (calm-proc s m3 p 2 0 hp (omega arith) (omega arith) (omega arith) (omega arith))
+  calm-wake a p xs ys h hp e = record {
+    at = λ c i.
+        wake-frame s x a p xs ys h e c (ours-seat s i a h .0) (ours-seat s i a h .1) (λ z j. ours-wait s i a z h j)
+        (ours-proc s i p 2 hp (omega arith) (omega arith) (omega arith) (omega arith))
+        (ours-proc s i p 12 hp (omega arith) (omega arith) (omega arith) (omega arith));
+  }
 
   pub calm-wait : (a p w : ℕ) → 1 ≤ count (a + 1) (queues ps) → 1 ≤ count p ps → ((c : ℕ) → Head ps c → c ≢ 247 → count p (L c) ≡ 0)
       → Same ps L m (putToWait m a p w)
@@ -230,43 +219,18 @@ module _ {m : List ℕ} {ps : List ℕ} {L : Lists} {W : View} (s : Sep ps L) (x
       })
 
 -- ---- a page given back
-module _ {m : List ℕ} {ps : List ℕ} {L : Lists} {W : View} {hs : List ℕ} {g q : ℕ} (b : Base m ps L W (q ∷ hs) g) where
-  sb : Sep ps L
-  sb = b .facts .sep
-
-  o : Aside ps L q
-  o = aside-hand b q (in-hand b)
-
-  calm-free : Same ps L m (freePage m q)
-  unfolding Page.freePage
-  calm-free =
-      let v = (getD m 245 0 + 1) % 256 in
-      let m1 = set m 245 v in
-      let x1 = sem-mem sb (b .mem) 245 v (page-sem ps) in
-      let c1 : Same ps L m m1 = calm-low sb m 245 v (omega arith) (omega arith) in
-      same-on c1 (record {
-        at = λ c i.
-            join-frame sb x1 244 (in-free ps, grant-low 244 (omega arith)) (omega arith) q (hand-page b q (in-hand b)) (hand-new b) c
-            (ours-low sb i 244 (omega arith) (omega arith))
-            (λ z j. ours-free sb i z j) (ours-hand sb i q 0 o (omega arith));
-      })
-
-  calm-grant : (p : ℕ) (ws : List ℕ) → L 246 ≡ p ∷ ws → Same ps L m (grantPage m p q)
-  unfolding Page.grantPage
-  calm-grant p ws e =
-      let n = W .label p % 16 in
-      let hp = waiter-proc b p ws e in
-      let pg = proc-page sb p hp in
-      let x1 = grant-mem n q (omega arith) sb (b .mem) in
-      let e2 = upd-other L (320 + n) 246 (some q) (omega arith) ∙ e in
-      let ag : Agree ps L (upd L (320 + n) (some q)) = λ p2 w h u v. (let t = proc-page sb p2 h in upd-other L (320 + n) (p2 * 32 + w) (some q) (omega arith)) in
-      rw (b .mem .reads .words .label p pg)
-      (same-then ag (calm-low sb m (320 + n) q (omega arith) (omega arith)) (calm-wake (sep-G b p ws e) x1 245 p [] ws (page-sem ps) hp e2))
-
-  pub calm-give : Same ps L m (giveBack m q)
-  unfolding Page.giveBack
-  calm-give = go (L 246) refl (chain0 sb (b .mem) 246 (in-asking ps, grant-low 246 (omega arith)) (omega arith))
-    where
-      go : (xs : List ℕ) → L 246 ≡ xs → Chain m 0 246 (L 246) → Same ps L m (giveBack m q)
-      go [] e c = let z : getD m 246 0 ≡ 0 = rw e at c in rw z calm-free
-      go (p ∷ ws) e c = let t = rw e at c in rw (t .0, ne-eqb p 0 (omega arith)) (calm-grant p ws e)
+pub calm-give : {m : List ℕ} {ps : List ℕ} {L : Lists} {W : View} {hs : List ℕ} {g q : ℕ} → Base m ps L W (q ∷ hs) g → Same ps L m (giveBack m q)
+calm-give {q = q} b = let s = b .facts .sep in record {
+  at = λ c i. give-frame b c (record {
+    low = λ a u v. ours-low s i a (omega arith) (omega arith);
+    grant = λ k u. ours-low s i (320 + k) (omega arith) (omega arith);
+    hand = ours-hand s i q 0 (aside-hand b q (in-hand b)) (omega arith);
+    free = λ z j. ours-free s i z j;
+    waiter = λ p j.
+        let hp = wait-page s 246 p (omega arith) j in (
+          ours-proc s i p 0 hp (omega arith) (omega arith) (omega arith) (omega arith),
+          ours-proc s i p 2 hp (omega arith) (omega arith) (omega arith) (omega arith),
+          ours-proc s i p 12 hp (omega arith) (omega arith) (omega arith) (omega arith),
+        );
+  });
+}

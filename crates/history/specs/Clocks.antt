@@ -1,47 +1,26 @@
 -- Interrupts leave Q1 and Q2 of every processor alone: each waiter front to back, the clock chain, then who runs. Assumes nothing.
-use mathlib.Core.Path.{_≡_, refl, sym, ap, _∙_}
-use mathlib.Core.Logic.{_≢_, _⊎_, inl, inr}
-use mathlib.Core.Bool.{Bool, true, false, cond}
+use mathlib.Core.Path.{_≡_, refl, sym, _∙_}
 use mathlib.Core.List.{List, [], _∷_, _++_}
-use Prim.Native.Nat.{ℕ, zero, suc, _+_, _-_, _*_, _/_, _%_, _≤_, _<_}
+use Prim.Native.Nat.{ℕ, zero, suc, _+_, _-_, _*_, _%_, _≤_}
 use native.Mathlib.Omega.{arith}
 use lib.ListN.{length, getD, set}
-use lib.Dec.{eqb, ltb, leb}
-use borrow.Author.Tests.{eqb-false, ltb-true, ltb-false, leb-false}
-use Rattle.model.specs.declared.Registers.{Registers}
-use Rattle.model.specs.Map.{threeFlags}
-use Rattle.model.specs.Address as Address
-use Rattle.model.specs.Address.{guarded, clear}
+use lib.Dec.{eqb, ltb}
 use Rattle.model.specs.Interrupt as Interrupt
-use Rattle.model.specs.Instruction as Instruction
-use Rattle.model.specs.Processor as Processor
-use Rattle.model.specs.Operate as Operate
-use Rattle.model.specs.Answer.{memoryOf}
 use Rattle.model.specs.Bytes as Model
-use Rattle.model.specs.Bytes.{lists, struck, classed, servedFrom, serve, counts, turns, ends, delivered, whoRuns, setCode, pageOf, start, stop, setLr}
-use Rattle.model.specs.Bytes.{setRegistersOf}
-use Rattle.model.specs.Lists.{count, Lists, queues}
-use Rattle.laws.specs.Count.{hit-self, hit-or, count-append}
-use Rattle.laws.specs.Uses.{Sep, proc-page, list-short}
+use Rattle.model.specs.Bytes.{struck, servedFrom, serve, delivered, whoRuns}
+use Rattle.model.specs.Lists.{Lists}
+use Rattle.laws.specs.Count.{count-mid}
+use Rattle.laws.specs.Uses.{list-short}
 use Rattle.laws.specs.Places.{in-queues, wait-page}
-use Rattle.laws.specs.Inv.{View, view, Clock, Base, Inv}
-use Rattle.laws.specs.Judged.{WellFormed, invariant}
-use Rattle.laws.specs.Frames.{other}
-use Rattle.laws.specs.Views.{put1, withLow}
+use Rattle.laws.specs.Inv.{View, Clock, Base}
+use Rattle.laws.specs.Views.{put1}
 use Rattle.laws.specs.Cells.{chain0}
-use Rattle.laws.specs.Changes.{int-sem}
 use Rattle.laws.specs.Wake.{seat-head, not-procs}
-use Rattle.laws.specs.Grants.{Gave}
-use Rattle.laws.specs.Who.{running-at, running-in}
-use Rattle.laws.specs.Ends.{advance-base}
 use Rattle.laws.specs.Words.{either}
-use Rattle.laws.specs.Simple.{pick, named-in}
-use Rattle.laws.specs.Interrupts.{head, chain-head, Struck, struck-base, from-end, next, seat, clock0, clock1, clock2, clock3, counter-base}
-use Rattle.laws.specs.Interrupts.{counter-at}
-use Rattle.laws.specs.Interrupts.{serve-base}
-use Rattle.history.specs.Letter.{Same, same-then, same-on, posts, agrees}
-use Rattle.history.specs.Calm.{calm-refl, calm-set, calm-low, calm-proc, calm-run, calm-lr, calm-turn, calm-wake, ours-fits, ours-low}
-use Rattle.history.specs.Told.{calm-done, calm-jumps, calm-fault, calm-waits, runs-in}
+use Rattle.laws.specs.Interrupts.{head, chain-head, struck-base, from-end, next, seat, counter-base, serve-base, Some, some-of, delivered-kept}
+use Rattle.history.specs.Letter.{Agree, Same, same-then, same-on, posts, agrees}
+use Rattle.history.specs.Calm.{calm-refl, calm-low, calm-proc, calm-turn, calm-wake}
+use Rattle.history.specs.Told.{runs-in}
 
 module _ (k c : ℕ) (k1 : 1 ≤ k) (k2 : k ≤ 54) where
   abbrev a : ℕ
@@ -52,7 +31,7 @@ module _ (k c : ℕ) (k1 : 1 ≤ k) (k2 : k ≤ 54) where
   unfolding Interrupt.struck Interrupt.classed
   calm-struck {m} {ps} {L} p xs ys b e =
       let s = b .facts .sep in
-      let hp = wait-page s (a + 1) p (seat k c k1 k2 ps) (rw e (omega (arith, count-append p xs (p ∷ ys), hit-self p))) in
+      let hp = wait-page s (a + 1) p (seat k c k1 k2 ps) (rw e (count-mid p xs ys)) in
       let w : Same ps L m (Model.wake m a p) = calm-wake s (b .mem) a p xs ys (seat k c k1 k2 ps) hp e in
       let A = Model.wake m a p in
       either (Same ps L m) (eqb (getD m (p * 32 + 2) 0) 1)
@@ -85,98 +64,35 @@ module _ (k c : ℕ) (k1 : 1 ≤ k) (k2 : k ≤ 54) where
 
 -- from m on, Q1 and Q2 are as they were
 record Flows (m : List ℕ) (ps : List ℕ) (L : Lists) (m1 : List ℕ) (hs : List ℕ) (g : ℕ) : Type 0 where
-  lists : Lists
-  view : View
-  base : Base m1 ps lists view hs g
+  now : Some m1 ps hs g
   same : Same ps L m m1
-  agree : (p w : ℕ) → 1 ≤ count p ps → 5 ≤ w → w ≤ 6 → lists (p * 32 + w) ≡ L (p * 32 + w)
+  agree : Agree ps L (now .lists)
 
 flows-on : {m m1 m2 : List ℕ} {ps : List ℕ} {L : Lists} {hs : List ℕ} {g : ℕ} (t : Flows m ps L m1 hs g) {K : Lists} {X : View} → Base m2 ps K X hs g
-    → Same ps (t .lists) m1 m2 → Flows m ps L m2 hs g
+    → Same ps (t .now .lists) m1 m2 → Flows m ps L m2 hs g
 flows-on t {K} {X} b2 f = record {
-  lists = K;
-  view = X;
-  base = b2;
+  now = record { lists = K; view = X; base = b2 };
   same = same-then (t .agree) (t .same) f;
-  agree = λ p w h u v. agrees (t .base) (posts f) b2 p w h u v ∙ t .agree p w h u v;
+  agree = λ p w h u v. agrees (t .now .base) (posts f) b2 p w h u v ∙ t .agree p w h u v;
 }
 
--- a counter c with end e: at its end interrupt k is served and what is behind it goes on, else it counts
-turned : {m0 m : List ℕ} {ps : List ℕ} {L : Lists} {hs : List ℕ} {g : ℕ} (t : Flows m0 ps L m hs g) (c k e : ℕ) (m2 : List ℕ) → 240 ≤ c → c ≤ 243 → 1 ≤ k
-    → k ≤ 54
-    → Clock (put1 (t .view .low) c 0) → ((t .view .low c + 1) % 256 ≢ e → Clock (put1 (t .view .low) c ((t .view .low c + 1) % 256)))
-    → (Flows m0 ps L (turns m c k) hs g → Flows m0 ps L m2 hs g) → Flows m0 ps L (cond (ends m c e) m2 (counts m c)) hs g
-unfolding Interrupt.ends Interrupt.counts Interrupt.turns
-turned {m0} {m} {ps} {L} {hs} {g} t c k e m2 l u i j z0 more onward = go (eqb ((t .view .low c + 1) % 256) e) refl
-  where
-    at : getD m c 0 ≡ t .view .low c
-    at = counter-at (t .base) c (omega arith) u
-
-    s : Sep ps (t .lists)
-    s = t .base .facts .sep
-
-    zero-base : Base (set m c 0) ps (t .lists) (withLow (t .view) (put1 (t .view .low) c 0)) hs g
-    zero-base = counter-base (t .base) c 0 l u z0
-
-    go : (x : Bool) → eqb ((t .view .low c + 1) % 256) e ≡ x → Flows m0 ps L (cond (ends m c e) m2 (counts m c)) hs g
-    go true f =
-        rw (at, f) (onward (flows-on t (serve-base k 0 i j zero-base .base) (same-on (calm-low s m c 0 (omega arith) (omega arith)) (calm-serve k 0 i j zero-base))))
-    go false f =
-        let v = (t .view .low c + 1) % 256 in
-        rw (at, f) (flows-on t (counter-base (t .base) c v l u (more (eqb-false ((t .view .low c + 1) % 256) e f)))
-        (calm-low s m c v (omega arith) (omega arith)))
-
-c3-flows : {m0 m : List ℕ} {ps : List ℕ} {L : Lists} {hs : List ℕ} {g : ℕ} → Flows m0 ps L m hs g → Flows m0 ps L (Model.c3Counts m) hs g
-unfolding Interrupt.c3Counts
-c3-flows {m = m} t =
-    let l = t .view .low in
-    let k = t .base .facts .clock in
-    turned t 243 54 60 (turns m 243 54) (omega arith) (omega arith) (omega arith) (omega arith) (clock3 l 0 (omega arith) k)
-    (λ n. clock3 (t .view .low) ((t .view .low 243 + 1) % 256) (omega (arith, k .c3)) k) (λ x. x)
-
-c2-flows : {m0 m : List ℕ} {ps : List ℕ} {L : Lists} {hs : List ℕ} {g : ℕ} → Flows m0 ps L m hs g → Flows m0 ps L (Model.c2Counts m) hs g
-unfolding Interrupt.c2Counts
-c2-flows {m = m} t =
-    let l = t .view .low in
-    let k = t .base .facts .clock in
-    turned t 242 53 60 (Model.c3Counts (turns m 242 53)) (omega arith) (omega arith) (omega arith) (omega arith) (clock2 l 0 (omega arith) k)
-    (λ n. clock2 (t .view .low) ((t .view .low 242 + 1) % 256) (omega (arith, k .c2)) k) c3-flows
-
-c1-flows : {m0 m : List ℕ} {ps : List ℕ} {L : Lists} {hs : List ℕ} {g : ℕ} → Flows m0 ps L m hs g → Flows m0 ps L (Model.c1Counts m) hs g
-unfolding Interrupt.c1Counts
-c1-flows {m = m} t =
-    let l = t .view .low in
-    let k = t .base .facts .clock in
-    turned t 241 52 10 (Model.c2Counts (turns m 241 52)) (omega arith) (omega arith) (omega arith) (omega arith) (clock1 l 0 (omega arith) k)
-    (λ n. clock1 (t .view .low) ((t .view .low 241 + 1) % 256) (omega (arith, k .c1)) k) c2-flows
-
-c0-flows : {m0 m : List ℕ} {ps : List ℕ} {L : Lists} {hs : List ℕ} {g : ℕ} → Flows m0 ps L m hs g → Flows m0 ps L (Model.c0Counts m) hs g
-unfolding Interrupt.c0Counts
-c0-flows {m = m} t =
-    let l = t .view .low in
-    let k = t .base .facts .clock in
-    let end : getD m 251 0 ≡ t .view .low 251 = t .base .mem .reads .fixed .turn 251 (omega arith) (omega arith) in
-    turned t 240 51 (getD m 251 0) (Model.c1Counts (turns m 240 51)) (omega arith) (omega arith) (omega arith) (omega arith)
-    (clock0 l 0 (omega (arith, k .divider)) k) (λ n. clock0 (t .view .low) ((t .view .low 240 + 1) % 256) (omega (arith, k .c0, k .divider, end)) k) c1-flows
-
--- "An interrupt on the clock line is served, then C0 counts"; then who runs
+-- an interrupt, then who runs
 pub calm-interrupt : {m : List ℕ} {ps : List ℕ} {L : Lists} {W : View} {hs : List ℕ} {g : ℕ} (k c : ℕ) → 1 ≤ k → k ≤ 54 → Base m ps L W hs g
     → Same ps L m (whoRuns (delivered m k c))
-unfolding Interrupt.delivered
-calm-interrupt {m} {ps} {L} {W} {hs} {g} k c i j b = go (eqb k (getD m 239 0)) refl
+calm-interrupt {m} {ps} {L} {W} {hs} {g} k c i j b =
+    let t = delivered-kept (λ x. Flows m ps L x hs g) (λ x t. t .now) sets serves m k c served in
+    same-then (t .agree) (t .same) (calm-turn (t .now .base .facts .sep) (delivered m k c) (runs-in (t .now .base)))
   where
+    sets : (x : List ℕ) (t : Flows m ps L x hs g) (c v : ℕ) → 240 ≤ c → c ≤ 243 → Clock (put1 (t .now .view .low) c v) → Flows m ps L (set x c v) hs g
+    sets x t c v l u h =
+        flows-on t (counter-base (t .now .base) c v l u h) (calm-low (t .now .base .facts .sep) x c v (omega arith) (omega arith))
+
+    serves : (x : List ℕ) → Flows m ps L x hs g → (k : ℕ) → 1 ≤ k → k ≤ 54 → Flows m ps L (serve x k 0) hs g
+    serves x t k i j = flows-on t (serve-base k 0 i j (t .now .base) .base) (calm-serve k 0 i j (t .now .base))
+
     served : Flows m ps L (serve m k c) hs g
     served = record {
-      lists = serve-base k c i j b .lists;
-      view = serve-base k c i j b .view;
-      base = serve-base k c i j b .base;
+      now = some-of (serve-base k c i j b);
       same = calm-serve k c i j b;
       agree = agrees b (posts (calm-serve k c i j b)) (serve-base k c i j b .base);
     }
-
-    turn : {x : List ℕ} → Flows m ps L x hs g → Same ps L m (whoRuns x)
-    turn {x} t = same-then (t .agree) (t .same) (calm-turn (t .base .facts .sep) x (runs-in (t .base)))
-
-    go : (x : Bool) → eqb k (getD m 239 0) ≡ x → Same ps L m (whoRuns (delivered m k c))
-    go true e = rw e (turn (c0-flows served))
-    go false e = rw e (turn served)

@@ -1,5 +1,5 @@
--- Words copied: each word of the target holds what its word of the source held, where source and target do not overlap; so texts are equal. Assumes nothing.
-use mathlib.Core.Path.{_≡_, refl, _∙_}
+-- Words copied: each word of the target holds what its word of the source held, where source and target do not overlap. Assumes nothing.
+use mathlib.Core.Path.{_≡_, _∙_}
 use mathlib.Core.Logic.{_≢_}
 use mathlib.Core.List.{List}
 use Prim.Native.Nat.{ℕ, zero, suc, _+_, _-_, _%_, _≤_, _<_}
@@ -8,22 +8,12 @@ use lib.ListN.{length, getD, set, length-set}
 use lib.Seq.{getD-set-same}
 use Rattle.model.specs.Address as Address
 use Rattle.model.specs.Bytes.{copy}
-use Rattle.laws.specs.Frames.{other}
-use Rattle.history.specs.Letter.{words}
-use Rattle.history.specs.Reading.{copy-far}
+use Rattle.laws.specs.Frames.{other, copy-far}
+use Rattle.history.specs.Letter.{words, next-sum, first-sum, sum-below}
 
 -- n words from a on and n words from b on have none in common
 abbrev pub Apart : ℕ → ℕ → ℕ → Type 0
 Apart n a b = (i j : ℕ) → i < n → j < n → (a + i) % 8192 ≢ (b + j) % 8192
-
-next-sum : (a i : ℕ) → ((a + 1) % 8192 + i) % 8192 ≡ (a + suc i) % 8192
-next-sum a i = omega arith
-
-first-sum : (a : ℕ) → a < 8192 → (a + 0) % 8192 ≡ a
-first-sum a l = omega arith
-
-sum-below : (a : ℕ) → (a + 1) % 8192 < 8192
-sum-below a = omega arith
 
 not-back : (n b j : ℕ) → b < 8192 → suc n ≤ 8192 → j < n → b ≢ ((b + 1) % 8192 + j) % 8192
 not-back n b j l u h = rw (next-sum b j) (omega arith)
@@ -48,23 +38,6 @@ copy-at (suc n) m a b z l la lb f (suc i) h =
     let ey : ((b + 1) % 8192 + y) % 8192 ≡ (b + suc y) % 8192 = next-sum b y in
     rw (ex, ey) (f (suc x) (suc y) (omega arith) (omega arith))) i (omega arith) in
     rw (ea, eb) at ih ∙ other m b (getD m a 0) ((a + suc i) % 8192) d
-
--- texts that are equal word for word
-pub words-moved : (m m′ : List ℕ) (a b n : ℕ) → a < 8192 → b < 8192 → ((i : ℕ) → i < n → getD m′ ((b + i) % 8192) 0 ≡ getD m ((a + i) % 8192) 0)
-    → words m′ b n ≡ words m a n
-unfolding words
-words-moved m m′ a b zero la lb h = refl
-words-moved m m′ a b (suc n) la lb h =
-    let ea : (a + 0) % 8192 ≡ a = first-sum a la in
-    let eb : (b + 0) % 8192 ≡ b = first-sum b lb in
-    let h0 = rw (ea, eb) at (h 0 (omega arith)) in
-    rw (
-      h0,
-      words-moved m m′ ((a + 1) % 8192) ((b + 1) % 8192) n (sum-below a) (sum-below b) (λ i q.
-          let da : ((a + 1) % 8192 + i) % 8192 ≡ (a + suc i) % 8192 = next-sum a i in
-          let db : ((b + 1) % 8192 + i) % 8192 ≡ (b + suc i) % 8192 = next-sum b i in
-          rw (da, db) (h (suc i) (omega arith))),
-    )
 
 -- the i-th word of a text
 pub words-at : (m : List ℕ) (a n i : ℕ) → a < 8192 → i < n → getD (words m a n) i 0 ≡ getD m ((a + i) % 8192) 0

@@ -15,27 +15,26 @@ use Rattle.model.specs.Answer.{memoryOf}
 use Rattle.model.specs.Bytes as Model
 use Rattle.model.specs.Bytes.{lists, processors, queue, pageOf, giveBack, unlisted, emptied, mailReturned, grantReturned, delete}
 use Rattle.model.specs.Lists.{count, Lists, some}
-use Rattle.laws.specs.Count.{hit-self, count-append}
+use Rattle.laws.specs.Count.{hit-self, count-append, count-mid}
 use Rattle.laws.specs.Chain.{chain-move, split-at-page}
 use Rattle.laws.specs.Queues.{upd, upd-same}
 use Rattle.laws.specs.Uses.{proc-page}
-use Rattle.laws.specs.Inv.{View, view, Base, Inv}
-use Rattle.laws.specs.Judged.{WellFormed, invariant}
+use Rattle.laws.specs.Inv.{View, view, Base}
+use Rattle.laws.specs.Judged.{WellFormed}
 use Rattle.laws.specs.Frames.{other}
 use Rattle.laws.specs.Hands.{take-grant}
 use Rattle.laws.specs.Grants.{give-back, some-is}
 use Rattle.laws.specs.Mails.{mail-queue}
 use Rattle.laws.specs.Leave.{Bag}
 use Rattle.laws.specs.Simple.{named-in}
-use Rattle.laws.specs.Who.{label-at, listed}
+use Rattle.laws.specs.Who.{label-at, listed, Busy, busy}
 use Rattle.laws.specs.Delete.{Queue, Drained, drain, tot-short, facts-whole}
-use Rattle.history.specs.Letter.{waitingFor, Same, posts, waits-same, procs-same}
+use Rattle.history.specs.Letter.{waitingFor, Same, posts, waits-same, procs-same, held, held-same}
 use Rattle.history.specs.Put.{Log, of, putting, notices, depMail}
 use Rattle.history.specs.Calm.{calm-low}
-use Rattle.history.specs.Told.{Told, Stands, stands-none, of-none, told-same, calm-done, runs-in}
-use Rattle.history.specs.Quiet.{fails}
-use Rattle.history.specs.Delivering.{held}
-use Rattle.history.specs.Returning.{notices-append, Grown, grown-then, grown-same, last-same, give-grows}
+use Rattle.history.specs.Told.{of-none, calm-done, runs-in, Sent}
+use Rattle.history.specs.Quiet.{fault-sent}
+use Rattle.history.specs.Returning.{notices-append, Grown, grown-then, grown-same, give-grows}
 use Rattle.history.specs.Emptying.{Aims, aims-on, emptied-grows}
 use Rattle.history.specs.Leaving.{stayed, left-grown, left-aims, bag, bag-procs, bag-q1, bag-q2}
 
@@ -53,7 +52,7 @@ module _ (m0 : List ℕ) {m : List ℕ} (p n g : ℕ) (n1 : 1 ≤ n) (n2 : n ≤
   rest = t .q1 ++ p ∷ []
 
   in-rest : 1 ≤ count p rest
-  in-rest = omega (arith, count-append p (t .q1) (p ∷ []), hit-self p)
+  in-rest = count-mid p (t .q1) []
 
   abbrev m1 : List ℕ
   m1 = emptied 20 m n (p * 32 + 6)
@@ -167,11 +166,7 @@ delete-after xs p ys {m} {L} {W} b hp d =
 
 -- ---- the instruction
 module _ {m : List ℕ} (w : WellFormed m) (d : getD m 248 0 ≢ 0) where
-  iv : Inv m (lists m 247) (lists m) (view m)
-  iv = invariant w
-
-  b : Base m (lists m 247) (lists m) (view m) [] 32
-  b = iv .base
+  open Busy (busy w d) using (base as b, ready)
 
   module _ (p : ℕ) (h : 1 ≤ count p (lists m 247)) (n : getD m 248 0 ≢ p) where
     abbrev letters : Log
@@ -215,44 +210,32 @@ module _ {m : List ℕ} (w : WellFormed m) (d : getD m 248 0 ≢ 0) where
       waits-are y i = let j = rw procs-are at i in waits-same (t .base) (posts ended) y j ∙ t .grown .waits y j
 
       last-is : (y : ℕ) → 1 ≤ count y (processors m3) → held m3 y 5 ≡ held m y 5 ++ of y letters
-      last-is y i = let j = rw procs-are at i in last-same (t .base) (posts ended) y j ∙ t .grown .last y j
+      last-is y i = let j = rw procs-are at i in held-same (t .base) (posts ended) y 5 j (omega arith) (omega arith) ∙ t .grown .last y j
 
-      deleted-told : Told m m3 (putting letters)
-      deleted-told = record {
-        at = λ y h i k f. rw (of-none y, waits-are y i);
-        born = λ y h i. absurd (omega (arith, left .were y (rw procs-are at i)));
+      deleted-sent : Sent m m3 (putting letters)
+      deleted-sent = record {
+        told = record {
+          at = λ y h i k f. rw (of-none y, waits-are y i);
+          born = λ y h i. absurd (omega (arith, left .were y (rw procs-are at i)));
+        };
+        stands = record { at = λ y i. (held m y 5, last-is y i) };
       }
-
-      deleted-stands : Stands m3 (putting letters)
-      deleted-stands = record { at = λ y i. (held m y 5, last-is y i) }
 
   -- "10 NI isn't stopped": the one that runs is not
   others : (p : ℕ) → leb 128 (getD m (p * 32 + 12) 0) ≡ true → getD m 248 0 ≢ p
   others p e q =
       let l = leb-true 128 (getD m (p * 32 + 12) 0) e in
       let c = ap (λ (y : ℕ). getD m (y * 32 + 12) 0) q in
-      omega (arith, iv .best .ready d)
+      omega (arith, ready)
 
-  pub dep-told : (n len : ℕ) → n < 16 → Told m (memoryOf (Model.named m 12 n len)) (depMail m n)
+  pub dep-sent : (n len : ℕ) → Sent m (memoryOf (Model.named m 12 n len)) (depMail m n)
   unfolding Operate.named Operate.onPage Operate.dep depMail
-  dep-told n len l = go (eqb n 0) (eqb (pageOf m n) 0) (leb 128 (getD m (pageOf m n * 32 + 12) 0)) refl refl refl
+  dep-sent n len = go (eqb n 0) (eqb (pageOf m n) 0) (leb 128 (getD m (pageOf m n * 32 + 12) 0)) refl refl refl
     where
       go : (x y z : Bool) → eqb n 0 ≡ x → eqb (pageOf m n) 0 ≡ y → leb 128 (getD m (pageOf m n * 32 + 12) 0) ≡ z
-          → Told m (memoryOf (Model.named m 12 n len)) (depMail m n)
-      go true y z e f i = rw e (told-same b (memoryOf (Model.fault m 12)) (fails w d 12))
-      go false true z e f i = rw (e, f) (told-same b (memoryOf (Model.fault m 7)) (fails w d 7))
-      go false false false e f i = rw (e, f, i) (told-same b (memoryOf (Model.fault m 10)) (fails w d 10))
+          → Sent m (memoryOf (Model.named m 12 n len)) (depMail m n)
+      go true y z e f i = rw e (fault-sent w d 12)
+      go false true z e f i = rw (e, f) (fault-sent w d 7)
+      go false false false e f i = rw (e, f, i) (fault-sent w d 10)
       go false false true e f i =
-          rw (e, f, i) (deleted-told (pageOf m n) (named-in b n (eqb-false (pageOf m n) 0 f)) (others (pageOf m n) i) len)
-
-  pub dep-stands : (n len : ℕ) → n < 16 → Stands (memoryOf (Model.named m 12 n len)) (depMail m n)
-  unfolding Operate.named Operate.onPage Operate.dep depMail
-  dep-stands n len l = go (eqb n 0) (eqb (pageOf m n) 0) (leb 128 (getD m (pageOf m n * 32 + 12) 0)) refl refl refl
-    where
-      go : (x y z : Bool) → eqb n 0 ≡ x → eqb (pageOf m n) 0 ≡ y → leb 128 (getD m (pageOf m n * 32 + 12) 0) ≡ z
-          → Stands (memoryOf (Model.named m 12 n len)) (depMail m n)
-      go true y z e f i = rw e (stands-none (memoryOf (Model.fault m 12)))
-      go false true z e f i = rw (e, f) (stands-none (memoryOf (Model.fault m 7)))
-      go false false false e f i = rw (e, f, i) (stands-none (memoryOf (Model.fault m 10)))
-      go false false true e f i =
-          rw (e, f, i) (deleted-stands (pageOf m n) (named-in b n (eqb-false (pageOf m n) 0 f)) (others (pageOf m n) i) len)
+          rw (e, f, i) (deleted-sent (pageOf m n) (named-in b n (eqb-false (pageOf m n) 0 f)) (others (pageOf m n) i) len)

@@ -1,6 +1,6 @@
 -- A queue of the deleted one is emptied from the front: each message becomes the notice that the memory before says, or is given back, and what waits for each
 -- processor grows by those notices in that order. Assumes nothing.
-use mathlib.Core.Path.{_≡_, refl, sym, ap, _∙_}
+use mathlib.Core.Path.{_≡_, refl, ap, _∙_}
 use mathlib.Core.Logic.{_≢_}
 use mathlib.Core.Bool.{Bool, true, false, cond}
 use mathlib.Core.List.{List, [], _∷_, _++_}
@@ -9,11 +9,8 @@ use native.Mathlib.Omega.{arith}
 use lib.ListN.{length, getD, set}
 use lib.Dec.{eqb}
 use borrow.Author.Tests.{eqb-false}
-use Rattle.model.specs.Queue as Queue
-use Rattle.model.specs.Queue.{first}
-use Rattle.model.specs.Processor as Processor
 use Rattle.model.specs.Delete as Delete
-use Rattle.model.specs.Bytes.{pageOf, isNamed, returned, emptied}
+use Rattle.model.specs.Bytes.{pageOf, returned, emptied}
 use Rattle.model.specs.Lists.{count, Lists}
 use Rattle.laws.specs.Count.{hit-self, count-append}
 use Rattle.laws.specs.Uses.{Sep}
@@ -21,7 +18,7 @@ use Rattle.laws.specs.Inv.{View, Message, Base}
 use Rattle.laws.specs.Frames.{other}
 use Rattle.laws.specs.Changes.{hand-out}
 use Rattle.laws.specs.Still.{aside-hand}
-use Rattle.laws.specs.Simple.{named-in}
+use Rattle.laws.specs.Simple.{named-in, named-same}
 use Rattle.laws.specs.Who.{listed}
 use Rattle.laws.specs.Delete.{Queue, emptied-end, emptied-next, base1, letter1, back, next, left, nonzero}
 use Rattle.laws.specs.Delete as Deleted
@@ -29,32 +26,6 @@ use Rattle.history.specs.Letter.{Same, posts, same-on}
 use Rattle.history.specs.Put.{returnsTo, notices}
 use Rattle.history.specs.Calm.{calm-set, ours-hand}
 use Rattle.history.specs.Returning.{sentBack, notices-next, notices-none, Grown, grown-refl, grown-then, grown-same, give-grows, notice-grows}
-
--- ---- the first that a test picks
-pub first-yes : (f : ℕ → Bool) (z : ℕ) (zs : List ℕ) → f z ≡ true → first f (z ∷ zs) ≡ z
-unfolding Queue.first
-first-yes f z zs e = rw (e, Queue.first)
-
-pub first-no : (f : ℕ → Bool) (z : ℕ) (zs : List ℕ) → f z ≡ false → first f (z ∷ zs) ≡ first f zs
-unfolding Queue.first
-first-no f z zs e = rw (e, Queue.first)
-
-first-nil : (f : ℕ → Bool) → first f [] ≡ 0
-unfolding Queue.first
-first-nil f = refl
-
-first-same : (f g : ℕ → Bool) (zs : List ℕ) → ((z : ℕ) → 1 ≤ count z zs → f z ≡ g z) → first f zs ≡ first g zs
-first-same f g [] h = first-nil f ∙ sym (first-nil g)
-first-same f g (z ∷ zs) h = go (g z) refl (h z (omega (arith, hit-self z))) (first-same f g zs (λ y i. h y (omega arith)))
-  where
-    go : (c : Bool) → g z ≡ c → f z ≡ g z → first f zs ≡ first g zs → first f (z ∷ zs) ≡ first g (z ∷ zs)
-    go true e d ih = first-yes f z zs (d ∙ e) ∙ sym (first-yes g z zs e)
-    go false e d ih = first-no f z zs (d ∙ e) ∙ ih ∙ sym (first-no g z zs e)
-
-pub named-same : (m m1 : List ℕ) (n : ℕ) (zs : List ℕ) → ((z : ℕ) → 1 ≤ count z zs → getD m1 (z * 32 + 7) 0 ≡ getD m (z * 32 + 7) 0)
-    → first (isNamed m1 n) zs ≡ first (isNamed m n) zs
-unfolding Processor.isNamed
-named-same m m1 n zs h = first-same (isNamed m1 n) (isNamed m n) zs (λ z i. rw (h z i))
 
 -- ---- to whom message q goes back, by the memory of that moment; 0: to none
 abbrev pub backTo : List ℕ → ℕ → ℕ

@@ -33,7 +33,7 @@ use Rattle.laws.specs.Calls as Calls
 use Rattle.laws.specs.Calls.Act.{instruct}
 use Rattle.laws.specs.Witness.{zeros-small}
 use Rattle.history.specs.Letter as Letter
-use Rattle.history.specs.Letter.{Letter, mailOf, waitingFor}
+use Rattle.history.specs.Letter.{Letter, waitingFor}
 use Rattle.history.specs.Order as Order
 use Rattle.history.specs.Put.{of, mailed}
 use Rattle.history.specs.Lives as Lives
@@ -72,7 +72,6 @@ module _ (S : Store) where
 
   -- who lives and what waits: after SME a message on page 237, after RME none
   record Seen : Type 0 where
-    living1 : Queue.processors S m1 ≡ 236 ∷ []
     living2 : Queue.processors S m2 ≡ 236 ∷ []
     living3 : Queue.processors S m3 ≡ 236 ∷ []
     living4 : Queue.processors S m4 ≡ 236 ∷ []
@@ -109,7 +108,6 @@ unfolding writes
     Execute.decoded Execute.coded Execute.fetched Store.tget Store.tput Store.tzero Store.getT Store.putT Store.sizeT Store.trees Rule.all
     Rule.every Rule.holds
 at-trees = record {
-  living1 = refl;
   living2 = refl;
   living3 = refl;
   living4 = refl;

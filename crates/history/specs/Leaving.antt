@@ -6,39 +6,39 @@ use mathlib.Core.Bool.{Bool, true, false, cond}
 use mathlib.Core.List.{List, [], _∷_, _++_}
 use Prim.Native.Nat.{ℕ, _+_, _*_, _/_, _%_, _≤_, _<_}
 use native.Mathlib.Omega.{arith}
-use lib.ListN.{getD, set, length-append}
+use lib.ListN.{getD, length-append}
 use lib.Dec.{eqb}
 use borrow.Author.Tests.{eqb-true, eqb-false, ne-eqb}
 use Rattle.model.specs.Queue.{first}
 use Rattle.model.specs.Processor as Processor
 use Rattle.model.specs.Wait as Wait
 use Rattle.model.specs.Delete as Delete
-use Rattle.model.specs.Bytes.{leave, isNamed, processors, queued, seat, leaveWait, unlisted}
+use Rattle.model.specs.Bytes.{isNamed, processors, queued, seat, leaveWait, unlisted}
 use Rattle.model.specs.Lists.{count, Lists}
 use Rattle.laws.specs.Count.{hit-or, count-append}
-use Rattle.laws.specs.Chain.{Page, walk-chain, split-at-page}
+use Rattle.laws.specs.Chain.{Page, walk-chain, split-at-page, Chain}
 use Rattle.laws.specs.Queues.{upd, upd-same, link-procs}
 use Rattle.laws.specs.Uses.{Sep, proc-page, list-short}
 use Rattle.laws.specs.Places.{in-procs, grant-low}
 use Rattle.laws.specs.Inv.{View, Mem, Base}
 use Rattle.laws.specs.Views.{put1, withWords}
 use Rattle.laws.specs.Stores.{sem-mem}
-use Rattle.laws.specs.Cells.{leave-mem, leave-frame}
-use Rattle.laws.specs.Wake.{seat-head, not-procs, facts-wake}
+use Rattle.laws.specs.Cells.{leave-mem}
+use Rattle.laws.specs.Wake.{seat-head, not-procs, facts-wake, unqueue-frame}
 use Rattle.laws.specs.Grants.{each-two}
 use Rattle.laws.specs.Members.{count-more}
 use Rattle.laws.specs.Shrink.{in-P, gone, shrink-mem, left-is}
 use Rattle.laws.specs.Shrink as Shrink
 use Rattle.laws.specs.Leave.{Bag, seat-is, queued-in, unlisted-bag}
-use Rattle.laws.specs.Simple.{first-in}
+use Rattle.laws.specs.Simple.{first-in, first-yes, first-no, named-same}
 use Rattle.laws.specs.Who.{label-at, listed}
 use Rattle.laws.specs.Delete.{tot-short}
-use Rattle.history.specs.Letter.{Same, Posts, same-on, queue-same, texts-same}
+use Rattle.history.specs.Letter.{Same, Posts, queue-same, texts-same}
 use Rattle.history.specs.Letter.Ours.{mail}
 use Rattle.history.specs.Put.{returnsTo}
-use Rattle.history.specs.Calm.{calm-refl, calm-set, ours-seat, ours-wait, mine-high, mine-proc}
+use Rattle.history.specs.Calm.{calm-refl, ours-seat, ours-wait, mine-high, mine-proc}
 use Rattle.history.specs.Returning.{Grown, grown-same}
-use Rattle.history.specs.Emptying.{first-yes, first-no, named-same, backTo, Aims}
+use Rattle.history.specs.Emptying.{backTo, Aims}
 
 -- ---- out of its wait queue
 record Out (m m1 : List ℕ) (ps : List ℕ) (L : Lists) (W : View) : Type 0 where
@@ -65,18 +65,16 @@ wait-out {m} {ps} {L} {W} b p hp = go (queued m (seat 54 m p) p) refl
         let r = split-at-page p (L (a + 1)) (queued-in b p hp a h e) in
         let v = (getD m a 0 + 1) % 256 in
         let x1 = sem-mem s (b .mem) a v h in
-        let c1 : Same ps L m (set m a v) = calm-set m a v (λ c i. ours-seat s i a h .0) in
-        let c2 : Same ps L (set m a v) (leave (set m a v) (a + 1) 0 p) = record {
-          at = λ c i. leave-frame s x1 (a + 1) (seat-head s a h) (λ d. not-procs s a h (sym d)) p (r .0) (r .1) (r .2) c
-              (ours-seat s i a h .1) (λ z j. ours-wait s i a z h j);
-        } in
         rw e (record {
           lists = upd L (a + 1) (r .0 ++ r .1);
           view = _;
           sep = facts-wake a p (r .0) (r .1) (b .facts) h (r .2) .sep;
           mem = leave-mem s x1 (a + 1) (seat-head s a h) (λ d. not-procs s a h (sym d)) p (r .0) (r .1) (r .2);
           label = λ y. refl;
-          same = same-on c1 c2;
+          same = record {
+            at = λ c i.
+                unqueue-frame s (b .mem) a p (r .0) (r .1) h (r .2) c (ours-seat s i a h .0) (ours-seat s i a h .1) (λ z j. ours-wait s i a z h j);
+          };
         })
 
 -- ---- out of the list
@@ -192,16 +190,14 @@ module _ (xs : List ℕ) (p : ℕ) (ys : List ℕ) {m : List ℕ} {L : Lists} {W
     pub bag-procs : bag .procs ≡ xs ++ ys
     bag-procs = sym (listed (bag .base)) ∙ left-procs
 
+    -- its mail hangs there still
+    hangs : (w : ℕ) (zs : List ℕ) → 5 ≤ w → w ≤ 6 → Chain u 0 (p * 32 + w) zs → ((z : ℕ) → count z zs ≤ count z (bag .q2 ++ bag .q1)) → zs ≡ L (p * 32 + w)
+    hangs w zs l k c f =
+        sym (walk-chain 20 u 0 (p * 32 + w) zs c (tot-short (bag .base) zs (λ z. omega (arith, f z, count-append z (bag .q2 ++ bag .q1) (p ∷ [])))))
+        ∙ queue-same b left-posts p w hp l k
+
     pub bag-q1 : bag .q1 ≡ L (p * 32 + 5)
-    bag-q1 =
-        sym (walk-chain 20 u 0 (p * 32 + 5) (bag .q1) (bag .chain1)
-        (tot-short (bag .base) (bag .q1) (λ z.
-        omega (arith, count-append z (bag .q2 ++ bag .q1) (p ∷ []), count-append z (bag .q2) (bag .q1)))))
-        ∙ queue-same b left-posts p 5 hp (omega arith) (omega arith)
+    bag-q1 = hangs 5 (bag .q1) (omega arith) (omega arith) (bag .chain1) (λ z. omega (arith, count-append z (bag .q2) (bag .q1)))
 
     pub bag-q2 : bag .q2 ≡ L (p * 32 + 6)
-    bag-q2 =
-        sym (walk-chain 20 u 0 (p * 32 + 6) (bag .q2) (bag .chain2)
-        (tot-short (bag .base) (bag .q2) (λ z.
-        omega (arith, count-append z (bag .q2 ++ bag .q1) (p ∷ []), count-append z (bag .q2) (bag .q1)))))
-        ∙ queue-same b left-posts p 6 hp (omega arith) (omega arith)
+    bag-q2 = hangs 6 (bag .q2) (omega arith) (omega arith) (bag .chain2) (λ z. omega (arith, count-append z (bag .q2) (bag .q1)))

@@ -1,29 +1,26 @@
--- A message as a value, read off its page: sender, flag, length and text. It depends on words 1 to 31 of the page alone. What a processor's Q2 and Q1 hold, and
--- that a step which leaves their headers and pages alone leaves them. Assumes nothing.
-use mathlib.Core.Path.{_≡_, refl, sym, ap, _∙_}
+-- A message as a value, read off its page: sender, flag, length and text. It depends on words 1 to 31 of the page alone. What a processor's Q2 and Q1 hold,
+-- and that a step which leaves their headers and pages alone leaves them; one that leaves only the texts shows them by its lists. Assumes nothing.
+use mathlib.Core.Path.{_≡_, refl, sym, _∙_}
 use mathlib.Core.Logic.{_≢_, _⊎_, inl, inr}
 use mathlib.Core.Bool.{Bool, true, false, _&&_}
 use mathlib.Core.List.{List, [], _∷_, _++_, map}
 use Prim.Native.Nat.{ℕ, zero, suc, _+_, _-_, _*_, _/_, _%_, _≤_, _<_}
 use native.Mathlib.Omega.{arith}
-use lib.ListN.{length, getD, set}
+use lib.ListN.{getD}
 use lib.Dec.{eqb}
 use borrow.Author.Tests.{eqb-true}
 use Rattle.model.specs.Map.{place, q1, q2, text}
 use Rattle.model.specs.Address.{wrapped}
-use Rattle.model.specs.Mail as Mail
-use Rattle.model.specs.Mail.{asks, fits}
+use Rattle.model.specs.Mail.{fits}
 use Rattle.model.specs.Bytes.{queue, processors, sender, flag, lengthOf}
 use Rattle.model.specs.Lists.{count, Lists}
-use Rattle.laws.specs.Count.{hit-self, hit-or, count-ne}
+use Rattle.laws.specs.Count.{hit-self, hit-or}
 use Rattle.laws.specs.Chain.{Page, Chain, chain-move, walk-chain}
-use Rattle.laws.specs.Heads.{sum-two, one-le}
 use Rattle.laws.specs.Queues.{link-procs}
-use Rattle.laws.specs.Uses.{Among, Head, Sep, proc-page, list-short}
-use Rattle.laws.specs.Places.{in-q, in-procs, q-free, q-once, grant-low}
+use Rattle.laws.specs.Uses.{Head, list-short}
+use Rattle.laws.specs.Places.{in-q, in-procs, q-free, grant-low}
 use Rattle.laws.specs.Inv.{View, Base, Message}
 use Rattle.laws.specs.Mails.{mail-chain, mail-queue}
-use Rattle.history.specs.Order.{only, only-append}
 
 -- ---- a message
 pub record Letter : Type 0 where
@@ -50,7 +47,7 @@ unfoldable pub waitingFor : List ℕ → ℕ → List Letter
 waitingFor m p = map (mailOf m) (queue m (place p q2) ++ queue m (place p q1))
 
 -- ---- the test of an instruction does not tell apart what has one key
-and-true : (a b : Bool) → a && b ≡ true → (a ≡ true) × (b ≡ true)
+pub and-true : (a b : Bool) → a && b ≡ true → (a ≡ true) × (b ≡ true)
 and-true true b e = (refl, e)
 and-true false b e = (cc, cc)
 
@@ -70,19 +67,33 @@ pub asked-page : (m : List ℕ) (n f q : ℕ) → asked n f (mailOf m q) ≡ fit
 unfolding mailOf
 asked-page m n f q = let e : getD m (q * 32 + 1) 0 / 16 * 16 + getD m (q * 32 + 1) 0 % 16 ≡ getD m (q * 32 + 1) 0 = omega arith in rw e
 
--- ---- words 1 to 31
-pub words-same : (m m′ : List ℕ) (a n : ℕ) → a < 8192 → ((i : ℕ) → i < n → getD m′ ((a + i) % 8192) 0 ≡ getD m ((a + i) % 8192) 0) → words m′ a n ≡ words m a n
+-- ---- texts that are equal word for word
+pub next-sum : (a i : ℕ) → ((a + 1) % 8192 + i) % 8192 ≡ (a + suc i) % 8192
+next-sum a i = omega arith
+
+pub first-sum : (a : ℕ) → a < 8192 → (a + 0) % 8192 ≡ a
+first-sum a l = omega arith
+
+pub sum-below : (a : ℕ) → (a + 1) % 8192 < 8192
+sum-below a = omega arith
+
+pub words-moved : (m m′ : List ℕ) (a b n : ℕ) → a < 8192 → b < 8192 → ((i : ℕ) → i < n → getD m′ ((b + i) % 8192) 0 ≡ getD m ((a + i) % 8192) 0)
+    → words m′ b n ≡ words m a n
 unfolding words
-words-same m m′ a zero l h = refl
-words-same m m′ a (suc n) l h =
-    let e : (a + 0) % 8192 ≡ a = omega arith in
-    let h0 = rw e at (h 0 (omega arith)) in
+words-moved m m′ a b zero la lb h = refl
+words-moved m m′ a b (suc n) la lb h =
+    let ea : (a + 0) % 8192 ≡ a = first-sum a la in
+    let eb : (b + 0) % 8192 ≡ b = first-sum b lb in
+    let h0 = rw (ea, eb) at (h 0 (omega arith)) in
     rw (
       h0,
-      words-same m m′ ((a + 1) % 8192) n (omega arith) (λ i q.
-          let d : ((a + 1) % 8192 + i) % 8192 ≡ (a + suc i) % 8192 = omega arith in rw d (h (suc i) (omega arith))),
+      words-moved m m′ ((a + 1) % 8192) ((b + 1) % 8192) n (sum-below a) (sum-below b) (λ i q.
+          let da : ((a + 1) % 8192 + i) % 8192 ≡ (a + suc i) % 8192 = next-sum a i in
+          let db : ((b + 1) % 8192 + i) % 8192 ≡ (b + suc i) % 8192 = next-sum b i in
+          rw (da, db) (h (suc i) (omega arith))),
     )
 
+-- ---- words 1 to 31
 abbrev pub Texts : List ℕ → List ℕ → ℕ → Type 0
 Texts m m′ x = (j : ℕ) → 1 ≤ j → j < 32 → getD m′ (x * 32 + j) 0 ≡ getD m (x * 32 + j) 0
 
@@ -94,7 +105,7 @@ pub mail-same : (m m′ : List ℕ) (x : ℕ) → x < 256 → Sized m x → Text
 unfolding mailOf
 mail-same m m′ x g l h =
     let n = getD m (x * 32 + 2) 0 % 128 in
-    let w : words m′ (x * 32 + 3) n ≡ words m (x * 32 + 3) n = words-same m m′ (x * 32 + 3) n (omega arith) (λ i u.
+    let w : words m′ (x * 32 + 3) n ≡ words m (x * 32 + 3) n = words-moved m m′ (x * 32 + 3) (x * 32 + 3) n (omega arith) (omega arith) (λ i u.
     let e : (x * 32 + 3 + i) % 8192 ≡ x * 32 + (3 + i) = omega arith in rw e (h (3 + i) (omega arith) (omega arith))) in
     rw (h 1 (omega arith) (omega arith), h 2 (omega arith) (omega arith), w)
 
@@ -113,6 +124,14 @@ mails-same m m′ (x ∷ xs) h =
 pub map-append : (g : ℕ → Letter) (xs ys : List ℕ) → map g (xs ++ ys) ≡ map g xs ++ map g ys
 map-append g [] ys = refl
 map-append g (x ∷ xs) ys = rw (map-append g xs ys)
+
+-- Q1 or Q2 as a list of messages
+abbrev pub held : List ℕ → ℕ → ℕ → List Letter
+held m p w = map (mailOf m) (queue m (p * 32 + w))
+
+pub waits-held : (m : List ℕ) (p : ℕ) → waitingFor m p ≡ held m p 6 ++ held m p 5
+unfolding waitingFor
+waits-held m p = map-append (mailOf m) (queue m (p * 32 + 6)) (queue m (p * 32 + 5))
 
 -- ---- the words of Q1 and Q2: their headers, and all words of their pages
 pub data Mine (ps : List ℕ) (L : Lists) (c : ℕ) : Type 0 where
@@ -192,28 +211,17 @@ module _ {m : List ℕ} {ps : List ℕ} {L : Lists} {W : View} {hs : List ℕ} {
       texts = λ j k l. s .at (x * 32 + j) (page p w x j h u v i l refl);
     }
 
+    pub held-same : (p w : ℕ) → 1 ≤ count p ps → 5 ≤ w → w ≤ 6 → held m′ p w ≡ held m p w
+    held-same p w h u v =
+        rw (queue-same p w h u v, mail-queue b p w h u v) (mails-same m m′ (L (p * 32 + w)) (λ x i. texts-same p w x h u v i))
+
+    pub waits-same : (p : ℕ) → 1 ≤ count p ps → waitingFor m′ p ≡ waitingFor m p
+    waits-same p h =
+        rw (waits-held m′ p, waits-held m p, held-same p 6 h (omega arith) (omega arith), held-same p 5 h (omega arith) (omega arith))
+
   -- what waits, by the lists
   pub waits-by : (p : ℕ) → 1 ≤ count p ps → waitingFor m p ≡ map (mailOf m) (L (p * 32 + 6)) ++ map (mailOf m) (L (p * 32 + 5))
-  unfolding waitingFor
-  waits-by p h =
-      rw (
-        mail-queue b p 6 h (omega arith) (omega arith),
-        mail-queue b p 5 h (omega arith) (omega arith),
-      ) (map-append (mailOf m) (L (p * 32 + 6)) (L (p * 32 + 5)))
-
-  pub waits-same : {m′ : List ℕ} → Posts ps L m m′ → (p : ℕ) → 1 ≤ count p ps → waitingFor m′ p ≡ waitingFor m p
-  unfolding waitingFor
-  waits-same {m′} s p h =
-      rw (
-        queue-same s p 6 h (omega arith) (omega arith),
-        queue-same s p 5 h (omega arith) (omega arith),
-        mail-queue b p 6 h (omega arith) (omega arith),
-        mail-queue b p 5 h (omega arith) (omega arith),
-        map-append (mailOf m′) (L (p * 32 + 6)) (L (p * 32 + 5)),
-        map-append (mailOf m) (L (p * 32 + 6)) (L (p * 32 + 5)),
-        mails-same m m′ (L (p * 32 + 6)) (λ x i. texts-same s p 6 x h (omega arith) (omega arith) i),
-        mails-same m m′ (L (p * 32 + 5)) (λ x i. texts-same s p 5 x h (omega arith) (omega arith) i),
-      )
+  waits-by p h = waits-held m p ∙ rw (mail-queue b p 6 h (omega arith) (omega arith), mail-queue b p 5 h (omega arith) (omega arith))
 
   -- and who lives
   pub procs-same : {m′ : List ℕ} → Same ps L m m′ → processors m′ ≡ ps
@@ -223,3 +231,18 @@ module _ {m : List ℕ} {ps : List ℕ} {L : Lists} {W : View} {hs : List ℕ} {
       let c = rw (link-procs, s .procs) at (b .mem .holds .rep 247 h) in
       walk-chain 20 m′ 1 247 ps (chain-move m m′ 1 247 247 ps (t .at 247 (first refl)) (λ x i. t .at (x * 32 + 1) (next x i refl)) c)
       (rw (s .procs) at (list-short s 247 (in-procs ps)))
+
+-- ---- a step that may change the lists, and leaves words 1 to 31 of every page that is no processor's
+pub record Texted (ps : List ℕ) (m m′ : List ℕ) : Type 0 where
+  pub at : (x : ℕ) → Page x → count x ps ≡ 0 → Texts m m′ x
+
+-- then what waits is what the lists say, with the messages of before
+module _ {m m2 : List ℕ} {ps : List ℕ} {K : Lists} {X : View} {hs : List ℕ} {g : ℕ} (b2 : Base m2 ps K X hs g) (t : Texted ps m m2) where
+  pub held-through : (p w : ℕ) → 1 ≤ count p ps → 5 ≤ w → w ≤ 6 → held m2 p w ≡ map (mailOf m) (K (p * 32 + w))
+  held-through p w h u v =
+      rw (mail-queue b2 p w h u v) (sym (mails-same m2 m (K (p * 32 + w)) (λ x i.
+      let f = q-free (b2 .facts .sep) p w x u v h i in
+      record { page = f .0; sized = letter-sized b2 p w x h u v i; texts = λ j k l. sym (t .at x (f .0) (f .1) j k l) })))
+
+  pub waits-through : (p : ℕ) → 1 ≤ count p ps → waitingFor m2 p ≡ map (mailOf m) (K (p * 32 + 6)) ++ map (mailOf m) (K (p * 32 + 5))
+  waits-through p h = waits-held m2 p ∙ rw (held-through p 6 h (omega arith) (omega arith), held-through p 5 h (omega arith) (omega arith))

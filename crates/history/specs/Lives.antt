@@ -1,5 +1,5 @@
--- Nothing lost, doubled or overtaken, over any run of calls from a fresh start: for every processor that lives, every sender and every flag, what it has read in
--- this life and then what waits for it, Q2 before Q1, is what was put to it in this life, in that order, with text. Assumes nothing.
+-- Nothing lost, doubled or overtaken, over any run of calls from a fresh start: for every processor that lives, every sender and every flag, what it has read
+-- in this life and then what waits for it, Q2 before Q1, is what was put to it in this life, in that order, with text. Assumes nothing.
 use mathlib.Core.Path.{_≡_, refl, sym, ap, _∙_}
 use mathlib.Core.Bool.{Bool, true, false, cond, _&&_}
 use mathlib.Core.List.{List, [], _++_, append-assoc}

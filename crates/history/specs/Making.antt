@@ -1,100 +1,42 @@
--- A page taken for SME or CRP, and CRP: Q1 and Q2 of every processor stay, and the new one has nothing. Assumes nothing.
+-- Instructions: CRP puts and reads nothing; Q1 and Q2 of every processor stay, and the new one has nothing. Assumes nothing.
 use mathlib.Core.Path.{_≡_, refl, sym, ap, _∙_}
 use mathlib.Core.Logic.{_≢_, _⊎_, inl, inr}
-use mathlib.Core.Bool.{Bool, true, false, cond}
-use mathlib.Core.List.{List, [], _∷_, _++_, append-nil, map}
-use Prim.Native.Nat.{ℕ, zero, suc, _+_, _-_, _*_, _/_, _%_, _≤_, _<_}
+use mathlib.Core.Bool.{Bool, true, false}
+use mathlib.Core.List.{List, [], _∷_, _++_, append-nil}
+use Prim.Native.Nat.{ℕ, _+_, _-_, _*_, _≤_, _<_}
 use native.Mathlib.Omega.{arith}
 use lib.ListN.{length, getD, set}
 use lib.Dec.{eqb}
-use borrow.Author.Tests.{eqb-true, eqb-false, ne-eqb, eq-eqb}
-use Rattle.model.specs.Page as Page
-use Rattle.model.specs.Page.{Taken}
-use Rattle.model.specs.Page.Taken.{took}
+use borrow.Author.Tests.{eqb-true, eqb-false, ne-eqb}
 use Rattle.model.specs.Operate as Operate
 use Rattle.model.specs.Answer.{memoryOf}
 use Rattle.model.specs.Bytes as Model
-use Rattle.model.specs.Bytes.{lists, join, takePage, takeFree, processors, pageOf, queue, created, waitsForPage}
-use Rattle.model.specs.Lists.{count, Lists, some}
-use Rattle.laws.specs.Count.{hit-self, hit-other, hit-or, count-append}
-use Rattle.laws.specs.Chain.{Page, Chain, last, last-in, join-is, chain-join, walk-chain, off-page}
+use Rattle.model.specs.Bytes.{lists, processors, pageOf, queue, created, waitsForPage}
+use Rattle.model.specs.Lists.{count, Lists}
+use Rattle.laws.specs.Count.{hit-other, hit-or, count-append, count-mid}
+use Rattle.laws.specs.Chain.{Chain, last, join-is, chain-join, walk-chain, off-page, last-not}
 use Rattle.laws.specs.Queues.{link-procs}
 use Rattle.laws.specs.Heads.{one-le, short}
-use Rattle.laws.specs.Uses.{Head, Sep, proc-page, list-short, good}
-use Rattle.laws.specs.Places.{in-free, in-procs, grant-low, all-pages}
-use Rattle.laws.specs.Inv.{View, view, Base, Inv, bearers}
-use Rattle.laws.specs.Judged.{WellFormed, invariant, walked}
+use Rattle.laws.specs.Uses.{Sep, proc-page, list-short}
+use Rattle.laws.specs.Places.{in-procs, grant-low}
+use Rattle.laws.specs.Inv.{View, view, Base}
+use Rattle.laws.specs.Judged.{WellFormed}
 use Rattle.laws.specs.Frames.{other}
-use Rattle.laws.specs.Cells.{chain0, leave-frame}
-use Rattle.laws.specs.Changes.{page-sem, hand-page, hand-out}
-use Rattle.laws.specs.Stores.{sem-mem}
 use Rattle.laws.specs.Hands.{in-hand, hand-base}
-use Rattle.laws.specs.Grants.{Gave, Takes, take-page}
+use Rattle.laws.specs.Grants.{Takes, take-page}
 use Rattle.laws.specs.Grants.Takes.{gets, lacks}
-use Rattle.laws.specs.Still.{Aside, aside-hand}
-use Rattle.laws.specs.Who.{running-at, running-in, listed}
-use Rattle.laws.specs.Create.{made, z12, z11, z, headed-is, only, below, created-base, nobody}
-use Rattle.history.specs.Letter.{Mine, Same, Posts, Agree, same-then, same-on, posts, posts-on, posts-then, agrees, waitingFor, waits-same}
-use Rattle.history.specs.Letter.{procs-same}
-use Rattle.history.specs.Letter.Mine.{head, page}
-use Rattle.history.specs.Letter.Ours.{mail, first, next}
+use Rattle.laws.specs.Still.{aside-hand, Aside}
+use Rattle.laws.specs.Who.{listed, Busy, busy}
+use Rattle.laws.specs.Create.{made, z, headed-is, only, below, created-base, nobody}
+use Rattle.history.specs.Letter.{Same, Posts, posts, posts-on, posts-then, agrees, waitingFor, waits-same, procs-same}
+use Rattle.history.specs.Letter.Mine.{page}
 use Rattle.history.specs.Put.{nothing}
-use Rattle.history.specs.Calm.{calm-refl, calm-low, calm-take, calm-only, mine-high, mine-hand, mine-proc}
-use Rattle.history.specs.Told.{Told, of-none, told-same, calm-done, calm-waits, runs-in}
-use Rattle.history.specs.Quiet.{fails, Open}
+use Rattle.history.specs.Calm.{calm-only, mine-high, mine-hand, mine-proc}
+use Rattle.history.specs.Told.{Told, of-none, told-same, calm-done, runs-in}
+use Rattle.history.specs.Quiet.{fault-sent}
+use Rattle.history.specs.Taking.{calm-takes, page-waits}
 
--- ---- a page taken
-unfoldable pub left : Taken (List ℕ) → List ℕ
-left (took q m) = m
-
-module _ {m : List ℕ} {ps : List ℕ} {L : Lists} {W : View} {hs : List ℕ} {g : ℕ} (b : Base m ps L W hs g) (p : ℕ) (h : 1 ≤ count p ps) where
-  s : Sep ps L
-  s = b .facts .sep
-
-  abbrev n : ℕ
-  n = getD m (p * 32 + 7) 0 % 16
-
-  calm-taken : Same ps L m (left (takePage m p))
-  unfolding Page.takePage Page.firstFree left
-  calm-taken = go (eqb (getD m (320 + n) 0) 0) refl (L 244) refl (chain0 s (b .mem) 244 (in-free ps, grant-low 244 (omega arith)) (omega arith))
-    where
-      go : (c : Bool) → eqb (getD m (320 + n) 0) 0 ≡ c → (xs : List ℕ) → L 244 ≡ xs → Chain m 0 244 (L 244) → Same ps L m (left (takePage m p))
-      go false e xs f c = rw e (calm-low s m (320 + n) 0 (omega arith) (omega arith))
-      go true e [] f c = let z : getD m 244 0 ≡ 0 = rw f at c in rw (e, z) (calm-refl m)
-      go true e (q ∷ fs) f c =
-          let z = rw f at c in
-          rw (e, z .0, ne-eqb q 0 (omega arith)) (calm-take s (b .mem) q fs f)
-
-  -- an unprotected word stays
-  free-word : (q : ℕ) (fs : List ℕ) → L 244 ≡ q ∷ fs → (c : ℕ) → Open c → getD (takeFree m q) c 0 ≡ getD m c 0
-  unfolding Page.takeFree
-  free-word q fs e c o =
-      let v = (getD m 245 0 + 255) % 256 in
-      let u = o .below in
-      leave-frame s (sem-mem s (b .mem) 245 v (page-sem ps)) 244 (in-free ps, grant-low 244 (omega arith)) (omega arith) q [] fs e c
-      (o .between 244 (omega arith) (omega arith)) (λ y j. let t = all-pages s 244 y (in-free ps) j in omega arith)
-      ∙ other m 245 v c (o .between 245 (omega arith) (omega arith))
-
-  taken-word : (c : ℕ) → Open c → getD (left (takePage m p)) c 0 ≡ getD m c 0
-  unfolding Page.takePage Page.firstFree left
-  taken-word c o = go (eqb (getD m (320 + n) 0) 0) refl (L 244) refl (chain0 s (b .mem) 244 (in-free ps, grant-low 244 (omega arith)) (omega arith))
-    where
-      go : (x : Bool) → eqb (getD m (320 + n) 0) 0 ≡ x → (xs : List ℕ) → L 244 ≡ xs → Chain m 0 244 (L 244) → getD (left (takePage m p)) c 0 ≡ getD m c 0
-      go false e xs f k = rw e (other m (320 + n) 0 c (o .between (320 + n) (omega arith) (omega arith)))
-      go true e [] f k = let z : getD m 244 0 ≡ 0 = rw f at k in rw (e, z)
-      go true e (q ∷ fs) f k =
-          let z = rw f at k in
-          rw (e, z .0, ne-eqb q 0 (omega arith)) (free-word q fs f c o)
-
-  pub takes-word : (q : ℕ) (m1 : List ℕ) → takePage m p ≡ took q m1 → (c : ℕ) → Open c → getD m1 c 0 ≡ getD m c 0
-  unfolding left
-  takes-word q m1 e c o = let k : left (takePage m p) ≡ m1 = rw e in rw k at (taken-word c o)
-
-  pub calm-takes : (q : ℕ) (m1 : List ℕ) → takePage m p ≡ took q m1 → Same ps L m m1
-  unfolding left
-  calm-takes q m1 e = let k : left (takePage m p) ≡ m1 = rw e in rw k at calm-taken
-
--- ---- CRP: page q in hand becomes a processor
+-- ---- page q in hand becomes a processor
 module _ {m : List ℕ} {ps : List ℕ} {L : Lists} {W : View} {hs : List ℕ} {g q : ℕ} (b : Base m ps L W (q ∷ hs) g) (n r v a : ℕ) where
   abbrev x : List ℕ
   x = made b n r v a
@@ -105,11 +47,10 @@ module _ {m : List ℕ} {ps : List ℕ} {L : Lists} {W : View} {hs : List ℕ} {
   sx : Sep ps L
   sx = b .facts .sep
 
-  pg : Page q
-  pg = hand-page b q (in-hand b)
+  aside : Aside ps L q
+  aside = aside-hand b q (in-hand b)
 
-  out : count q ps ≡ 0
-  out = hand-out b q (in-hand b)
+  open Aside aside using (page as pg, out)
 
   chain-x : Chain x 1 247 ps
   chain-x = rw (link-procs, sx .procs) at (bx .1 .mem .holds .rep 247 (in-procs ps, grant-low 247 (omega arith)))
@@ -126,24 +67,16 @@ module _ {m : List ℕ} {ps : List ℕ} {L : Lists} {W : View} {hs : List ℕ} {
 
   -- a word that is neither 247, nor word 1 of q or of a processor
   created-word : (c : ℕ) → c ≢ 247 → c ≢ q * 32 + 1 → ((z : ℕ) → 1 ≤ count z ps → c ≢ z * 32 + 1) → getD m2 c 0 ≡ getD x c 0
-  created-word c n7 n1 nz = rw created-is (other (set x (q * 32 + 1) 0) (last 1 247 ps) q c (go ps (λ z i. nz z i)) ∙ other x (q * 32 + 1) 0 c n1)
-    where
-      go : (xs : List ℕ) → ((z : ℕ) → 1 ≤ count z xs → c ≢ z * 32 + 1) → c ≢ last 1 247 xs
-      go [] f = n7
-      go (y ∷ ys) f = let t = last-in 1 247 y ys in rw (t .2) (f (t .0) (t .1))
+  created-word c n7 n1 nz = rw created-is (other (set x (q * 32 + 1) 0) (last 1 247 ps) q c (last-not 1 247 ps c n7 nz) ∙ other x (q * 32 + 1) 0 c n1)
 
   created-posts : Posts ps L m m2
   created-posts =
-      posts-on (posts (calm-only sx m x q (aside-hand b q (in-hand b)) (only b n r v a))) (record {
+      posts-on (posts (calm-only sx m x q aside (only b n r v a))) (record {
         at = λ c h.
             let t = mine-high sx h in
-            created-word c (omega arith) (mine-hand sx h q 1 (aside-hand b q (in-hand b)) (omega arith))
+            created-word c (omega arith) (mine-hand sx h q 1 aside (omega arith))
             (λ z i. mine-proc sx h z 1 i (omega arith) (omega arith) (omega arith));
       })
-
-  created-run : getD m2 248 0 ≡ getD m 248 0
-  created-run =
-      created-word 248 (omega arith) (omega (arith, pg)) (λ z i. let t = proc-page sx z i in omega arith) ∙ only b n r v a .below 248 (omega (arith, pg))
 
   created-procs : processors m2 ≡ ps ++ q ∷ []
   created-procs =
@@ -162,34 +95,17 @@ module _ {m : List ℕ} {ps : List ℕ} {L : Lists} {W : View} {hs : List ℕ} {
   created-empty = rw (empty-queue 5 (omega arith) (omega arith), empty-queue 6 (omega arith) (omega arith))
 
 module _ {m : List ℕ} (w : WellFormed m) (d : getD m 248 0 ≢ 0) where
-  iv : Inv m (lists m 247) (lists m) (view m)
-  iv = invariant w
-
-  b : Base m (lists m 247) (lists m) (view m) [] 32
-  b = iv .base
-
-  -- "with none, they wait in the page queue, LR staying"
-  pub page-waits : lists m 244 ≡ [] → length (lists m (320 + getD m (getD m 248 0 * 32 + 7) 0 % 16)) ≡ 0
-      → Same (lists m 247) (lists m) m (memoryOf (waitsForPage m))
-  unfolding Operate.waitsForPage
-  page-waits f g = calm-waits b 245 0 d (page-sem (lists m 247)) (omega (arith, iv .best .ready d)) (record {
-    line = λ k h e. absurd (omega arith);
-    page = λ e. (refl, ap length f, g);
-    own = λ y h e. let t = proc-page (b .facts .sep) y h in absurd (omega arith);
-  })
-
-  fault-told : (f : ℕ) → Told m (memoryOf (Model.fault m f)) nothing
-  fault-told f = told-same b (memoryOf (Model.fault m f)) (fails w d f)
+  open Busy (busy w d) using (base as b, runs as hr)
 
   crp-page : (n r v a len : ℕ) → 1 ≤ n → n ≤ 15 → 1 ≤ r → r ≤ 15 → pageOf m n ≡ 0 → Told m (memoryOf (Model.crpPage m n r v a len)) nothing
   unfolding Operate.crpPage
-  crp-page n r v a len n1 n2 r1 r2 free = go (take-page (getD m 248 0) (running-in b d) b)
+  crp-page n r v a len n1 n2 r1 r2 free = go (take-page (getD m 248 0) hr b)
     where
       go : Takes m (getD m 248 0) (lists m 247) (lists m) (view m) [] 32 → Told m (memoryOf (Model.crpPage m n r v a len)) nothing
-      go (lacks e f2 g2) = rw e (told-same b (memoryOf (waitsForPage m)) (page-waits f2 g2))
+      go (lacks e f2 g2) = rw e (told-same b (memoryOf (waitsForPage m)) (page-waits w d f2 g2))
       go (gets q m1 e z t k) =
           let c = created-base (t .base) n r v a n1 n2 r1 r2 (rw k (nobody b n free)) in
-          let s1 = calm-takes b (getD m 248 0) (running-in b d) q m1 e in
+          let s1 = calm-takes b (getD m 248 0) hr q m1 e in
           let ag = agrees b (posts s1) (t .base) in
           let m2 = created m1 q n r v a in
           let m3 = memoryOf (Model.done m2 len) in
@@ -201,7 +117,7 @@ module _ {m : List ℕ} (w : WellFormed m) (d : getD m 248 0 ≢ 0) where
           let ps1 : Posts (lists m 247) (lists m) m m2 = posts-then ag (posts s1) (created-posts (t .base) n r v a) in
           let keep : (p : ℕ) → 1 ≤ count p (lists m 247) → waitingFor (memoryOf (Model.done m2 len)) p ≡ waitingFor m p = λ p h.
           waits-same (c .base) (posts d2) p (rw pc (omega (arith, count-append p (lists m 247) (q ∷ [])))) ∙ waits-same b ps1 p h in
-          let qc : 1 ≤ count q (c .procs) = rw pc (omega (arith, count-append q (lists m 247) (q ∷ []), hit-self q)) in
+          let qc : 1 ≤ count q (c .procs) = rw pc (count-mid q (lists m 247) []) in
           rw (e, ne-eqb q 0 z) (record {
             at = λ p h i y f. rw (of-none p, keep p (rw lm at h), append-nil (waitingFor m p));
             born = λ p h i.
@@ -221,9 +137,9 @@ module _ {m : List ℕ} (w : WellFormed m) (d : getD m 248 0 ≢ 0) where
   crp-told n r v a len hn hr = go (eqb n 0) (eqb r 0) (eqb (pageOf m n) 0) refl refl refl
     where
       go : (x1 x2 x3 : Bool) → eqb n 0 ≡ x1 → eqb r 0 ≡ x2 → eqb (pageOf m n) 0 ≡ x3 → Told m (memoryOf (Model.crp m n r v a len)) nothing
-      go true x2 x3 e1 e2 e3 = rw e1 (fault-told 12)
-      go false true x3 e1 e2 e3 = rw (e1, e2) (fault-told 12)
-      go false false false e1 e2 e3 = rw (e1, e2, e3) (fault-told 9)
+      go true x2 x3 e1 e2 e3 = rw e1 (fault-sent w d 12 .told)
+      go false true x3 e1 e2 e3 = rw (e1, e2) (fault-sent w d 12 .told)
+      go false false false e1 e2 e3 = rw (e1, e2, e3) (fault-sent w d 9 .told)
       go false false true e1 e2 e3 =
           let n1 = eqb-false n 0 e1 in
           let r1 = eqb-false r 0 e2 in

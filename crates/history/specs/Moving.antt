@@ -1,45 +1,38 @@
--- Instructions: WNM and TME move messages from Q1 to Q2 of the one that runs. They put and read nothing, and of any sender and flag what waits stays in its
--- order. Assumes nothing.
-use mathlib.Core.Path.{_≡_, refl, sym, ap, _∙_}
+-- A message leaves Q1 or Q2, or moves from Q1 to Q2 of its processor: the texts stay, and of any sender and flag what waits stays in its order. Assumes
+-- nothing.
+use mathlib.Core.Path.{_≡_, sym, ap, _∙_}
 use mathlib.Core.Logic.{_≢_, _⊎_, inl, inr}
-use mathlib.Core.Bool.{Bool, true, false, cond}
-use mathlib.Core.List.{List, [], _∷_, _++_, append-assoc}
-use mathlib.Core.List.{map}
-use Prim.Native.Nat.{ℕ, zero, suc, _+_, _-_, _*_, _/_, _%_, _≤_, _<_}
+use mathlib.Core.Bool.{true}
+use mathlib.Core.List.{List, [], _∷_, _++_, append-assoc, map}
+use Prim.Native.Nat.{ℕ, _+_, _-_, _*_, _≤_}
 use native.Mathlib.Omega.{arith}
-use lib.ListN.{length, getD, set}
 use Rattle.model.specs.Mail as Mail
-use Rattle.model.specs.Bytes.{leave, join, move, matches}
+use Rattle.model.specs.Bytes.{leave, move}
 use Rattle.model.specs.Lists.{count, Lists}
-use Rattle.laws.specs.Count.{hit-self, hit-or, count-append}
+use Rattle.laws.specs.Count.{hit-or, count-mid}
 use Rattle.laws.specs.Chain.{Page}
 use Rattle.laws.specs.Queues.{upd, upd-same, upd-other}
-use Rattle.laws.specs.Uses.{Head, Sep, proc-page}
-use Rattle.laws.specs.Places.{in-q, q-free, grant-high}
+use Rattle.laws.specs.Uses.{Sep, proc-page}
+use Rattle.laws.specs.Places.{in-q, grant-high}
 use Rattle.laws.specs.Members.{head-off}
 use Rattle.laws.specs.Inv.{View, Base}
 use Rattle.laws.specs.Cells.{join-frame, leave-frame}
 use Rattle.laws.specs.Changes.{hand-page}
 use Rattle.laws.specs.Hands.{in-hand, hand-new, take-mail, give-mail}
 use Rattle.history.specs.Order.{only, only-append, Fails, overtakes-none}
-use Rattle.history.specs.Letter.{Letter, mailOf, key, asked, one-key, Texts, Stays, letter-sized, mails-same, map-append, waitingFor, waits-by}
+use Rattle.history.specs.Letter.{Letter, mailOf, key, asked, one-key, map-append, waitingFor, waits-by, Texted, waits-through}
 
--- words 1 to 31 of every page that is no processor's stay
-pub record Texted (ps : List ℕ) (m m′ : List ℕ) : Type 0 where
-  pub at : (x : ℕ) → Page x → count x ps ≡ 0 → Texts m m′ x
-
-pub texted-on : {ps : List ℕ} {m m1 m2 : List ℕ} → Texted ps m m1 → Texted ps m1 m2 → Texted ps m m2
-texted-on f g = record { at = λ x p o j k l. g .at x p o j k l ∙ f .at x p o j k l }
-
--- then what waits is what the lists say, with the messages of before
-pub waits-through : {m m2 : List ℕ} {ps : List ℕ} {K : Lists} {X : View} {hs : List ℕ} {g : ℕ} (b2 : Base m2 ps K X hs g) → Texted ps m m2 → (p : ℕ)
-    → 1 ≤ count p ps → waitingFor m2 p ≡ map (mailOf m) (K (p * 32 + 6)) ++ map (mailOf m) (K (p * 32 + 5))
-waits-through {m} {m2} {ps} {K} b2 t p h = rw (waits-by b2 p h, part 6 (omega arith) (omega arith), part 5 (omega arith) (omega arith))
-  where
-    part : (w : ℕ) → 5 ≤ w → w ≤ 6 → map (mailOf m2) (K (p * 32 + w)) ≡ map (mailOf m) (K (p * 32 + w))
-    part w u v = sym (mails-same m2 m (K (p * 32 + w)) (λ x i.
-        let f = q-free (b2 .facts .sep) p w x u v h i in
-        record { page = f .0; sized = letter-sized b2 p w x h u v i; texts = λ j k l. sym (t .at x (f .0) (f .1) j k l) }))
+-- a message that leaves Q1 or Q2 leaves all texts
+pub leave-texts : {m : List ℕ} {ps : List ℕ} {L : Lists} {W : View} {hs : List ℕ} {g : ℕ} → Base m ps L W hs g → (p w q : ℕ) (xs ys : List ℕ) → 1 ≤ count p ps
+    → 5 ≤ w → w ≤ 6 → L (p * 32 + w) ≡ xs ++ q ∷ ys → Texted ps m (leave m (p * 32 + w) 0 q)
+leave-texts {ps = ps} b p w q xs ys h u v e = record {
+  at = λ x px o j k l.
+      let s = b .facts .sep in
+      let pg = proc-page s p h in
+      let i = in-q ps p w u v h in
+      leave-frame s (b .mem) (p * 32 + w) (i, grant-high (p * 32 + w) (omega arith)) (omega arith) q xs ys e (x * 32 + j)
+      (λ z. head-off s x j (p * 32 + w) px l o i (sym z)) (λ z r. omega arith);
+}
 
 module _ {m : List ℕ} {ps : List ℕ} {L : Lists} {W : View} {hs : List ℕ} {g : ℕ} (b : Base m ps L W hs g) (p q : ℕ) (xs ys : List ℕ) (h : 1 ≤ count p ps)
     (e : L (p * 32 + 5) ≡ xs ++ q ∷ ys) where
@@ -59,7 +52,7 @@ module _ {m : List ℕ} {ps : List ℕ} {L : Lists} {W : View} {hs : List ℕ} {
   b1 = take-mail b p 5 q xs ys h (omega arith) (omega arith) e
 
   in5 : 1 ≤ count q (L (p * 32 + 5))
-  in5 = rw e (omega (arith, count-append q xs (q ∷ ys), hit-self q))
+  in5 = rw e (count-mid q xs ys)
 
   pub moved : Lists
   moved = upd J (p * 32 + 6) (J (p * 32 + 6) ++ q ∷ [])
@@ -85,12 +78,10 @@ module _ {m : List ℕ} {ps : List ℕ} {L : Lists} {W : View} {hs : List ℕ} {
   unfolding Mail.move
   move-texts = record {
     at = λ x px o j k l.
-        let i5 = in-q ps p 5 (omega arith) (omega arith) h in
         let i6 = in-q ps p 6 (omega arith) (omega arith) h in
         join-frame (b1 .facts .sep) (b1 .mem) (p * 32 + 6) (i6, grant-high (p * 32 + 6) (omega (arith, pg))) (omega (arith, pg)) q
         (hand-page b1 q (in-hand b1)) (hand-new b1) (x * 32 + j) (λ z. head-off s x j (p * 32 + 6) px l o i6 (sym z)) (λ z i. omega arith) (omega arith)
-        ∙ leave-frame s (b .mem) (p * 32 + 5) (i5, grant-high (p * 32 + 5) (omega (arith, pg))) (omega (arith, pg)) q xs ys e (x * 32 + j)
-        (λ z. head-off s x j (p * 32 + 5) px l o i5 (sym z)) (λ z i. omega arith);
+        ∙ leave-texts b p 5 q xs ys h (omega arith) (omega arith) e .at x px o j k l;
   }
 
   -- what waits for p, and for any other

@@ -1,6 +1,6 @@
--- What an instruction puts to which processor and what it reads, as functions of the memory before it: decoded and tested as the model decodes and tests, direct
--- and by EXI. A processor is named by its page. Assumes nothing.
-use Prim.Native.Nat.{ℕ, zero, suc, _+_, _-_, _*_, _/_, _%_}
+-- What an instruction puts to which processor and what it reads, as functions of the memory before it: decoded and tested as the model decodes and tests,
+-- direct and by EXI. A processor is named by its page. Assumes nothing.
+use Prim.Native.Nat.{ℕ, zero, suc, _+_, _-_}
 use mathlib.Core.Bool.{Bool, true, false, cond}
 use mathlib.Core.List.{List, [], _∷_, _++_}
 use lib.Dec.{eqb, ltb}
@@ -11,8 +11,7 @@ use Rattle.model.specs.Address.{unless, wrapped, guarded, clear}
 use Rattle.model.specs.Page.{Taken}
 use Rattle.model.specs.Page.Taken.{took}
 use Rattle.model.specs.Instruction.{firstWord, lengthFor, shapeFor, builtIn}
-use Rattle.model.specs.Bytes.{at, queue, running, name, pageOf, takePage, inQ2, lengthOf, sender, flag, isNotice, stopped, kind, isForeign}
-use Rattle.model.specs.Bytes.{argumentFault}
+use Rattle.model.specs.Bytes.{at, queue, running, name, pageOf, takePage, inQ2, lengthOf, sender, flag, isNotice, stopped, kind, isForeign, argumentFault}
 use Rattle.model.specs.Bytes.{pointed, direct, indexed, codeAt, judged, lr}
 use Rattle.history.specs.Letter.{Letter, words, mailOf}
 

@@ -2,93 +2,43 @@
 -- 13; and setting registers. Assumes nothing.
 use mathlib.Core.Path.{_≡_, refl, sym, ap, _∙_}
 use mathlib.Core.Logic.{_≢_, _⊎_, inl, inr}
-use mathlib.Core.Bool.{Bool, true, false, cond}
-use mathlib.Core.List.{List, [], _∷_, _++_}
-use Prim.Native.Nat.{ℕ, zero, suc, _+_, _-_, _*_, _/_, _%_, _≤_, _<_}
+use mathlib.Core.Bool.{Bool, true, false}
+use mathlib.Core.List.{List, [], _∷_}
+use Prim.Native.Nat.{ℕ, _+_, _-_, _*_, _/_, _%_, _≤_, _<_}
 use native.Mathlib.Omega.{arith}
-use lib.ListN.{length, getD, set}
+use lib.ListN.{getD, set}
 use lib.Dec.{eqb, ltb, leb}
-use borrow.Author.Tests.{eqb-false, ltb-true, ltb-false, leb-false}
+use borrow.Author.Tests.{eqb-false, ltb-false}
 use Rattle.model.specs.declared.Registers.{Registers}
-use Rattle.model.specs.Map.{threeFlags}
-use Rattle.model.specs.Address as Address
 use Rattle.model.specs.Address.{guarded, clear}
-use Rattle.model.specs.Interrupt as Interrupt
 use Rattle.model.specs.Instruction as Instruction
 use Rattle.model.specs.Processor as Processor
 use Rattle.model.specs.Operate as Operate
 use Rattle.model.specs.Answer.{memoryOf}
 use Rattle.model.specs.Bytes as Model
-use Rattle.model.specs.Bytes.{lists, struck, classed, servedFrom, serve, counts, turns, ends, delivered, whoRuns, setCode, pageOf, start, stop, setLr}
-use Rattle.model.specs.Bytes.{setRegistersOf}
-use Rattle.model.specs.Lists.{count, Lists, queues}
-use Rattle.laws.specs.Count.{hit-self, hit-or, count-append}
-use Rattle.laws.specs.Uses.{Sep, proc-page, list-short}
-use Rattle.laws.specs.Places.{in-queues, wait-page}
-use Rattle.laws.specs.Inv.{View, view, Clock, Base, Inv}
-use Rattle.laws.specs.Judged.{WellFormed, invariant}
+use Rattle.model.specs.Bytes.{lists, serve, setCode, pageOf, setRegistersOf}
+use Rattle.model.specs.Lists.{count}
+use Rattle.laws.specs.Uses.{Sep, proc-page}
+use Rattle.laws.specs.Judged.{WellFormed}
 use Rattle.laws.specs.Frames.{other}
-use Rattle.laws.specs.Views.{put1, withLow}
-use Rattle.laws.specs.Cells.{chain0}
-use Rattle.laws.specs.Changes.{int-sem}
-use Rattle.laws.specs.Wake.{seat-head, not-procs}
-use Rattle.laws.specs.Grants.{Gave}
-use Rattle.laws.specs.Who.{running-at, running-in}
+use Rattle.laws.specs.Who.{running-at, Busy, busy}
 use Rattle.laws.specs.Ends.{advance-base}
 use Rattle.laws.specs.Words.{either}
-use Rattle.laws.specs.Simple.{pick, named-in}
-use Rattle.laws.specs.Interrupts.{head, chain-head, Struck, struck-base, from-end, next, seat, clock0, clock1, clock2, clock3, counter-base}
-use Rattle.laws.specs.Interrupts.{counter-at}
-use Rattle.laws.specs.Interrupts.{serve-base}
-use Rattle.history.specs.Letter.{Same, same-then, same-on, posts, agrees}
-use Rattle.history.specs.Calm.{calm-refl, calm-set, calm-low, calm-proc, calm-run, calm-lr, calm-turn, calm-wake, ours-fits, ours-low}
-use Rattle.history.specs.Told.{calm-done, calm-jumps, calm-fault, calm-waits, runs-in}
+use Rattle.laws.specs.Simple.{pick, named-in, clear-open}
+use Rattle.laws.specs.Interrupts.{serve-base, seat}
+use Rattle.laws.specs.Waits.{line-fit}
+use Rattle.history.specs.Letter.{Same, same-on}
+use Rattle.history.specs.Calm.{calm-refl, calm-low, calm-proc, calm-run, calm-lr}
+use Rattle.history.specs.Told.{calm-done, calm-jumps, calm-fault, calm-waits, runs-in, Sent, sent-same}
 use Rattle.history.specs.Clocks.{calm-serve}
+use Rattle.history.specs.Put.{nothing}
 
 -- ---- instructions, of a well-formed memory where someone runs
 pub clear-far : (a : ℕ) → guarded a ≡ false → (a < 7552) × (a ≢ 247)
-unfolding Address.guarded
-clear-far a h = go (ltb a 16) (ltb a 128) (ltb a 352) (leb 7552 a) refl refl refl refl
-  where
-    go : (x y z t : Bool) → ltb a 16 ≡ x → ltb a 128 ≡ y → ltb a 352 ≡ z → leb 7552 a ≡ t → (a < 7552) × (a ≢ 247)
-    go true y z t e f i j = let c = rw e at h in let k : _≡_ {A = ℕ} 0 1 = cc in absurd (omega arith)
-    go false true z t e f i j = let l = ltb-true a 128 f in (omega arith, omega arith)
-    go false false true t e f i j = let c = rw (e, f, i) at h in let k : _≡_ {A = ℕ} 0 1 = cc in absurd (omega arith)
-    go false false false true e f i j = let c = rw (e, f, i, j) at h in let k : _≡_ {A = ℕ} 0 1 = cc in absurd (omega arith)
-    go false false false false e f i j =
-        let l = ltb-false a 352 i in
-        let u = leb-false 7552 a j in
-        (omega arith, omega arith)
-
--- where an unprotected word stands
-pub record Open (a : ℕ) : Type 0 where
-  pub above : 16 ≤ a
-  pub below : a < 7552
-  pub between : (b : ℕ) → 128 ≤ b → b < 352 → a ≢ b
-
-pub clear-open : (a : ℕ) → guarded a ≡ false → Open a
-unfolding Address.guarded
-clear-open a h = go (ltb a 16) (ltb a 128) (ltb a 352) (leb 7552 a) refl refl refl refl
-  where
-    go : (x y z t : Bool) → ltb a 16 ≡ x → ltb a 128 ≡ y → ltb a 352 ≡ z → leb 7552 a ≡ t → Open a
-    go true y z t e f i j = let c = rw e at h in let k : _≡_ {A = ℕ} 0 1 = cc in absurd (omega arith)
-    go false true z t e f i j =
-        let l = ltb-false a 16 e in
-        let u = ltb-true a 128 f in
-        record { above = omega arith; below = omega arith; between = λ b c d. omega arith }
-    go false false true t e f i j = let c = rw (e, f, i) at h in let k : _≡_ {A = ℕ} 0 1 = cc in absurd (omega arith)
-    go false false false true e f i j = let c = rw (e, f, i, j) at h in let k : _≡_ {A = ℕ} 0 1 = cc in absurd (omega arith)
-    go false false false false e f i j =
-        let l = ltb-false a 352 i in
-        let u = leb-false 7552 a j in
-        record { above = omega arith; below = omega arith; between = λ b c d. omega arith }
+clear-far a h = let o = clear-open a h in (o .below, o .between 247 (omega arith) (omega arith))
 
 module _ {m : List ℕ} (w : WellFormed m) (d : getD m 248 0 ≢ 0) where
-  iv : Inv m (lists m 247) (lists m) (view m)
-  iv = invariant w
-
-  b : Base m (lists m 247) (lists m) (view m) [] 32
-  b = iv .base
+  open Busy (busy w d) using (base as b, runs as hr, ready)
 
   abbrev Calm : List ℕ → Type 0
   Calm x = Same (lists m 247) (lists m) m x
@@ -100,7 +50,10 @@ module _ {m : List ℕ} (w : WellFormed m) (d : getD m 248 0 ≢ 0) where
   r = getD m 248 0
 
   pub fails : (f : ℕ) → Calm (memoryOf (Model.fault m f))
-  fails f = calm-fault s m (runs-in b) f
+  fails f = calm-fault b d f
+
+  pub fault-sent : (f : ℕ) → Sent m (memoryOf (Model.fault m f)) nothing
+  fault-sent f = sent-same b (memoryOf (Model.fault m f)) (fails f)
 
   -- then done, then a jump; the same one runs
   pub then-done : (x : List ℕ) (len : ℕ) → Calm x → getD x 248 0 ≡ getD m 248 0 → Calm (memoryOf (Model.done x len))
@@ -131,13 +84,14 @@ module _ {m : List ℕ} (w : WellFormed m) (d : getD m 248 0 ≢ 0) where
   pub dvi-calm : (c n : ℕ) → c < 16 → Calm (memoryOf (Model.dvi m c n))
   unfolding Operate.dvi
   dvi-calm c n l =
-      either (λ (o : Model.Step). Calm (memoryOf o)) (ltb c 2) (fails 4) (either (λ (o : Model.Step). Calm (memoryOf o)) (eqb (getD m (256 + 2 * c) 0 / 32) 0) (fails 1)
+      either (λ (o : Model.Step). Calm (memoryOf o)) (ltb c 2) (fails 4)
+      (either (λ (o : Model.Step). Calm (memoryOf o)) (eqb (getD m (256 + 2 * c) 0 / 32) 0) (fails 1)
       (then-done (setCode m c 0 0) n (calm-code c 0 0 l) (code-run c 0 0)))
 
   pub gin-calm : (len : ℕ) → Calm (memoryOf (Model.gin m len))
   unfolding Operate.gin
   gin-calm len =
-      let n = b .facts .names .range r (running-in b d) in
+      let n = b .facts .names .range r hr in
       let k = getD m (r * 32 + 7) 0 % 16 in
       let t = serve-base k 0 (n .name) (omega arith) b in
       then-done (serve m k 0) len (calm-serve k 0 (n .name) (omega arith) b) (running-at (t .base) ∙ ap (λ (z : ℕ → ℕ). z 248) (t .low))
@@ -154,19 +108,15 @@ module _ {m : List ℕ} (w : WellFormed m) (d : getD m 248 0 ≢ 0) where
           let k1 = eqb-false k 0 e in
           let k2 = ltb-false 54 k f in
           let c1 = eqb-false c 0 g in
-          let at1 : 131 + 2 * (k - 1) ≡ 129 + 2 * k = omega arith in
           rw (e, f, g) (same-on (calm-lr s m r ((Model.lr m + len) % 8192) (runs-in b))
-          (calm-waits (advance-base b len) (129 + 2 * k) c d (rw at1 at (int-sem (lists m 247) (k - 1) (omega arith)))
-          (omega (arith, iv .best .ready d)) (record {
-            line = λ j h q. (omega arith, omega arith);
-            page = λ q. absurd (omega arith);
-            own = λ y h q. let t = proc-page (b .facts .sep) y h in absurd (omega arith);
-          })))
+          (calm-waits (advance-base b len) (129 + 2 * k) c d (seat k c (omega arith) k2 (lists m 247)) (omega (arith, ready))
+          (line-fit s k c (omega arith) k2 (omega arith) u)))
 
   state-calm : (p v len : ℕ) → 1 ≤ count p (lists m 247) → Calm (memoryOf (Model.done (set m (p * 32 + 12) v) len))
   state-calm p v len h =
       let g = proc-page s p h in
-      then-done (set m (p * 32 + 12) v) len (calm-proc s m p 12 v h (omega arith) (omega arith) (omega arith) (omega arith)) (other m (p * 32 + 12) v 248 (omega arith))
+      then-done (set m (p * 32 + 12) v) len (calm-proc s m p 12 v h (omega arith) (omega arith) (omega arith) (omega arith))
+      (other m (p * 32 + 12) v 248 (omega arith))
 
   pub st1-calm : (p len : ℕ) → 1 ≤ count p (lists m 247) → Calm (memoryOf (Model.st1 m p len))
   unfolding Operate.st1 Processor.start
@@ -198,8 +148,8 @@ module _ {m : List ℕ} (w : WellFormed m) (d : getD m 248 0 ≢ 0) where
       let c1 : Calm m1 = calm-proc s m p 10 v h (omega arith) (omega arith) (omega arith) (omega arith) in
       let c2 : Calm m2 = same-on c1 (calm-proc s m1 p 11 (a % 256) h (omega arith) (omega arith) (omega arith) (omega arith)) in
       let c3 : Calm (set m2 (p * 32 + 12) t) = same-on c2 (calm-proc s m2 p 12 t h (omega arith) (omega arith) (omega arith) (omega arith)) in
-      let e : getD (set m2 (p * 32 + 12) t) 248 0 ≡ getD m 248 0 = other m2 (p * 32 + 12) t 248 (omega arith) ∙ other m1 (p * 32 + 11) (a % 256) 248 (omega arith)
-      ∙ other m (p * 32 + 10) v 248 (omega arith) in
+      let e : getD (set m2 (p * 32 + 12) t) 248 0 ≡ getD m 248 0 = other m2 (p * 32 + 12) t 248 (omega arith)
+      ∙ other m1 (p * 32 + 11) (a % 256) 248 (omega arith) ∙ other m (p * 32 + 10) v 248 (omega arith) in
       either (λ (o : Model.Step). Calm (memoryOf o)) (leb 128 (getD m (p * 32 + 12) 0)) (either (λ (o : Model.Step). Calm (memoryOf o))
       (eqb (getD m (p * 32 + 12) 0 % 128 / 64) 0)
       (then-done (set m2 (p * 32 + 12) t) len c3 e) (fails 8)) (fails 8)
@@ -224,8 +174,7 @@ module _ {m : List ℕ} (w : WellFormed m) (d : getD m 248 0 ≢ 0) where
   free a v x g n h = let t = clear-far a g in (same-on (h .0) (calm-low s x a v (t .0) (t .1)), other x a v 248 (λ e. n (sym e)) ∙ h .1)
 
   not-running : (a : ℕ) → guarded a ≡ false → a ≢ 248
-  unfolding Address.guarded
-  not-running a h e = let c : guarded 248 ≡ false = rw e at h in let k : _≡_ {A = ℕ} 0 1 = cc in omega arith
+  not-running a h = clear-open a h .between 248 (omega arith) (omega arith)
 
   worked-both : (o a : ℕ) → guarded a ≡ false → Both (Model.worked m o a)
   unfolding Operate.worked Operate.adds Operate.storesA Operate.ands Operate.increments
@@ -268,5 +217,5 @@ module _ {m : List ℕ} (w : WellFormed m) (d : getD m 248 0 ≢ 0) where
   unfolding Processor.setRegistersOf Processor.setFlagsLr
   registers-calm x =
       let k : Both m = (calm-refl m, refl) in
-      reg 12 _ _ (omega arith) (omega arith) (reg 11 _ _ (omega arith) (omega arith) (reg 10 _ _ (omega arith) (omega arith) (reg 9 _ _ (omega arith) (omega arith)
-      (reg 8 _ m (omega arith) (omega arith) k)))) .0
+      reg 12 _ _ (omega arith) (omega arith) (reg 11 _ _ (omega arith) (omega arith) (reg 10 _ _ (omega arith) (omega arith)
+      (reg 9 _ _ (omega arith) (omega arith) (reg 8 _ m (omega arith) (omega arith) k)))) .0

@@ -1,87 +1,49 @@
 -- Instructions: RME reads the first match in Q2; of any sender and flag it is the oldest that waits. Assumes nothing.
 use mathlib.Core.Path.{_≡_, refl, sym, ap, _∙_}
 use mathlib.Core.Logic.{_≢_, _⊎_, inl, inr}
-use mathlib.Core.Bool.{Bool, true, false, cond}
+use mathlib.Core.Bool.{Bool, true, false}
 use mathlib.Core.List.{List, [], _∷_, _++_, append-assoc, append-nil, map}
-use Prim.Native.Nat.{ℕ, zero, suc, _+_, _-_, _*_, _/_, _%_, _≤_, _<_}
+use Prim.Native.Nat.{ℕ, _+_, _-_, _*_, _%_, _≤_}
 use native.Mathlib.Omega.{arith}
-use lib.ListN.{length, getD, set}
+use lib.ListN.{getD}
 use lib.Dec.{eqb}
-use borrow.Author.Tests.{eqb-true, eqb-false}
-use Rattle.model.specs.Address as Address
-use Rattle.model.specs.Address.{guarded, clear}
-use Rattle.model.specs.Mail as Mail
+use borrow.Author.Tests.{eqb-false}
+use Rattle.model.specs.Address.{clear}
 use Rattle.model.specs.Operate as Operate
 use Rattle.model.specs.Answer.{memoryOf}
 use Rattle.model.specs.Bytes as Model
-use Rattle.model.specs.Bytes.{lists, queue, processors, leave, copy, copyOut, giveBack, matches}
+use Rattle.model.specs.Bytes.{lists, queue, processors, leave, copyOut, giveBack}
 use Rattle.model.specs.Lists.{count, Lists}
-use Rattle.laws.specs.Count.{hit-self, hit-or, count-append}
-use Rattle.laws.specs.Chain.{Page}
+use Rattle.laws.specs.Count.{hit-or, count-append, count-mid}
 use Rattle.laws.specs.Queues.{upd, upd-same, upd-other}
-use Rattle.laws.specs.Uses.{Sep, proc-page}
-use Rattle.laws.specs.Places.{in-q, grant-high}
-use Rattle.laws.specs.Members.{head-off}
-use Rattle.laws.specs.Inv.{View, view, Base, Inv}
-use Rattle.laws.specs.Judged.{WellFormed, invariant}
-use Rattle.laws.specs.Frames.{other, base-kept}
-use Rattle.laws.specs.Cells.{leave-frame}
+use Rattle.laws.specs.Uses.{Sep}
+use Rattle.laws.specs.Inv.{View, view, Base}
+use Rattle.laws.specs.Judged.{WellFormed}
+use Rattle.laws.specs.Frames.{base-kept}
 use Rattle.laws.specs.Hands.{take-mail}
 use Rattle.laws.specs.Grants.{give-back}
-use Rattle.laws.specs.Who.{running-in, listed}
-use Rattle.laws.specs.Mails.{mail-queue, out-kept, clear-at}
-use Rattle.history.specs.Order.{only, only-append, Fails, overtakes-none}
-use Rattle.history.specs.Letter.{Letter, mailOf, key, asked, one-key, map-append, waitingFor, waits-by, Ours, Same, same-then, same-on, posts}
-use Rattle.history.specs.Letter.{agrees}
+use Rattle.laws.specs.Who.{listed, Busy, busy}
+use Rattle.laws.specs.Mails.{mail-queue, out-kept, clear-at, out-far}
+use Rattle.history.specs.Order.{only, Fails, overtakes-none}
+use Rattle.history.specs.Letter.{Letter, mailOf, key, asked, one-key, map-append, waitingFor, waits-by, Same, posts, Texted, waits-through}
 use Rattle.history.specs.Letter.{waits-same, procs-same, mail-same, mails-same, texts-same}
-use Rattle.history.specs.Put.{Mailed, of, nothing, reading, rmeMail}
+use Rattle.history.specs.Put.{of, reading, rmeMail}
 use Rattle.history.specs.Calm.{ours-low, ours-fits, calm-give}
-use Rattle.history.specs.Told.{Told, of-none, of-here, of-other, told-same, calm-done, runs-in}
-use Rattle.history.specs.Quiet.{fails, clear-far}
-use Rattle.history.specs.Moving.{Texted, waits-through}
+use Rattle.history.specs.Told.{Told, of-none, of-here, of-other, calm-done, runs-in}
+use Rattle.history.specs.Quiet.{clear-far, fault-sent}
+use Rattle.history.specs.Moving.{leave-texts}
 use Rattle.history.specs.Tests.{Found, found}
-
--- ---- n words copied leave every other word
-pub copy-far : (n : ℕ) (m : List ℕ) (a b c : ℕ) → b < 8192 → ((i : ℕ) → i < n → c ≢ (b + i) % 8192) → getD (copy n m a b) c 0 ≡ getD m c 0
-unfolding Address.copy
-copy-far zero m a b c l f = refl
-copy-far (suc n) m a b c l f =
-    let e : (b + 0) % 8192 ≡ b = omega arith in
-    let f0 : c ≢ b = λ z. f 0 (omega arith) (z ∙ sym e) in
-    copy-far n (set m b (getD m a 0)) ((a + 1) % 8192) ((b + 1) % 8192) c (omega arith)
-    (λ i h z. f (suc i) (omega arith) (z ∙ (let d : ((b + 1) % 8192 + i) % 8192 ≡ (b + suc i) % 8192 = omega arith in d)))
-    ∙ other m b (getD m a 0) c f0
 
 -- what RME writes: three words and the text
 pub out-calm : {ps : List ℕ} {L : Lists} → Sep ps L → (m : List ℕ) (q a : ℕ) → clear (3 + getD m (q * 32 + 2) 0 % 128) a ≡ true → Same ps L m (copyOut m q a)
-unfolding Mail.copyOut
-out-calm {ps} {L} s m q a h = record { at = λ c o. go c o (far c o) }
-  where
-    far : (c : ℕ) → Ours ps L c → (i : ℕ) → i < 3 + getD m (q * 32 + 2) 0 % 128 → c ≢ (a + i) % 8192
-    far c o i l = let t = clear-far ((a + i) % 8192) (clear-at (3 + getD m (q * 32 + 2) 0 % 128) a h i l) in ours-low s o ((a + i) % 8192) (t .0) (t .1)
-
-    go : (c : ℕ) → Ours ps L c → ((i : ℕ) → i < 3 + getD m (q * 32 + 2) 0 % 128 → c ≢ (a + i) % 8192) → getD (copyOut m q a) c 0 ≡ getD m c 0
-    go c o f =
-        let n = getD m (q * 32 + 2) 0 % 128 in
-        let u = ours-fits s o in
-        let m1 = set m a (getD m (q * 32 + 1) 0 / 16) in
-        let m2 = set m1 ((a + 1) % 8192) (getD m (q * 32 + 1) 0 % 16) in
-        let m3 = set m2 ((a + 2) % 8192) n in
-        let f0 = f 0 (omega arith) in
-        copy-far n m3 (q * 32 + 3) ((a + 3) % 8192) c (omega arith)
-        (λ i l z. f (3 + i) (omega arith) (z ∙ (let d : ((a + 3) % 8192 + i) % 8192 ≡ (a + (3 + i)) % 8192 = omega arith in d)))
-        ∙ other m2 ((a + 2) % 8192) n c (f 2 (omega arith)) ∙ other m1 ((a + 1) % 8192) (getD m (q * 32 + 1) 0 % 16) c (f 1 (omega arith))
-        ∙ other m a (getD m (q * 32 + 1) 0 / 16) c (λ z. f0 (omega arith))
+out-calm s m q a h = record {
+  at = λ c o. out-far m q a c (ours-fits s o) (λ i l.
+      let t = clear-far ((a + i) % 8192) (clear-at (3 + getD m (q * 32 + 2) 0 % 128) a h i l) in ours-low s o ((a + i) % 8192) (t .0) (t .1));
+}
 
 -- ---- message q leaves Q2, and its page is given back
 module _ {m : List ℕ} {ps : List ℕ} {L : Lists} {W : View} (b : Base m ps L W [] 32) (p q : ℕ) (xs ys : List ℕ) (h : 1 ≤ count p ps)
     (e : L (p * 32 + 6) ≡ xs ++ q ∷ ys) where
-  s : Sep ps L
-  s = b .facts .sep
-
-  pg : Page p
-  pg = proc-page s p h
-
   abbrev J : Lists
   J = upd L (p * 32 + 6) (xs ++ ys)
 
@@ -92,12 +54,7 @@ module _ {m : List ℕ} {ps : List ℕ} {L : Lists} {W : View} (b : Base m ps L 
   b1 = take-mail b p 6 q xs ys h (omega arith) (omega arith) e
 
   left-texts : Texted ps m m1
-  left-texts = record {
-    at = λ x px o j k l.
-        let i6 = in-q ps p 6 (omega arith) (omega arith) h in
-        leave-frame s (b .mem) (p * 32 + 6) (i6, grant-high (p * 32 + 6) (omega (arith, pg))) (omega (arith, pg)) q xs ys e (x * 32 + j)
-        (λ z. head-off s x j (p * 32 + 6) px l o i6 (sym z)) (λ z i. omega arith);
-  }
+  left-texts = leave-texts b p 6 q xs ys h (omega arith) (omega arith) e
 
   abbrev M : List ℕ → List Letter
   M l = map (mailOf m) l
@@ -126,17 +83,10 @@ module _ {m : List ℕ} {ps : List ℕ} {L : Lists} {W : View} (b : Base m ps L 
 
 -- ---- the instruction
 module _ {m : List ℕ} (w : WellFormed m) (d : getD m 248 0 ≢ 0) where
-  iv : Inv m (lists m 247) (lists m) (view m)
-  iv = invariant w
-
-  b : Base m (lists m 247) (lists m) (view m) [] 32
-  b = iv .base
+  open Busy (busy w d) using (base as b, runs as hr)
 
   abbrev r : ℕ
   r = getD m 248 0
-
-  hr : 1 ≤ count r (lists m 247)
-  hr = running-in b d
 
   received-told : (n f q a len : ℕ) → Found m n f q (lists m (r * 32 + 6)) → clear (3 + getD m (q * 32 + 2) 0 % 128) a ≡ true
       → Told m (memoryOf (Model.done (Model.received m q a) len)) (reading r (mailOf m q) a)
@@ -162,11 +112,12 @@ module _ {m : List ℕ} (w : WellFormed m) (d : getD m 248 0 ≢ 0) where
       mails-same m x zs (λ z i. texts-same b (posts sx) r 6 z hr (omega arith) (omega arith) (inside z (k z i))) in
       let mx = ms xs (λ z i. omega (arith, count-append z xs (q ∷ []))) in
       let mq : mailOf x q ≡ mailOf m q = let tq = texts-same b (posts sx) r 6 q hr (omega arith) (omega arith)
-      (inside q (omega (arith, count-append q xs (q ∷ []), hit-self q))) in mail-same m x q (tq .page .1) (tq .sized) (tq .texts) in
+      (inside q (count-mid q xs [])) in mail-same m x q (tq .page .1) (tq .sized) (tq .texts) in
       record {
         at = λ p h i k l.
             let j = rw (listed b) at h in
-            cases (memoryOf (Model.done m2 len)) m2 x p j k l (same p j) (before p j) (left-order bx r q xs ys hr (t .is) n f (rw mq (t .match)) (rw mx (t .none)) k l) mq
+            cases (memoryOf (Model.done m2 len)) m2 x p j k l (same p j) (before p j)
+            (left-order bx r q xs ys hr (t .is) n f (rw mq (t .match)) (rw mx (t .none)) k l) mq
             (λ z. left-away bx r q xs ys hr (t .is) p j z) (hit-or p r);
         born = λ p h i. absurd (omega (arith, ap (count p) pr));
       }
@@ -190,8 +141,8 @@ module _ {m : List ℕ} (w : WellFormed m) (d : getD m 248 0 ≢ 0) where
 
       go : (x y : Bool) → eqb (Model.inQ2 m n f) 0 ≡ x → clear (3 + getD m (Model.inQ2 m n f * 32 + 2) 0 % 128) a ≡ y
           → Told m (memoryOf (Model.rme m n f a len)) (rmeMail m n f a)
-      go true y e c = rw e (told-same b (memoryOf (Model.fault m 6)) (fails w d 6))
-      go false false e c = rw (e, c) (told-same b (memoryOf (Model.fault m 11)) (fails w d 11))
+      go true y e c = rw e (fault-sent w d 6 .told)
+      go false false e c = rw (e, c) (fault-sent w d 11 .told)
       go false true e c =
           let t : Found m n f (Model.inQ2 m n f) (queue m (r * 32 + 6)) = found m n f (queue m (r * 32 + 6)) (eqb-false (Model.inQ2 m n f) 0 e) in
           rw (e, c) (received-told n f (Model.inQ2 m n f) a len

@@ -1,61 +1,32 @@
--- A page given back and a notice delivered, and a queue of the deleted one emptied from the front: what waits for each processor grows at its end by the
--- notices to it, in that order, and no processor's name changes. Assumes nothing.
+-- What a deletion puts, as a list of notices. A page given back and a notice delivered: what waits for each processor grows at the end of its Q1 by the notices
+-- to it, and no processor's name changes. Assumes nothing.
 use mathlib.Core.Path.{_≡_, refl, sym, ap, _∙_}
 use mathlib.Core.Logic.{_≢_, _⊎_, inl, inr}
 use mathlib.Core.Bool.{Bool, true, false, cond}
 use mathlib.Core.List.{List, [], _∷_, _++_, append-nil, append-assoc}
-use Prim.Native.Nat.{ℕ, _+_, _*_, _/_, _%_, _≤_}
+use Prim.Native.Nat.{ℕ, _+_, _*_, _%_, _≤_}
 use native.Mathlib.Omega.{arith}
-use lib.ListN.{getD, set}
+use lib.ListN.{getD}
 use lib.Dec.{eqb}
-use borrow.Author.Tests.{ne-eqb}
-use Rattle.model.specs.Wait as Wait
-use Rattle.model.specs.Page as Page
-use Rattle.model.specs.Mail as Mail
-use Rattle.model.specs.Mail.{fits}
-use Rattle.model.specs.Bytes.{join, leave, wake, giveBack, deliver, makeNotice}
-use Rattle.model.specs.Lists.{count, Lists, queues}
-use Rattle.laws.specs.Count.{hit-self, hit-or}
-use Rattle.laws.specs.Chain.{Page, Chain}
-use Rattle.laws.specs.Queues.{upd, upd-other}
-use Rattle.laws.specs.Uses.{Sep, proc-page}
-use Rattle.laws.specs.Places.{in-own, in-asking, grant-high, grant-low}
-use Rattle.laws.specs.Inv.{View, Message, Mem, Base}
-use Rattle.laws.specs.Frames.{other}
-use Rattle.laws.specs.Stores.{sem-mem}
-use Rattle.laws.specs.Cells.{chain0, leave-mem}
-use Rattle.laws.specs.Changes.{own-sem, hand-out}
-use Rattle.laws.specs.Wake.{seat-head, not-procs}
-use Rattle.laws.specs.Hands.{in-hand, hand-base, mail-sep, give-free}
-use Rattle.laws.specs.Grants.{give-grant}
-use Rattle.laws.specs.Post.{x1, reason-at, note-at, two, word1, word2}
+use Rattle.model.specs.Bytes.{giveBack, deliver, makeNotice}
+use Rattle.model.specs.Lists.{count, Lists}
+use Rattle.laws.specs.Count.{hit-or}
+use Rattle.laws.specs.Chain.{Page}
+use Rattle.laws.specs.Uses.{proc-page}
+use Rattle.laws.specs.Inv.{View, Message, Base}
+use Rattle.laws.specs.Changes.{hand-out}
+use Rattle.laws.specs.Hands.{in-hand, hand-base}
+use Rattle.laws.specs.Grants.{give-frame}
+use Rattle.laws.specs.Post.{retold-letter, notice-only, notice-letter, deliver-frame}
 use Rattle.laws.specs.Still.{aside-hand}
-use Rattle.laws.specs.Mails.{mail-queue}
-use Rattle.laws.specs.Who.{label-at}
-use Rattle.laws.specs.Delete.{letter}
-use Rattle.history.specs.Letter.{Letter, words, mailOf, mails-same, texts-same, waitingFor, Posts, posts, queue-same, waits-same}
+use Rattle.laws.specs.Stores.{only-word}
+use Rattle.history.specs.Letter.{Letter, mailOf, waitingFor, Posts, posts, waits-same, held, held-same}
 use Rattle.history.specs.Put.{Log, of, noticeFrom, returnsTo, notices}
 use Rattle.history.specs.Calm.{calm-only, calm-give}
-use Rattle.history.specs.Told.{of-none, of-here, of-other}
-use Rattle.history.specs.Delivering.{held, delivered-last, delivered-other, delivered-here, delivered-away}
+use Rattle.history.specs.Told.{of-none, of-here, of-other, of-append}
+use Rattle.history.specs.Delivering.{delivered-last, delivered-other, delivered-here, delivered-away, notice-mail}
 
 -- ---- what is put, one after the other
-of-yes : (p : ℕ) (x : ℕ × Letter) (l : Log) → eqb p (x .0) ≡ true → of p (x ∷ l) ≡ x .1 ∷ of p l
-unfolding of
-of-yes p x l e = rw (e, of)
-
-of-no : (p : ℕ) (x : ℕ × Letter) (l : Log) → eqb p (x .0) ≡ false → of p (x ∷ l) ≡ of p l
-unfolding of
-of-no p x l e = rw (e, of)
-
-pub of-append : (p : ℕ) (l k : Log) → of p (l ++ k) ≡ of p l ++ of p k
-of-append p [] k = rw (of-none p)
-of-append p (x ∷ l) k = go (eqb p (x .0)) refl (of-append p l k)
-  where
-    go : (b : Bool) → eqb p (x .0) ≡ b → of p (l ++ k) ≡ of p l ++ of p k → of p (x ∷ l ++ k) ≡ of p (x ∷ l) ++ of p k
-    go true e ih = rw (of-yes p x (l ++ k) e, of-yes p x l e, ih)
-    go false e ih = rw (of-no p x (l ++ k) e, of-no p x l e, ih)
-
 -- the notice from the name n with flag f to the processor of page r, if there is one
 abbrev pub sentBack : ℕ → ℕ → ℕ → Log
 sentBack r n f = cond (eqb r 0) [] ((r, noticeFrom n f) ∷ [])
@@ -101,131 +72,60 @@ grown-then {m = m} {l = l} {k = k} f g = record {
   names = λ y h. g .names y h ∙ f .names y h;
 }
 
-module _ {m : List ℕ} {ps : List ℕ} {L : Lists} {W : View} {hs : List ℕ} {g : ℕ} (b : Base m ps L W hs g) {m1 : List ℕ} (s : Posts ps L m m1) where
-  pub last-same : (y : ℕ) → 1 ≤ count y ps → held m1 y 5 ≡ held m y 5
-  last-same y h =
-      rw (queue-same b s y 5 h (omega arith) (omega arith), mail-queue b y 5 h (omega arith) (omega arith))
-      (mails-same m m1 (L (y * 32 + 5)) (λ x i. texts-same b s y 5 x h (omega arith) (omega arith) i))
-
 -- for some of them
 pub grown-same : {m : List ℕ} {ps : List ℕ} {L : Lists} {W : View} {hs : List ℕ} {g : ℕ} (b : Base m ps L W hs g) {m1 : List ℕ} → Posts ps L m m1
     → (qs : List ℕ) → ((y : ℕ) → 1 ≤ count y qs → 1 ≤ count y ps)
     → ((y : ℕ) → 1 ≤ count y qs → getD m1 (y * 32 + 7) 0 ≡ getD m (y * 32 + 7) 0) → Grown qs m m1 []
 grown-same {m} b s qs i n = record {
   waits = λ y h. rw (of-none y, waits-same b s y (i y h)) (sym (append-nil (waitingFor m y)));
-  last = λ y h. rw (of-none y, last-same b s y (i y h)) (sym (append-nil (held m y 5)));
+  last = λ y h. rw (of-none y, held-same b s y 5 (i y h) (omega arith) (omega arith)) (sym (append-nil (held m y 5)));
   names = n;
 }
 
 -- ---- names stay
-wake-names : {m : List ℕ} {ps : List ℕ} {L : Lists} {W : View} (s : Sep ps L) (x : Mem m ps L W) (a p : ℕ) (xs ys : List ℕ) → 1 ≤ count (a + 1) (queues ps)
-    → L (a + 1) ≡ xs ++ p ∷ ys → (y : ℕ) → 1 ≤ count y ps → getD (wake m a p) (y * 32 + 7) 0 ≡ getD m (y * 32 + 7) 0
-unfolding Wait.wake Wait.unqueue
-wake-names {m} s x a p xs ys h e y i =
-    let pg = proc-page s y i in
-    let v = (getD m a 0 + 1) % 256 in
-    let m1 = set m a v in
-    let m2 = leave m1 (a + 1) 0 p in
-    let t = getD m2 (p * 32 + 12) 0 / 128 * 128 + getD m2 (p * 32 + 12) 0 % 64 in
-    let m3 = set m2 (p * 32 + 12) t in
-    let x2 = leave-mem s (sem-mem s x a v h) (a + 1) (seat-head s a h) (λ d. not-procs s a h (sym d)) p xs ys e in
-    other m3 (p * 32 + 2) 0 (y * 32 + 7) (omega arith) ∙ other m2 (p * 32 + 12) t (y * 32 + 7) (omega arith) ∙ x2 .reads .words .label y pg
-    ∙ sym (x .reads .words .label y pg)
+module _ {m : List ℕ} {ps : List ℕ} {L : Lists} {W : View} {hs : List ℕ} {g q : ℕ} (b : Base m ps L W (q ∷ hs) g) (y : ℕ) (h : 1 ≤ count y ps) where
+  pg : Page y
+  pg = proc-page (b .facts .sep) y h
 
-module _ {m : List ℕ} {ps : List ℕ} {L : Lists} {W : View} {hs : List ℕ} {g q : ℕ} (b : Base m ps L W (q ∷ hs) g) where
-  s : Sep ps L
-  s = b .facts .sep
+  give-names : getD (giveBack m q) (y * 32 + 7) 0 ≡ getD m (y * 32 + 7) 0
+  give-names = give-frame b (y * 32 + 7) (record {
+    low = λ a u v. omega (arith, pg);
+    grant = λ k u. omega (arith, pg);
+    hand = omega arith;
+    free = λ z i. omega arith;
+    waiter = λ p i. (omega arith, omega arith, omega arith);
+  })
 
-  give-names : (y : ℕ) → 1 ≤ count y ps → getD (giveBack m q) (y * 32 + 7) 0 ≡ getD m (y * 32 + 7) 0
-  unfolding Page.giveBack
-  give-names y h = go (L 246) refl (chain0 s (b .mem) 246 (in-asking ps, grant-low 246 (omega arith)) (omega arith))
-    where
-      go : (xs : List ℕ) → L 246 ≡ xs → Chain m 0 246 (L 246) → getD (giveBack m q) (y * 32 + 7) 0 ≡ getD m (y * 32 + 7) 0
-      go [] e c = let z : getD m 246 0 ≡ 0 = rw e at c in rw z (label-at (give-free b e) y h ∙ sym (label-at b y h))
-      go (p ∷ ws) e c = let t = rw e at c in rw (t .0, ne-eqb p 0 (omega arith)) (label-at (give-grant b p ws e) y h ∙ sym (label-at b y h))
-
-module _ {m : List ℕ} {ps : List ℕ} {L : Lists} {W : View} {hs : List ℕ} {g q : ℕ} (b : Base m ps L W (q ∷ hs) g) (p : ℕ) (hp : 1 ≤ count p ps)
-    (t : Message (W .note q) (W .reason q)) (y : ℕ) (h : 1 ≤ count y ps) where
-  abbrev K : Lists
-  K = upd L (p * 32 + 5) (L (p * 32 + 5) ++ q ∷ [])
-
-  abbrev j1 : List ℕ
-  j1 = join m (p * 32 + 5) 0 q
-
-  sep-K : Sep ps K
-  sep-K = mail-sep b p 5 hp (omega arith) (omega arith)
-
-  pp : Page p
-  pp = proc-page (b .facts .sep) p hp
-
-  joined : getD j1 (y * 32 + 7) 0 ≡ getD m (y * 32 + 7) 0
-  joined = x1 b p hp t .reads .words .label y (proc-page (b .facts .sep) y h) ∙ sym (label-at b y h)
-
-  deliver-names : getD (deliver m p q) (y * 32 + 7) 0 ≡ getD m (y * 32 + 7) 0
-  unfolding Mail.deliver Mail.heard Mail.awaits Mail.matches
-  deliver-names =
-      go (L (p * 32 + 4)) refl (chain0 sep-K (x1 b p hp t) (p * 32 + 4) (in-own ps p hp, grant-high (p * 32 + 4) (omega (arith, pp))) (omega (arith, pp)))
-      (fits (W .reason p / 16) (W .reason p % 16) (W .note q)) refl
-    where
-      same : K (p * 32 + 4) ≡ L (p * 32 + 4)
-      same = upd-other L (p * 32 + 5) (p * 32 + 4) (L (p * 32 + 5) ++ q ∷ []) (omega arith)
-
-      go : (ys : List ℕ) → L (p * 32 + 4) ≡ ys → Chain j1 0 (p * 32 + 4) (K (p * 32 + 4)) → (c : Bool)
-          → fits (W .reason p / 16) (W .reason p % 16) (W .note q) ≡ c → getD (deliver m p q) (y * 32 + 7) 0 ≡ getD m (y * 32 + 7) 0
-      go [] e c x f = let z : getD j1 (p * 32 + 4) 0 ≡ 0 = rw (same, e) at c in rw z joined
-      go (v ∷ vs) e c false f =
-          let z = rw (same, e) at c in
-          rw (z .0, ne-eqb v 0 (omega arith), reason-at b p hp t, note-at b p hp t, f) joined
-      go (v ∷ vs) e c true f =
-          let z = rw (same, e) at c in
-          let d = b .facts .own p hp v (rw e (omega (arith, hit-self v))) .owner in
-          let at4 : p * 32 + 3 + 1 ≡ p * 32 + 4 = omega arith in
-          let e2 : K (p * 32 + 3 + 1) ≡ p ∷ vs = rw (at4, same, e, d) in
-          rw (z .0, ne-eqb v 0 (omega arith), reason-at b p hp t, note-at b p hp t, f)
-          (wake-names sep-K (x1 b p hp t) (p * 32 + 3) p [] vs (own-sem (b .facts .sep) p hp) e2 y h ∙ joined)
+  deliver-names : (p : ℕ) → 1 ≤ count p ps → Message (W .note q) (W .reason q) → getD (deliver m p q) (y * 32 + 7) 0 ≡ getD m (y * 32 + 7) 0
+  deliver-names p hp t = deliver-frame b p hp t (y * 32 + 7) (λ j u. omega arith) (omega arith) (omega arith) (λ z i. omega arith)
 
 -- ---- one page
 module _ {m : List ℕ} {ps : List ℕ} {L : Lists} {W : View} {hs : List ℕ} {g q : ℕ} (b : Base m ps L W (q ∷ hs) g) where
   pub give-grows : Grown ps m (giveBack m q) []
   give-grows = grown-same b (posts (calm-give b)) ps (λ y h. h) (give-names b)
 
-  abbrev note2 : ℕ → ℕ → List ℕ
-  note2 n f = set (set m (q * 32 + 1) (n * 16 + f)) (q * 32 + 2) 128
-
-  note-mail : (n f : ℕ) → f ≤ 7 → mailOf (note2 n f) q ≡ noticeFrom n f
-  unfolding mailOf words
-  note-mail n f l =
-      let e1 : (n * 16 + f) / 16 ≡ n = omega arith in
-      let e2 : (n * 16 + f) % 16 ≡ f = omega arith in
-      rw (word1 b (n * 16 + f) 128, word2 b (n * 16 + f) 128, e1, e2)
-
-  note-posts : (n f : ℕ) → Posts ps L m (note2 n f)
-  note-posts n f = posts (calm-only (b .facts .sep) m (note2 n f) q (aside-hand b q (in-hand b)) (two b (n * 16 + f) 128))
+  notice-posts : (n f : ℕ) → Posts ps L m (makeNotice m q n f)
+  notice-posts n f = posts (calm-only (b .facts .sep) m (makeNotice m q n f) q (aside-hand b q (in-hand b)) (notice-only b n f))
 
   pub notice-grows : (n f p : ℕ) → 1 ≤ n → n ≤ 15 → 1 ≤ f → f ≤ 7 → 1 ≤ count p ps → Grown ps m (deliver (makeNotice m q n f) p q) ((p, noticeFrom n f) ∷ [])
-  unfolding Mail.makeNotice
   notice-grows n f p n1 n2 f1 f2 hp =
-      let b2 = hand-base q (in-hand b) (two b (n * 16 + f) 128) b in
-      let t = letter b n f n1 n2 f1 f2 in
+      let o = notice-only b n f in
+      let b2 = hand-base q (in-hand b) o b in
+      let t = retold-letter b o (notice-letter b n f n1 n2 f1 f2) in
       record {
         waits = λ y h.
-            waits y (delivered-here b2 p hp t) (λ d. delivered-away b2 p hp t y h d) (waits-same b (note-posts n f) y h) (hit-or y p);
+            grows waitingFor y (delivered-here b2 p hp t) (λ d. delivered-away b2 p hp t y h d) (waits-same b (notice-posts n f) y h) (hit-or y p);
         last = λ y h.
-            last y (delivered-last b2 p hp t) (λ d. delivered-other b2 p hp t y h d) (last-same b (note-posts n f) y h) (hit-or y p);
+            grows (λ x z. held x z 5) y (delivered-last b2 p hp t) (λ d. delivered-other b2 p hp t y h d)
+            (held-same b (notice-posts n f) y 5 h (omega arith) (omega arith)) (hit-or y p);
         names = λ y h.
             let d : y ≢ q = λ e. omega (arith, ap (λ (z : ℕ). count z ps) e, hand-out b q (in-hand b)) in
-            deliver-names b2 p hp t y h ∙ other (set m (q * 32 + 1) (n * 16 + f)) (q * 32 + 2) 128 (y * 32 + 7) (omega arith)
-            ∙ other m (q * 32 + 1) (n * 16 + f) (y * 32 + 7) (omega arith);
+            deliver-names b2 y h p hp t ∙ only-word o y 7 d (omega arith);
       }
     where
-      waits : (y : ℕ) → waitingFor (deliver (note2 n f) p q) p ≡ waitingFor (note2 n f) p ++ mailOf (note2 n f) q ∷ []
-          → (y ≢ p → waitingFor (deliver (note2 n f) p q) y ≡ waitingFor (note2 n f) y) → waitingFor (note2 n f) y ≡ waitingFor m y → (y ≡ p) ⊎ (y ≢ p)
-          → waitingFor (deliver (note2 n f) p q) y ≡ waitingFor m y ++ of y ((p, noticeFrom n f) ∷ [])
-      waits y here away same (inl z) = let k = rw z at same in rw (z, of-here p (noticeFrom n f), here, k, note-mail n f f2)
-      waits y here away same (inr d) = rw (of-other y p (noticeFrom n f) d, append-nil (waitingFor m y)) (away d ∙ same)
-
-      last : (y : ℕ) → held (deliver (note2 n f) p q) p 5 ≡ held (note2 n f) p 5 ++ mailOf (note2 n f) q ∷ []
-          → (y ≢ p → held (deliver (note2 n f) p q) y 5 ≡ held (note2 n f) y 5) → held (note2 n f) y 5 ≡ held m y 5 → (y ≡ p) ⊎ (y ≢ p)
-          → held (deliver (note2 n f) p q) y 5 ≡ held m y 5 ++ of y ((p, noticeFrom n f) ∷ [])
-      last y here away same (inl z) = let k = rw z at same in rw (z, of-here p (noticeFrom n f), here, k, note-mail n f f2)
-      last y here away same (inr d) = rw (of-other y p (noticeFrom n f) d, append-nil (held m y 5)) (away d ∙ same)
+      grows : (F : List ℕ → ℕ → List Letter) (y : ℕ)
+          → F (deliver (makeNotice m q n f) p q) p ≡ F (makeNotice m q n f) p ++ mailOf (makeNotice m q n f) q ∷ []
+          → (y ≢ p → F (deliver (makeNotice m q n f) p q) y ≡ F (makeNotice m q n f) y) → F (makeNotice m q n f) y ≡ F m y → (y ≡ p) ⊎ (y ≢ p)
+          → F (deliver (makeNotice m q n f) p q) y ≡ F m y ++ of y ((p, noticeFrom n f) ∷ [])
+      grows F y here away same (inl z) = let k = rw z at same in rw (z, of-here p (noticeFrom n f), here, k, notice-mail b n f f2)
+      grows F y here away same (inr d) = rw (of-other y p (noticeFrom n f) d, append-nil (F m y)) (away d ∙ same)

@@ -13,7 +13,7 @@ use Rattle.model.specs.declared.Arguments.{Arguments}
 use Rattle.model.specs.Bytes.{processors}
 use Rattle.model.specs.Lists.{count}
 use Rattle.history.specs.Order.{only, only-nil, only-yes, only-no, only-append}
-use Rattle.history.specs.Letter.{Letter, key, waitingFor}
+use Rattle.history.specs.Letter.{Letter, key, waitingFor, and-true}
 use Rattle.history.specs.Put.{Mailed, nothing, runMail}
 use Rattle.history.specs.Lives.{Past, Run, nothing-lost}
 
@@ -30,10 +30,6 @@ same x y = key (x .sender) (x .flag) y && (eqb (x .size) (y .size) && sameText (
 -- how often x is in a list
 unfoldable pub times : Letter → List Letter → ℕ
 times x l = length (only (same x) l)
-
-and-true : (a b : Bool) → a && b ≡ true → (a ≡ true) × (b ≡ true)
-and-true true b e = (refl, e)
-and-true false b e = (cc, cc)
 
 text-is : (xs ys : List ℕ) → sameText xs ys ≡ true → xs ≡ ys
 unfolding sameText

@@ -6,49 +6,42 @@ use mathlib.Core.Bool.{Bool, true, false, cond}
 use mathlib.Core.List.{List, [], _∷_, _++_, append-nil}
 use Prim.Native.Nat.{ℕ, _+_, _-_, _*_, _/_, _%_, _≤_, _<_}
 use native.Mathlib.Omega.{arith}
-use lib.ListN.{length, getD, set}
+use lib.ListN.{getD, set}
 use lib.Dec.{eqb, ltb}
 use borrow.Author.Tests.{eqb-false, ne-eqb, ltb-false}
 use Rattle.model.specs.Address.{guarded, clear}
-use Rattle.model.specs.Queue as Queue
-use Rattle.model.specs.Queue.{first}
-use Rattle.model.specs.Processor as Processor
 use Rattle.model.specs.Mail as Mail
 use Rattle.model.specs.Page.Taken.{took}
 use Rattle.model.specs.Operate as Operate
 use Rattle.model.specs.Answer.{memoryOf}
 use Rattle.model.specs.Bytes as Model
-use Rattle.model.specs.Bytes.{lists, processors, deliver, writeMessage, makeNotice, posted, pageOf, isNamed, takePage, waitsForPage, name, running}
+use Rattle.model.specs.Bytes.{lists, processors, deliver, writeMessage, makeNotice, posted, pageOf, takePage, waitsForPage, running}
 use Rattle.model.specs.Lists.{count, Lists}
-use Rattle.laws.specs.Count.{hit-self, hit-or}
+use Rattle.laws.specs.Count.{hit-or}
 use Rattle.laws.specs.Chain.{Page}
-use Rattle.laws.specs.Inv.{View, view, Label, Message, Base, Inv}
-use Rattle.laws.specs.Judged.{WellFormed, invariant}
-use Rattle.laws.specs.Frames.{other, Only, only-copy}
-use Rattle.laws.specs.Views.{put1-same, retold}
+use Rattle.laws.specs.Inv.{View, view, Label, Message, Base}
+use Rattle.laws.specs.Judged.{WellFormed}
+use Rattle.laws.specs.Frames.{other, Only}
+use Rattle.laws.specs.Views.{retold}
 use Rattle.laws.specs.Changes.{hand-page}
 use Rattle.laws.specs.Hands.{in-hand, hand-base}
 use Rattle.laws.specs.Grants.{Gave, Takes, take-page}
 use Rattle.laws.specs.Grants.Takes.{gets, lacks}
 use Rattle.laws.specs.Still.{aside-hand}
-use Rattle.laws.specs.Post.{deliver-all, two, word1, word2, copy-below}
-use Rattle.laws.specs.Who.{running-at, running-in, listed, label-at}
+use Rattle.laws.specs.Post.{deliver-all, retold-letter, two, notice-only, notice-letter, message-only, message-words, message-letter}
+use Rattle.laws.specs.Who.{listed, label-at, Busy, busy, running-same, label-in}
 use Rattle.laws.specs.Mails.{clear-at}
-use Rattle.laws.specs.Simple.{named-in}
+use Rattle.laws.specs.Simple.{named-in, Open, clear-open, named-same}
 use Rattle.history.specs.Order.{only}
-use Rattle.history.specs.Letter.{Letter, mailOf, words, key, waitingFor, Same, posts, posts-then, agrees, waits-same, procs-same}
-use Rattle.history.specs.Put.{Mailed, of, nothing, putting, noticeFrom, posting, hasPage, smeMail}
+use Rattle.history.specs.Letter.{Letter, mailOf, words, key, waitingFor, Same, posts, posts-then, agrees, waits-same, procs-same, words-moved, held}
+use Rattle.history.specs.Letter.{held-same}
+use Rattle.history.specs.Put.{of, nothing, putting, noticeFrom, posting, hasPage, smeMail}
 use Rattle.history.specs.Calm.{calm-only}
-use Rattle.history.specs.Told.{Told, Stands, of-none, of-here, of-other, stands-none, told-same, calm-done, runs-in}
-use Rattle.history.specs.Quiet.{fails, Open, clear-open}
-use Rattle.history.specs.Making.{calm-takes, takes-word, page-waits}
-use Rattle.history.specs.Delivering.{held, held-same, delivered-last, delivered-here, delivered-away}
-use Rattle.history.specs.Copied.{copy-at, words-moved}
-
--- the two laws of one call
-pub record Sent (m m′ : List ℕ) (e : Mailed) : Type 0 where
-  pub told : Told m m′ e
-  pub stands : Stands m′ e
+use Rattle.history.specs.Told.{Told, Stands, of-none, of-here, of-other, calm-done, runs-in, Sent, sent-same}
+use Rattle.history.specs.Quiet.{fault-sent}
+use Rattle.history.specs.Taking.{calm-takes, takes-word, page-waits}
+use Rattle.history.specs.Delivering.{delivered-last, delivered-here, delivered-away, notice-mail}
+use Rattle.history.specs.Copied.{copy-at}
 
 -- ---- a page taken from m, then written, then delivered
 module _ {m : List ℕ} {ps : List ℕ} {L : Lists} {W : View} (b : Base m ps L W [] 32) {q : ℕ} {m1 m2 : List ℕ} {K : Lists} {X : View} (s1 : Same ps L m m1)
@@ -58,7 +51,7 @@ module _ {m : List ℕ} {ps : List ℕ} {L : Lists} {W : View} (b : Base m ps L 
   b2 = hand-base q (in-hand b1) o b1
 
   t2 : Message (retold m2 X q .note q) (retold m2 X q .reason q)
-  t2 = rw (put1-same (X .note) q (getD m2 (q * 32 + 1) 0) q refl, put1-same (X .reason) q (getD m2 (q * 32 + 2) 0) q refl) letter
+  t2 = retold-letter b1 o letter
 
   abbrev m3 : List ℕ
   m3 = deliver m2 p q
@@ -111,28 +104,7 @@ module _ {m : List ℕ} {ps : List ℕ} {L : Lists} {W : View} {hs : List ℕ} {
   hq : Page q
   hq = hand-page b q (in-hand b)
 
-  notice-only : (n f : ℕ) → Only q m (makeNotice m q n f)
-  unfolding Mail.makeNotice
-  notice-only n f = two b (n * 16 + f) 128
-
-  notice-words : (n f : ℕ) → (getD (makeNotice m q n f) (q * 32 + 1) 0 ≡ n * 16 + f) × (getD (makeNotice m q n f) (q * 32 + 2) 0 ≡ 128)
-  unfolding Mail.makeNotice
-  notice-words n f = (word1 b (n * 16 + f) 128, word2 b (n * 16 + f) 128)
-
-  notice-mail : (n f : ℕ) → f ≤ 7 → mailOf (makeNotice m q n f) q ≡ noticeFrom n f
-  unfolding mailOf words
-  notice-mail n f u =
-      let e1 : (n * 16 + f) / 16 ≡ n = omega arith in
-      let e2 : (n * 16 + f) % 16 ≡ f = omega arith in
-      rw (notice-words n f .0, notice-words n f .1, e1, e2)
-
-  notice-letter : (n f : ℕ) → 1 ≤ n → n ≤ 15 → 1 ≤ f → f ≤ 7
-      → Message (getD (makeNotice m q n f) (q * 32 + 1) 0) (getD (makeNotice m q n f) (q * 32 + 2) 0)
-  notice-letter n f i j k l =
-      rw (notice-words n f .0, notice-words n f .1)
-      (record { sender = omega arith; known = omega arith; flag = omega arith; small = omega arith; long = λ z. absurd (z refl) })
-
-  module _ (f a l : ℕ) (f1 : 1 ≤ f) (f2 : f ≤ 7) (l2 : l ≤ 29) (la : a < 8192) where
+  module _ (f a l : ℕ) (f2 : f ≤ 7) (l2 : l ≤ 29) (la : a < 8192) where
     abbrev v : ℕ
     v = getD m (getD m 248 0 * 32 + 7) 0 % 16 * 16 + f
 
@@ -141,22 +113,6 @@ module _ {m : List ℕ} {ps : List ℕ} {L : Lists} {W : View} {hs : List ℕ} {
 
     abbrev mc : List ℕ
     mc = writeMessage m q f a l
-
-    written-only : Only q m mc
-    unfolding Mail.writeMessage
-    written-only = only-copy l mw a (q * 32 + 3) (omega (arith, hq)) (omega arith) (omega arith) (two b v l)
-
-    written-words : (getD mc (q * 32 + 1) 0 ≡ v) × (getD mc (q * 32 + 2) 0 ≡ l)
-    unfolding Mail.writeMessage
-    written-words = (
-      copy-below l mw a (q * 32 + 3) (q * 32 + 1) (omega arith) (omega (arith, hq)) ∙ word1 b v l,
-      copy-below l mw a (q * 32 + 3) (q * 32 + 2) (omega arith) (omega (arith, hq)) ∙ word2 b v l,
-    )
-
-    written-letter : Label (getD m (getD m 248 0 * 32 + 7) 0) → Message (getD mc (q * 32 + 1) 0) (getD mc (q * 32 + 2) 0)
-    written-letter n =
-        rw (written-words .0, written-words .1)
-        (record { sender = omega (arith, n .name); known = omega arith; flag = omega arith; small = omega arith; long = λ z. l2 })
 
     -- the text, from words that are on no control page
     written-text : ((i : ℕ) → i < l → (a + i) % 8192 < 7552) → words mc (q * 32 + 3) l ≡ words m a l
@@ -177,36 +133,14 @@ module _ {m : List ℕ} {ps : List ℕ} {L : Lists} {W : View} {hs : List ℕ} {
         let e1 : (getD m (getD m 248 0 * 32 + 7) 0 % 16 * 16 + f) / 16 ≡ getD m (getD m 248 0 * 32 + 7) 0 % 16 = omega arith in
         let e2 : (getD m (getD m 248 0 * 32 + 7) 0 % 16 * 16 + f) % 16 ≡ f = omega arith in
         let e3 : l % 128 ≡ l = omega arith in
-        rw (written-words .0, written-words .1, e1, e2, e3, written-text far)
+        rw (message-words b f a l l2 .0, message-words b f a l l2 .1, e1, e2, e3, written-text far)
 
 -- ---- the instruction
-first-same : (f g : ℕ → Bool) (xs : List ℕ) → ((x : ℕ) → 1 ≤ count x xs → f x ≡ g x) → first f xs ≡ first g xs
-unfolding Queue.first
-first-same f g [] h = refl
-first-same f g (z ∷ zs) h = go (g z) refl (h z (omega (arith, hit-self z))) (first-same f g zs (λ y i. h y (omega arith)))
-  where
-    go : (c : Bool) → g z ≡ c → f z ≡ g z → first f zs ≡ first g zs → first f (z ∷ zs) ≡ first g (z ∷ zs)
-    go true e k ih = let e2 = k ∙ e in rw (e, e2, Queue.first)
-    go false e k ih = let e2 = k ∙ e in rw (e, e2, Queue.first) ih
-
 module _ {m : List ℕ} (w : WellFormed m) (d : getD m 248 0 ≢ 0) where
-  iv : Inv m (lists m 247) (lists m) (view m)
-  iv = invariant w
-
-  b : Base m (lists m 247) (lists m) (view m) [] 32
-  b = iv .base
+  open Busy (busy w d) using (base as b, runs as hr)
 
   abbrev r : ℕ
   r = getD m 248 0
-
-  hr : 1 ≤ count r (lists m 247)
-  hr = running-in b d
-
-  quiet-sent : (m′ : List ℕ) → Same (lists m 247) (lists m) m m′ → Sent m m′ nothing
-  quiet-sent m′ s = record { told = told-same b m′ s; stands = stands-none m′ }
-
-  fault-sent : (f : ℕ) → Sent m (memoryOf (Model.fault m f)) nothing
-  fault-sent f = quiet-sent (memoryOf (Model.fault m f)) (fails w d f)
 
   -- page q is taken
   module _ (q : ℕ) (m1 : List ℕ) (e : takePage m r ≡ took q m1) (t : Gave m1 (lists m 247) (q ∷ []) 32 (view m)) (k : t .view .label ≡ view m .label) where
@@ -214,7 +148,7 @@ module _ {m : List ℕ} (w : WellFormed m) (d : getD m 248 0 ≢ 0) where
     s1 = calm-takes b r hr q m1 e
 
     run1 : getD m1 248 0 ≡ getD m 248 0
-    run1 = running-at (t .base) ∙ ap (λ (z : ℕ → ℕ). z 248) (t .low)
+    run1 = running-same b t
 
     in1 : 1 ≤ count (getD m1 248 0) (lists m 247)
     in1 = rw run1 hr
@@ -223,12 +157,10 @@ module _ {m : List ℕ} (w : WellFormed m) (d : getD m 248 0 ≢ 0) where
     label1 p h = label-at (t .base) p h ∙ ap (λ (z : ℕ → ℕ). z p) k
 
     page1 : (n : ℕ) → pageOf m1 n ≡ pageOf m n
-    unfolding Processor.isNamed
-    page1 n =
-        rw (listed (t .base), listed b) (first-same (isNamed m1 n) (isNamed m n) (lists m 247) (λ p h. rw (label1 p h)))
+    page1 n = rw (listed (t .base), listed b) (named-same m m1 n (lists m 247) label1)
 
     named : Label (getD m1 (getD m1 248 0 * 32 + 7) 0)
-    named = rw (label-at (t .base) (getD m1 248 0) in1) (t .base .facts .names .range (getD m1 248 0) in1)
+    named = label-in (t .base) (getD m1 248 0) in1
 
     notice-sent : (n f len : ℕ) → 1 ≤ n → n ≤ 15 → 1 ≤ f → f ≤ 7
         → Sent m (memoryOf (Model.done (deliver (makeNotice m1 q n f) (getD m1 248 0) q) len)) (putting ((getD m 248 0, noticeFrom n f) ∷ []))
@@ -244,8 +176,8 @@ module _ {m : List ℕ} (w : WellFormed m) (d : getD m 248 0 ≢ 0) where
         let tx : words m1 a l ≡ words m a l = words-moved m m1 a a l la la (λ i h. takes-word b r hr q m1 e ((a + i) % 8192) (o i h)) in
         let lb : getD m1 (getD m1 248 0 * 32 + 7) 0 ≡ getD m (getD m 248 0 * 32 + 7) 0 =
         label1 (getD m1 248 0) in1 ∙ ap (λ (z : ℕ). getD m (z * 32 + 7) 0) run1 in
-        let wm = written-mail (t .base) f a l f1 f2 l2 la (λ i h. o i h .below) in
-        let h = put-sent b s1 (t .base) (written-only (t .base) f a l f1 f2 l2 la) p hp (written-letter (t .base) f a l f1 f2 l2 la named) len in
+        let wm = written-mail (t .base) f a l f2 l2 la (λ i h. o i h .below) in
+        let h = put-sent b s1 (t .base) (message-only (t .base) f a l l2) p hp (message-letter (t .base) f a l l2 f1 f2 named) len in
         rw (wm, lb, tx) at h
 
     posted-sent : (n f a len : ℕ) → 1 ≤ n → n ≤ 15 → 1 ≤ f → f ≤ 7 → getD m a 0 ≤ 29 → clear (getD m a 0) ((a + 1) % 8192) ≡ true
@@ -267,28 +199,22 @@ module _ {m : List ℕ} (w : WellFormed m) (d : getD m 248 0 ≢ 0) where
       go : Takes m r (lists m 247) (lists m) (view m) [] 32
           → Sent m (memoryOf (Model.sent m n f a (getD m a 0) len)) (cond (hasPage (takePage m (running m))) (putting (posting m n f a ∷ [])) nothing)
       go (gets q m1 e z t k) = rw (e, ne-eqb q 0 z) (posted-sent q m1 e t k n f a len n1 n2 f1 f2 l2 c)
-      go (lacks e f3 g3) = rw e (quiet-sent (memoryOf (waitsForPage m)) (page-waits w d f3 g3))
+      go (lacks e f3 g3) = rw e (sent-same b (memoryOf (waitsForPage m)) (page-waits w d f3 g3))
 
-  sme-sent : (n f a len : ℕ) → n < 16 → f < 8 → Sent m (memoryOf (Model.sme m n f a len)) (smeMail m n f a)
+  pub sme-sent : (n f a len : ℕ) → n < 16 → f < 8 → Sent m (memoryOf (Model.sme m n f a len)) (smeMail m n f a)
   unfolding Operate.sme Operate.smeText smeMail
   sme-sent n f a len hn hf =
       go (eqb n 0) (eqb f 0) (guarded a) (ltb 29 (getD m a 0)) (clear (getD m a 0) ((a + 1) % 8192)) refl refl refl refl refl
     where
       go : (x1 x2 x3 x4 x5 : Bool) → eqb n 0 ≡ x1 → eqb f 0 ≡ x2 → guarded a ≡ x3 → ltb 29 (getD m a 0) ≡ x4 → clear (getD m a 0) ((a + 1) % 8192) ≡ x5
           → Sent m (memoryOf (Model.sme m n f a len)) (smeMail m n f a)
-      go true x2 x3 x4 x5 e1 e2 e3 e4 e5 = rw e1 (fault-sent 12)
-      go false true x3 x4 x5 e1 e2 e3 e4 e5 = rw (e1, e2) (fault-sent 12)
-      go false false true x4 x5 e1 e2 e3 e4 e5 = rw (e1, e2, e3) (fault-sent 11)
-      go false false false true x5 e1 e2 e3 e4 e5 = rw (e1, e2, e3, e4) (fault-sent 12)
-      go false false false false false e1 e2 e3 e4 e5 = rw (e1, e2, e3, e4, e5) (fault-sent 11)
+      go true x2 x3 x4 x5 e1 e2 e3 e4 e5 = rw e1 (fault-sent w d 12)
+      go false true x3 x4 x5 e1 e2 e3 e4 e5 = rw (e1, e2) (fault-sent w d 12)
+      go false false true x4 x5 e1 e2 e3 e4 e5 = rw (e1, e2, e3) (fault-sent w d 11)
+      go false false false true x5 e1 e2 e3 e4 e5 = rw (e1, e2, e3, e4) (fault-sent w d 12)
+      go false false false false false e1 e2 e3 e4 e5 = rw (e1, e2, e3, e4, e5) (fault-sent w d 11)
       go false false false false true e1 e2 e3 e4 e5 =
           let n1 = eqb-false n 0 e1 in
           let f1 = eqb-false f 0 e2 in
           let l1 = ltb-false 29 (getD m a 0) e4 in
           rw (e1, e2, e3, e4, e5) (to-sent n f a len (omega arith) (omega arith) (omega arith) (omega arith) (omega arith) e5)
-
-  pub sme-told : (n f a len : ℕ) → n < 16 → f < 8 → Told m (memoryOf (Model.sme m n f a len)) (smeMail m n f a)
-  sme-told n f a len hn hf = sme-sent n f a len hn hf .told
-
-  pub sme-stands : (n f a len : ℕ) → n < 16 → f < 8 → Stands (memoryOf (Model.sme m n f a len)) (smeMail m n f a)
-  sme-stands n f a len hn hf = sme-sent n f a len hn hf .stands

@@ -1,33 +1,30 @@
 -- Instructions: WNM and TME put and read nothing, and keep the step law. Assumes nothing.
 use mathlib.Core.Path.{_≡_, refl, sym, ap, _∙_}
 use mathlib.Core.Logic.{_≢_, _⊎_, inl, inr}
-use mathlib.Core.Bool.{Bool, true, false, cond}
+use mathlib.Core.Bool.{Bool, true, false}
 use mathlib.Core.List.{List, [], _∷_, _++_, append-nil, map}
-use Prim.Native.Nat.{ℕ, zero, suc, _+_, _-_, _*_, _/_, _%_, _≤_, _<_}
+use Prim.Native.Nat.{ℕ, _+_, _-_, _*_, _≤_, _<_}
 use native.Mathlib.Omega.{arith}
-use lib.ListN.{length, getD, set}
+use lib.ListN.{getD}
 use lib.Dec.{eqb}
 use borrow.Author.Tests.{eqb-true, eqb-false}
 use Rattle.model.specs.Queue as Queue
 use Rattle.model.specs.Queue.{first}
 use Rattle.model.specs.Mail as Mail
-use Rattle.model.specs.Mail.{fits, Tested}
-use Rattle.model.specs.Mail.Tested.{tested}
 use Rattle.model.specs.Operate as Operate
 use Rattle.model.specs.Answer.{memoryOf}
 use Rattle.model.specs.Bytes as Model
-use Rattle.model.specs.Bytes.{lists, queue, processors, move, matches, testQ1}
+use Rattle.model.specs.Bytes.{lists, queue, move, matches, testQ1}
 use Rattle.model.specs.Lists.{count, Lists}
-use Rattle.laws.specs.Count.{hit-self, hit-or}
-use Rattle.laws.specs.Uses.{Sep, proc-page}
-use Rattle.laws.specs.Inv.{View, view, Waits, Base, Inv}
-use Rattle.laws.specs.Judged.{WellFormed, invariant}
+use Rattle.laws.specs.Count.{hit-or}
+use Rattle.laws.specs.Inv.{View, Base}
+use Rattle.laws.specs.Judged.{WellFormed}
 use Rattle.laws.specs.Changes.{own-sem}
-use Rattle.laws.specs.Who.{running-in, listed}
-use Rattle.laws.specs.Chain.{Chain}
-use Rattle.laws.specs.Mails.{first-none, mail-chain, mail-queue, mail-some, test-end, test-hit, test-miss, test-nought}
+use Rattle.laws.specs.Who.{listed, Busy, busy}
+use Rattle.laws.specs.Mails.{mail-queue, wnm-fit, first-mail}
+use Rattle.laws.specs.Words.{either, Tried, test-kept}
 use Rattle.history.specs.Order.{only, Fails}
-use Rattle.history.specs.Letter.{Letter, mailOf, key, asked, asked-page, waitingFor, Same, posts, waits-same, procs-same}
+use Rattle.history.specs.Letter.{mailOf, key, asked, asked-page, waitingFor, Same, posts, waits-same, procs-same}
 use Rattle.history.specs.Put.{nothing}
 use Rattle.history.specs.Told.{Told, of-none, told-same, calm-done, calm-jumps, calm-waits, runs-in}
 use Rattle.history.specs.Moving.{moved, move-lists, moved-away, moved-order, moved-first}
@@ -78,61 +75,21 @@ told-order {m} b b1 m2 s f =
     }
 
 -- ---- TME: every tested message goes to the end of Q2, the first of Q1 first: what waits stays, word for word
-record Kept (m : List ℕ) (t : Tested (List ℕ)) (ps : List ℕ) (W : View) : Type 0 where
-  found : Bool
-  memory : List ℕ
-  is : t ≡ tested found memory
-  lists : Lists
-  base : Base memory ps lists W [] 32
-  waits : (y : ℕ) → 1 ≤ count y ps → waitingFor memory y ≡ waitingFor m y
+abbrev Waiting : List ℕ → List ℕ → View → List ℕ → Type 0
+Waiting m ps W x = (K : Lists) × Base x ps K W [] 32 × ((y : ℕ) → 1 ≤ count y ps → waitingFor x y ≡ waitingFor m y)
 
-test-keeps : {ps : List ℕ} {W : View} (k : ℕ) (m : List ℕ) (L : Lists) (p n f : ℕ) → 1 ≤ count p ps → Base m ps L W [] 32 → Kept m (testQ1 k m p n f) ps W
-test-keeps zero m L p n f h b = record { found = false; memory = m; is = test-nought m p n f; lists = L; base = b; waits = λ y i. refl }
-test-keeps {ps} {W} (suc k) m L p n f h b =
-    go (λ m′ K c. test-keeps k m′ K p n f h c) (L (p * 32 + 5)) refl (mail-chain b p 5 h (omega arith) (omega arith)) (matches m n f (getD m (p * 32 + 5) 0))
-    refl
-  where
-    go : ((m′ : List ℕ) (K : Lists) → Base m′ ps K W [] 32 → Kept m′ (testQ1 k m′ p n f) ps W) → (xs : List ℕ) → L (p * 32 + 5) ≡ xs
-        → Chain m 0 (p * 32 + 5) (L (p * 32 + 5)) → (c : Bool) → matches m n f (getD m (p * 32 + 5) 0) ≡ c → Kept m (testQ1 (suc k) m p n f) ps W
-    go ih [] e c t d = record { found = false; memory = m; is = test-end k m p n f (rw e at c); lists = L; base = b; waits = λ y i. refl }
-    go ih (x ∷ xs) e c true d =
-        let z = rw e at c in
-        let x0 = getD m (p * 32 + 5) 0 in
-        let e0 : L (p * 32 + 5) ≡ getD m (p * 32 + 5) 0 ∷ xs = rw (z .0) e in
-        record {
-          found = true;
-          memory = move m p x0;
-          is = test-hit k m p n f (omega (arith, z)) d;
-          lists = moved b p x0 [] xs h e0;
-          base = move-lists b p x0 [] xs h e0;
-          waits = moved-first b p x0 xs h e0;
-        }
-    go ih (x ∷ xs) e c false d =
-        let z = rw e at c in
-        let x0 = getD m (p * 32 + 5) 0 in
-        let e0 : L (p * 32 + 5) ≡ getD m (p * 32 + 5) 0 ∷ xs = rw (z .0) e in
-        let r = ih (move m p x0) (moved b p x0 [] xs h e0) (move-lists b p x0 [] xs h e0) in
-        rw (test-miss k m p n f (omega (arith, z)) d) (record {
-          found = r .found;
-          memory = r .memory;
-          is = r .is;
-          lists = r .lists;
-          base = r .base;
-          waits = λ y i. r .waits y i ∙ moved-first b p x0 xs h e0 y i;
-        })
+test-keeps : {m : List ℕ} {ps : List ℕ} {L : Lists} {W : View} (p n f : ℕ) → 1 ≤ count p ps → Base m ps L W [] 32 → Tried (Waiting m ps W) (testQ1 20 m p n f)
+test-keeps {m} {ps} {L} {W} p n f h b = test-kept (Waiting m ps W) p (λ x t d.
+    let q = getD x (p * 32 + 5) 0 in
+    let r = first-mail (t .1) p h d in
+    (moved (t .1) p q [] (r .0) h (r .1), move-lists (t .1) p q [] (r .0) h (r .1), λ y i. moved-first (t .1) p q (r .0) h (r .1) y i ∙ t .2 y i)) 20 m n f
+    (L, b, λ y i. refl)
 
 module _ {m : List ℕ} (w : WellFormed m) (d : getD m 248 0 ≢ 0) where
-  iv : Inv m (lists m 247) (lists m) (view m)
-  iv = invariant w
-
-  b : Base m (lists m 247) (lists m) (view m) [] 32
-  b = iv .base
+  open Busy (busy w d) using (base as b, runs as hr, ready)
 
   abbrev r : ℕ
   r = getD m 248 0
-
-  hr : 1 ≤ count r (lists m 247)
-  hr = running-in b d
 
   pub wnm-told : (n f len : ℕ) → f < 8 → Told m (memoryOf (Model.wnm m n f len)) nothing
   unfolding Operate.wnm Mail.matches
@@ -141,27 +98,10 @@ module _ {m : List ℕ} (w : WellFormed m) (d : getD m 248 0 ≢ 0) where
       q5 : queue m (r * 32 + 5) ≡ lists m (r * 32 + 5)
       q5 = mail-queue b r 5 hr (omega arith) (omega arith)
 
-      none : first (matches m n f) (queue m (r * 32 + 5)) ≡ 0 → (q : ℕ) → 1 ≤ count q (lists m (r * 32 + 5)) → fits n f (getD m (q * 32 + 1) 0) ≡ false
-      none e q h = first-none (matches m n f) (lists m (r * 32 + 5)) (mail-some b r 5 hr (omega arith) (omega arith)) (rw q5 at e) q h
-
-      own : first (matches m n f) (queue m (r * 32 + 5)) ≡ 0 → (y : ℕ) → r * 32 + 3 ≡ y * 32 + 3
-          → Waits (n * 16 + f) (λ q. getD m (q * 32 + 1) 0) (lists m (y * 32 + 5)) y r
-      own z y e =
-          let t : y ≡ r = omega arith in
-          let c1 : (n * 16 + f) / 16 ≡ n = omega arith in
-          let c2 : (n * 16 + f) % 16 ≡ f = omega arith in
-          rw t (record { owner = refl; flag = omega arith; none = λ q h. rw (c1, c2) (none z q h) })
-
       go : (c : Bool) → eqb (Model.inQ1 m n f) 0 ≡ c → Told m (memoryOf (Model.wnm m n f len)) nothing
       go true e =
-          let z = eqb-true (Model.inQ1 m n f) 0 e in
-          let pg = proc-page (b .facts .sep) r hr in
           rw e (told-same b (memoryOf (Model.waits m (r * 32 + 3) (n * 16 + f))) (calm-waits b (r * 32 + 3) (n * 16 + f) d (own-sem (b .facts .sep) r hr)
-          (omega (arith, iv .best .ready d)) (record {
-            line = λ k h c. absurd (omega arith);
-            page = λ c. absurd (omega arith);
-            own = λ y h c. own z y c;
-          })))
+          (omega (arith, ready)) (wnm-fit w d n f hf (eqb-true (Model.inQ1 m n f) 0 e))))
       go false e =
           let q = Model.inQ1 m n f in
           let t : Found m n f q (queue m (r * 32 + 5)) = found m n f (queue m (r * 32 + 5)) (eqb-false (Model.inQ1 m n f) 0 e) in
@@ -178,16 +118,13 @@ module _ {m : List ℕ} (w : WellFormed m) (d : getD m 248 0 ≢ 0) where
 
   tests-told : (n f a len : ℕ) → Told m (memoryOf (Model.tmeQ1 m n f a len)) nothing
   unfolding Operate.tmeQ1
-  tests-told n f a len = let t = test-keeps 20 m (lists m) r n f hr b in rw (t .is) (go (t .found) t)
-    where
-      go : (c : Bool) → (t : Kept m (testQ1 20 m r n f) (lists m 247) (view m))
-          → Told m (memoryOf (cond c (Model.jumps (t .memory) a) (Model.done (t .memory) len))) nothing
-      go true t =
-          told-order b (t .base) (memoryOf (Model.jumps (t .memory) a)) (calm-jumps (t .base .facts .sep) (t .memory) (runs-in (t .base)) a)
-          (λ p h k l. ap (only (key k l)) (t .waits p h))
-      go false t =
-          told-order b (t .base) (memoryOf (Model.done (t .memory) len)) (calm-done (t .base .facts .sep) (t .memory) (runs-in (t .base)) len)
-          (λ p h k l. ap (only (key k l)) (t .waits p h))
+  tests-told n f a len =
+      let t = test-keeps r n f hr b in
+      let c = t .kept .1 in
+      let x = t .memory in
+      rw (t .is) (either (λ (o : Model.Step). Told m (memoryOf o) nothing) (t .found)
+      (told-order b c (memoryOf (Model.jumps x a)) (calm-jumps (c .facts .sep) x (runs-in c) a) (λ p h k l. ap (only (key k l)) (t .kept .2 p h)))
+      (told-order b c (memoryOf (Model.done x len)) (calm-done (c .facts .sep) x (runs-in c) len) (λ p h k l. ap (only (key k l)) (t .kept .2 p h))))
 
   pub tme-told : (n f a len : ℕ) → Told m (memoryOf (Model.tme m n f a len)) nothing
   unfolding Operate.tme

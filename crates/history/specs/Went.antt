@@ -16,13 +16,13 @@ use Rattle.model.specs.Turn.{nineteen}
 use Rattle.model.specs.Processor as Processor
 use Rattle.model.specs.Answer as Answer
 use Rattle.model.specs.Answer.{memoryOf}
-use Rattle.model.specs.Bytes.{whoRuns, save, load, onPage0, keptOn, kept, restored, chosen, running, setLr, lr, done}
+use Rattle.model.specs.Bytes.{whoRuns, save, load, onPage0, keptOn, kept, chosen, running, lr, done}
 use Rattle.laws.specs.Count.{hit-or}
 use Rattle.laws.specs.Chain.{Page}
 use Rattle.laws.specs.Frames.{other}
 use Rattle.laws.specs.Words.{either}
-use Rattle.laws.specs.Who.{zero-low}
-use Rattle.laws.specs.Frame.{restored-frame, turn-frame}
+use Rattle.laws.specs.Who.{zero-low, kept-size, restored-size, kept-frame, restored-frame}
+use Rattle.laws.specs.Frame.{turn-frame}
 
 -- where the word of address c stands for the processor of page r while another runs: one of the first n of the nineteen words of page 0 is kept on page r,
 -- every other stays in place
@@ -54,23 +54,6 @@ home (suc n) r c = go (eqb c (zeroPlace n)) refl (home n r c)
     go false e (miss f k) = let q : keptAt (suc n) r c ≡ keptAt n r c = rw (e, keptAt) in miss (λ i h. off f e i h (hit-or i n)) (q ∙ k)
 
 -- ---- what is saved
-pub kept-size : (n : ℕ) (m : List ℕ) (p : ℕ) (w : List ℕ) → length (kept n m p w) ≡ length m
-unfolding Turn.kept
-kept-size zero m p w = refl
-kept-size (suc n) m p w = kept-size n (set m (p * 32 + (13 + n)) (getD w n 0)) p w ∙ (simp length-set refl)
-
-restored-size : (n : ℕ) (m : List ℕ) (w : List ℕ) → length (restored n m w) ≡ length m
-unfolding Turn.restored
-restored-size zero m w = refl
-restored-size (suc n) m w = restored-size n (set m (zeroPlace n) (getD w n 0)) w ∙ (simp length-set refl)
-
-kept-past : (n : ℕ) (m : List ℕ) (p : ℕ) (w : List ℕ) → (i : ℕ) → n ≤ i → getD (kept n m p w) (p * 32 + (13 + i)) 0 ≡ getD m (p * 32 + (13 + i)) 0
-unfolding Turn.kept
-kept-past zero m p w i h = refl
-kept-past (suc n) m p w i h =
-    kept-past n (set m (p * 32 + (13 + n)) (getD w n 0)) p w i (omega arith)
-    ∙ other m (p * 32 + (13 + n)) (getD w n 0) (p * 32 + (13 + i)) (omega arith)
-
 kept-at : (n : ℕ) (m : List ℕ) (p : ℕ) (w : List ℕ) → length m ≡ 8192 → p < 256 → n ≤ 19 → (i : ℕ) → i < n
     → getD (kept n m p w) (p * 32 + (13 + i)) 0 ≡ getD w i 0
 unfolding Turn.kept
@@ -80,7 +63,8 @@ kept-at (suc n) m p w z l u i h = go (hit-or i n) (kept-at n (set m (p * 32 + (1
     go : (i ≡ n) ⊎ (i ≢ n) → (i < n → getD (kept n (set m (p * 32 + (13 + n)) (getD w n 0)) p w) (p * 32 + (13 + i)) 0 ≡ getD w i 0)
         → getD (kept n (set m (p * 32 + (13 + n)) (getD w n 0)) p w) (p * 32 + (13 + i)) 0 ≡ getD w i 0
     go (inl e) ih =
-        rw e (kept-past n (set m (p * 32 + (13 + n)) (getD w n 0)) p w n (omega arith) ∙ getD-set-same m (p * 32 + (13 + n)) (getD w n 0) 0 (omega arith))
+        rw e (kept-frame n (set m (p * 32 + (13 + n)) (getD w n 0)) p w (p * 32 + (13 + n)) (λ j k. omega arith)
+        ∙ getD-set-same m (p * 32 + (13 + n)) (getD w n 0) 0 (omega arith))
     go (inr e) ih = ih (omega arith)
 
 -- a list is f k, f (k + 1) and so on
@@ -146,7 +130,7 @@ module _ (m : List ℕ) (z : length m ≡ 8192) (g : Page (getD m 248 0)) where
   unfolding Turn.load
   saved2 i h =
       either (λ (x : List ℕ). getD x (r * 32 + (13 + i)) 0 ≡ getD m1 (r * 32 + (13 + i)) 0) (eqb t 0) refl
-      (restored-frame 19 m1 (keptOn m1 t) (r * 32 + (13 + i)) (omega arith) (λ j k. let l = zero-low j k in omega (arith, g)))
+      (restored-frame 19 m1 (keptOn m1 t) (r * 32 + (13 + i)) (λ j k. let l = zero-low j k in omega (arith, g)))
 
   saved : (i : ℕ) → i < 19 → getD m3 (r * 32 + (13 + i)) 0 ≡ getD m (zeroPlace i) 0
   saved i h =

@@ -1,5 +1,5 @@
--- The instruction as a whole: what holds of each instruction with its mail, and of every end that moves no message, holds of the call, direct and by EXI. So the
--- step law holds of it, what it put stands at the end of Q1, and what it read stands where it was to go. Assumes nothing.
+-- The instruction as a whole: what holds of each instruction with its mail, and of every end that moves no message, holds of the call, direct and by EXI. So
+-- the step law holds of it, what it put stands at the end of Q1, and what it read stands where it was to go. Assumes nothing.
 use mathlib.Core.Path.{_≡_, refl}
 use mathlib.Core.Logic.{_≢_, inl, inr}
 use mathlib.Core.Bool.{Bool, true, false}
@@ -17,8 +17,7 @@ use Rattle.model.specs.Answer.{memoryOf}
 use Rattle.model.specs.Execute as Execute
 use Rattle.model.specs.Call as Call
 use Rattle.model.specs.Bytes as Model
-use Rattle.model.specs.Bytes.{Step, lists, direct, pointed, run, foreign, isForeign, argumentFault, argued, exi, taken, decoded, coded, fetched, kind, lr}
-use Rattle.model.specs.Bytes.{instruction}
+use Rattle.model.specs.Bytes.{Step, lists, direct, pointed, run, foreign, isForeign, argumentFault, argued, exi, fetched, kind, lr, instruction}
 use Rattle.laws.specs.Judged.{WellFormed, invariant}
 use Rattle.laws.specs.Words.{Small, either}
 use Rattle.laws.specs.Run.{Bound, direct-bound, pointed-bound}
@@ -32,8 +31,8 @@ use Rattle.history.specs.Making.{crp-told}
 use Rattle.history.specs.Tests.{wnm-told, tme-told}
 use Rattle.history.specs.Reading.{rme-told}
 use Rattle.history.specs.Written.{Written, written-empty, written-none, rme-written, direct-address, pointed-address}
-use Rattle.history.specs.Sending.{sme-told, sme-stands}
-use Rattle.history.specs.Deleting.{dep-told, dep-stands}
+use Rattle.history.specs.Sending.{sme-sent}
+use Rattle.history.specs.Deleting.{dep-sent}
 
 -- ---- two lists in step: what holds of their elements at each place, and of the two ends
 abbrev Pairs : {A B : Type 0} → (A → B → Type 0) → ℕ → ℕ → List A → List B → Type 0
@@ -61,7 +60,7 @@ pub record Parts (m : List ℕ) (P : List ℕ → Mailed → Type 0) : Type 0 wh
   pub rme : (n f a len : ℕ) → a < 8192 → P (memoryOf (Model.rme m n f a len)) (rmeMail m n f a)
   pub tme : (n f a len : ℕ) → P (memoryOf (Model.tme m n f a len)) nothing
   pub crp : (n r v a len : ℕ) → n < 16 → r < 16 → P (memoryOf (Model.crp m n r v a len)) nothing
-  pub dep : (n len : ℕ) → n < 16 → P (memoryOf (Model.named m 12 n len)) (depMail m n)
+  pub dep : (n len : ℕ) → P (memoryOf (Model.named m 12 n len)) (depMail m n)
 
 -- what the arguments of code c hold
 record Asks (c : ℕ) (x : Arguments) : Type 0 where
@@ -115,7 +114,7 @@ module _ {m : List ℕ} (w : WellFormed m) (d : getD m 248 0 ≢ 0) (s : Small m
                             (
                               (λ i. h .crp (x .field) (x .second) (x .w) (x .address) len bf (b .create i)),
                               (
-                                (λ i. h .dep (x .field) len bf),
+                                (λ i. h .dep (x .field) len),
                                 (
                                   (λ i. q _ (thirteen-calm w d (x .field) (x .second) (x .address) len)),
                                   ((λ i. z), tt),
@@ -177,7 +176,8 @@ module _ {m : List ℕ} (w : WellFormed m) (d : getD m 248 0 ≢ 0) (s : Small m
       go false true false true true e1 e2 e3 e4 e5 =
           let c = Model.codeAt m n in
           let x = direct m n (shapeFor c) in
-          rw (e1, e2, e3, e4, e5) (run-all (exi 1) (exiMail 1) c x (lengthFor c) (record { bound = direct-bound m s n c; target = direct-address m s n c }) (exi-all 1 x))
+          let k : Asks c x = record { bound = direct-bound m s n c; target = direct-address m s n c } in
+          rw (e1, e2, e3, e4, e5) (run-all (exi 1) (exiMail 1) c x (lengthFor c) k (exi-all 1 x))
 
 -- ---- the call
 pub instruction-all : {m : List ℕ} → Sound m → (P : List ℕ → Mailed → Type 0) → Idles m P → (getD m 248 0 ≢ 0 → Parts m P)
@@ -195,12 +195,12 @@ instruction-all {m} k P q h = go (eqb (getD m 248 0) 0) refl
 pub instruction-told : {m : List ℕ} → Sound m → Told m (memoryOf (instruction m)) (mailed m)
 instruction-told {m} k = instruction-all k (Told m) (λ m′ s. told-same (invariant (well k) .base) m′ s) (λ d.
     record {
-      sme = sme-told (well k) d;
+      sme = λ n f a len l l′. sme-sent (well k) d n f a len l l′ .told;
       wnm = wnm-told (well k) d;
       rme = λ n f a len l. rme-told (well k) d n f a len;
       tme = tme-told (well k) d;
       crp = crp-told (well k) d;
-      dep = dep-told (well k) d;
+      dep = λ n len. dep-sent (well k) d n len .told;
     })
 
 -- ---- what was put stands at the end of Q1
@@ -216,12 +216,12 @@ rme-none m n f a = go (eqb (Model.inQ2 m n f) 0) (clear (3 + getD m (Model.inQ2 
 pub instruction-stands : {m : List ℕ} → Sound m → Stands (memoryOf (instruction m)) (mailed m)
 instruction-stands {m} k = instruction-all k Stands (λ m′ s. stands-none m′) (λ d.
     record {
-      sme = sme-stands (well k) d;
+      sme = λ n f a len l l′. sme-sent (well k) d n f a len l l′ .stands;
       wnm = λ n f len l. stands-none _;
       rme = λ n f a len l. stands-empty _ (rmeMail m n f a) (rme-none m n f a);
       tme = λ n f a len. stands-none _;
       crp = λ n r v a len l l′. stands-none _;
-      dep = dep-stands (well k) d;
+      dep = λ n len. dep-sent (well k) d n len .stands;
     })
 
 -- ---- what was read stands from the target on
@@ -246,7 +246,7 @@ instruction-written {m} k = instruction-all k (Written m) (λ m′ s. written-no
       rme = rme-written (well k) d;
       tme = λ n f a len. written-none m _;
       crp = λ n r v a len l l′. written-none m _;
-      dep = λ n len l. written-empty m _ (depMail m n) (dep-none m n);
+      dep = λ n len. written-empty m _ (depMail m n) (dep-none m n);
     })
 
 -- ---- an instruction reads one message or none
@@ -264,5 +264,5 @@ instruction-one {m} k = instruction-all k (λ m′ e. length (e .reads) ≤ 1) (
       rme = λ n f a len l. rme-one m n f a;
       tme = λ n f a len. omega arith;
       crp = λ n r v a len l l′. omega arith;
-      dep = λ n len l. rw (dep-none m n) (omega arith);
+      dep = λ n len. rw (dep-none m n) (omega arith);
     })

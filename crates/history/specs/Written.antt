@@ -9,40 +9,35 @@ use native.Mathlib.Omega.{arith}
 use lib.ListN.{length, getD, set, length-set}
 use lib.Seq.{getD-set-same}
 use lib.Dec.{eqb}
-use borrow.Author.Tests.{eqb-false, ne-eqb}
+use borrow.Author.Tests.{eqb-false}
 use Rattle.model.specs.Map.{headWords}
 use Rattle.model.specs.Address.{wrapped, clear}
-use Rattle.model.specs.Wait as Wait
-use Rattle.model.specs.Page as Page
 use Rattle.model.specs.Mail as Mail
 use Rattle.model.specs.Operate as Operate
 use Rattle.model.specs.Answer.{memoryOf}
 use Rattle.model.specs.Instruction as Instruction
 use Rattle.model.specs.Instruction.{shapeFor}
 use Rattle.model.specs.Bytes as Model
-use Rattle.model.specs.Bytes.{lists, queue, running, leave, wake, copy, copyOut, freePage, grantPage, giveBack, direct, pointed}
-use Rattle.model.specs.Lists.{count, Lists, some}
-use Rattle.laws.specs.Count.{hit-self, count-append}
-use Rattle.laws.specs.Chain.{Page, Chain}
-use Rattle.laws.specs.Queues.{upd-other}
-use Rattle.laws.specs.Uses.{Sep, proc-page}
-use Rattle.laws.specs.Places.{in-free, in-asking, in-q, grant-low, grant-high, all-pages}
-use Rattle.laws.specs.Inv.{View, view, Mem, Base, Inv}
-use Rattle.laws.specs.Judged.{WellFormed, invariant}
-use Rattle.laws.specs.Frames.{other, base-kept}
+use Rattle.model.specs.Bytes.{lists, queue, running, leave, copy, copyOut, giveBack, direct, pointed}
+use Rattle.model.specs.Lists.{count, Lists}
+use Rattle.laws.specs.Count.{count-mid}
+use Rattle.laws.specs.Chain.{Page}
+use Rattle.laws.specs.Uses.{proc-page}
+use Rattle.laws.specs.Places.{in-free, in-q, grant-high, all-pages, wait-page}
+use Rattle.laws.specs.Inv.{View, view, Base}
+use Rattle.laws.specs.Judged.{WellFormed}
+use Rattle.laws.specs.Frames.{other, base-kept, copy-far}
 use Rattle.laws.specs.Words.{Small}
-use Rattle.laws.specs.Stores.{sem-mem}
-use Rattle.laws.specs.Cells.{chain0, join-frame, leave-frame, grant-mem}
-use Rattle.laws.specs.Changes.{hand-page, page-sem}
-use Rattle.laws.specs.Hands.{in-hand, hand-new, take-mail}
-use Rattle.laws.specs.Grants.{give-back, waiter-proc, sep-G}
-use Rattle.laws.specs.Who.{running-at, running-in}
+use Rattle.laws.specs.Cells.{leave-frame}
+use Rattle.laws.specs.Changes.{hand-page}
+use Rattle.laws.specs.Hands.{in-hand, take-mail}
+use Rattle.laws.specs.Grants.{give-back, give-frame}
+use Rattle.laws.specs.Who.{running-at, Busy, busy}
 use Rattle.laws.specs.Mails.{mail-queue, out-kept, clear-at}
+use Rattle.laws.specs.Simple.{Open, clear-open}
 use Rattle.history.specs.Letter.{Letter, mailOf, words, letter-sized}
 use Rattle.history.specs.Put.{Log, Mailed, nothing, reading, rmeMail}
-use Rattle.history.specs.Quiet.{Open, clear-open}
 use Rattle.history.specs.Tests.{Found, found}
-use Rattle.history.specs.Reading.{copy-far}
 use Rattle.history.specs.Copied.{copy-at, words-at}
 use Rattle.history.specs.Went.{wentTo, done-went}
 
@@ -89,55 +84,17 @@ written-one m m′ x a h = record {
 }
 
 -- ---- a page given back leaves unprotected words
-module _ {m : List ℕ} {ps : List ℕ} {L : Lists} {W : View} {hs : List ℕ} {g q : ℕ} (b : Base m ps L W (q ∷ hs) g) (c : ℕ) (o : Open c) where
-  s : Sep ps L
-  s = b .facts .sep
-
-  low : c < 7552
-  low = o .below
-
-  free-open : getD (freePage m q) c 0 ≡ getD m c 0
-  unfolding Page.freePage
-  free-open =
-      let v = (getD m 245 0 + 1) % 256 in
-      let pq = hand-page b q (in-hand b) in
-      join-frame s (sem-mem s (b .mem) 245 v (page-sem ps)) 244 (in-free ps, grant-low 244 (omega arith)) (omega arith) q pq (hand-new b) c
-      (o .between 244 (omega arith) (omega arith)) (λ z j. let t = all-pages s 244 z (in-free ps) j in omega (arith, low)) (omega (arith, low))
-      ∙ other m 245 v c (o .between 245 (omega arith) (omega arith))
-
-  wake-open : {x : List ℕ} {K : Lists} {X : View} → Sep ps K → Mem x ps K X → (p : ℕ) (ws : List ℕ) → 1 ≤ count p ps → K 246 ≡ p ∷ ws
-      → getD (wake x 245 p) c 0 ≡ getD x c 0
-  unfolding Wait.wake Wait.unqueue
-  wake-open {x} {K} {X} sk mk p ws hp e =
-      let v = (getD x 245 0 + 1) % 256 in
-      let x1 = set x 245 v in
-      let x2 = leave x1 246 0 p in
-      let t = getD x2 (p * 32 + 12) 0 / 128 * 128 + getD x2 (p * 32 + 12) 0 % 64 in
-      let x3 = set x2 (p * 32 + 12) t in
-      let pg = proc-page sk p hp in
-      other x3 (p * 32 + 2) 0 c (omega (arith, low)) ∙ other x2 (p * 32 + 12) t c (omega (arith, low))
-      ∙ leave-frame sk (sem-mem sk mk 245 v (page-sem ps)) 246 (in-asking ps, grant-low 246 (omega arith)) (omega arith) p [] ws e c
-      (o .between 246 (omega arith) (omega arith)) (λ z j. let u = all-pages sk 246 z (in-asking ps) j in omega (arith, low))
-      ∙ other x 245 v c (o .between 245 (omega arith) (omega arith))
-
-  grant-open : (p : ℕ) (ws : List ℕ) → L 246 ≡ p ∷ ws → getD (grantPage m p q) c 0 ≡ getD m c 0
-  unfolding Page.grantPage
-  grant-open p ws e =
-      let n = W .label p % 16 in
-      let hp = waiter-proc b p ws e in
-      let pg = proc-page s p hp in
-      let x1 = grant-mem n q (omega arith) s (b .mem) in
-      let e2 = upd-other L (320 + n) 246 (some q) (omega arith) ∙ e in
-      rw (b .mem .reads .words .label p pg)
-      (wake-open (sep-G b p ws e) x1 p ws hp e2 ∙ other m (320 + n) q c (o .between (320 + n) (omega arith) (omega arith)))
-
-  pub give-open : getD (giveBack m q) c 0 ≡ getD m c 0
-  unfolding Page.giveBack
-  give-open = go (L 246) refl (chain0 s (b .mem) 246 (in-asking ps, grant-low 246 (omega arith)) (omega arith))
-    where
-      go : (xs : List ℕ) → L 246 ≡ xs → Chain m 0 246 (L 246) → getD (giveBack m q) c 0 ≡ getD m c 0
-      go [] e k = let z : getD m 246 0 ≡ 0 = rw e at k in rw z free-open
-      go (p ∷ ws) e k = let t = rw e at k in rw (t .0, ne-eqb p 0 (omega arith)) (grant-open p ws e)
+pub give-open : {m : List ℕ} {ps : List ℕ} {L : Lists} {W : View} {hs : List ℕ} {g q : ℕ} → Base m ps L W (q ∷ hs) g → (c : ℕ) → Open c
+    → getD (giveBack m q) c 0 ≡ getD m c 0
+give-open {ps = ps} {q = q} b c o = let s = b .facts .sep in give-frame b c (record {
+  low = λ a u v. o .between a (omega arith) (omega arith);
+  grant = λ k u. o .between (320 + k) (omega arith) (omega arith);
+  hand = let pq = hand-page b q (in-hand b) in omega (arith, o .below);
+  free = λ z j. let t = all-pages s 244 z (in-free ps) j in omega (arith, o .below);
+  waiter = λ p j.
+      let t = proc-page s p (wait-page s 246 p (omega arith) j) in
+      (omega (arith, o .below), omega (arith, o .below), omega (arith, o .below));
+})
 
 -- ---- what RME writes
 ring : (a i j : ℕ) → i < 8192 → j < 8192 → i ≢ j → (a + i) % 8192 ≢ (a + j) % 8192
@@ -228,24 +185,17 @@ size-is m q = refl
 
 -- ---- the instruction
 module _ {m : List ℕ} (w : WellFormed m) (d : getD m 248 0 ≢ 0) where
-  iv : Inv m (lists m 247) (lists m) (view m)
-  iv = invariant w
-
-  b : Base m (lists m 247) (lists m) (view m) [] 32
-  b = iv .base
+  open Busy (busy w d) using (base as b, runs as hr)
 
   abbrev r : ℕ
   r = getD m 248 0
-
-  hr : 1 ≤ count r (lists m 247)
-  hr = running-in b d
 
   pr : Page r
   pr = proc-page (b .facts .sep) r hr
 
   module _ (q a : ℕ) (xs ys : List ℕ) (e : lists m (r * 32 + 6) ≡ xs ++ q ∷ ys) (la : a < 8192) (cl : clear (3 + getD m (q * 32 + 2) 0 % 128) a ≡ true) where
     in6 : 1 ≤ count q (lists m (r * 32 + 6))
-    in6 = rw e (omega (arith, count-append q xs (q ∷ ys), hit-self q))
+    in6 = rw e (count-mid q xs ys)
 
     pq : Page q
     pq = all-pages (b .facts .sep) (r * 32 + 6) q (in-q (lists m 247) r 6 (omega arith) (omega arith) hr) in6

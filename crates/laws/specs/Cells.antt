@@ -8,8 +8,8 @@ use lib.ListN.{length, getD, set, length-set, length-append}
 use lib.Seq.{getD-set-same}
 use Rattle.model.specs.Bytes.{join, leave}
 use Rattle.model.specs.Lists.{count, Lists, some, linkOf, isGrant}
-use Rattle.laws.specs.Count.{hit-self, hit-or, count-append}
-use Rattle.laws.specs.Chain.{Page, Chain, chain-move, last, last-in, join-is, leave-is, off-page}
+use Rattle.laws.specs.Count.{hit-self, hit-or, count-append, zero-or, count-mid}
+use Rattle.laws.specs.Chain.{Page, Chain, chain-move, last, last-in, last-not, join-is, leave-is, off-page}
 use Rattle.laws.specs.Queues.{upd, upd-same, upd-other, link-le, link-procs, link-other, rep-join, rep-leave}
 use Rattle.laws.specs.Heads.{Place, Seat, seat-of}
 use Rattle.laws.specs.Heads.Place.{int, three, grant, slot}
@@ -18,7 +18,7 @@ use Rattle.laws.specs.Uses.{Head, head-place, Sep, proc-page, list-short
 use Rattle.laws.specs.Places.{grant-is, all-pages}
 use Rattle.laws.specs.Inv.{View, Reads, Mem}
 use Rattle.laws.specs.Frames.{other}
-use Rattle.laws.specs.Stores.{col-off}
+use Rattle.laws.specs.Stores.{words-off, fixed-off}
 
 -- ---- a cell is no judged word
 pub record Unread (b : ℕ) : Type 0 where
@@ -32,19 +32,9 @@ pub record Unread (b : ℕ) : Type 0 where
 
 pub reads-unread : {m : List ℕ} {ps : List ℕ} {L : Lists} {W : View} (b v : ℕ) → Sep ps L → Unread b → Reads m ps W → Reads (set m b v) ps W
 reads-unread {m} {ps} {L} {W} b v s u r = record {
-  words = record {
-    note = λ p h n. other m b v (p * 32 + 1) (u .page p 1 h (omega arith) (omega arith)) ∙ r .words .note p h n;
-    reason = col-off m b v 2 (W .reason) (λ p h. u .page p 2 h (omega arith) (omega arith)) (r .words .reason);
-    label = col-off m b v 7 (W .label) (λ p h. u .high p 7 h (omega arith) (omega arith)) (r .words .label);
-    state = col-off m b v 12 (W .state) (λ p h. u .high p 12 h (omega arith) (omega arith)) (r .words .state);
-  };
-  fixed = record {
-    clock = λ a h i. other m b v a (u .clock a h i) ∙ r .fixed .clock a h i;
-    turn = λ a h i. other m b v a (u .turn a h i) ∙ r .fixed .turn a h i;
-    code = λ k h. other m b v (256 + 2 * k) (u .rest (256 + 2 * k) (omega arith) (omega arith)) ∙ r .fixed .code k h;
-    next = other m b v 288 (u .rest 288 (omega arith) (omega arith)) ∙ r .fixed .next;
-    entry = λ i h. other m b v (289 + i) (u .rest (289 + i) (omega arith) (omega arith)) ∙ r .fixed .entry i h;
-  };
+  words = words-off b v (λ p h. u .page p 1 h (omega arith) (omega arith)) (λ p h. u .page p 2 h (omega arith) (omega arith))
+      (λ p h. u .high p 7 h (omega arith) (omega arith)) (λ p h. u .high p 12 h (omega arith) (omega arith)) (r .words);
+  fixed = fixed-off b v (u .clock) (u .turn) (u .rest) (r .fixed);
   sems = λ a h. other m b v a (sem a (seat-of ps a h)) ∙ r .sems a h;
 }
   where
@@ -53,54 +43,44 @@ reads-unread {m} {ps} {L} {W} b v s u r = record {
     sem a (page e) = rw e (u .asking)
     sem a (own p i e) = rw e (u .page p 3 (proc-page s p i) (omega arith) (omega arith))
 
-pub unread-link : (x b : ℕ) → Page x → b ≡ x * 32 + 0 → Unread b
-unread-link x b g e = record {
-  page = λ c1 c2 c3 c4 c5. omega arith;
+unread-word : (x j b : ℕ) → Page x → j ≤ 6 → (1 ≤ j → 4 ≤ j) → b ≡ x * 32 + j → Unread b
+unread-word x j b g u n e = record {
+  page = λ p k h i v. go p k h i v (zero-or j);
   high = λ c1 c2 c3 c4 c5. omega arith;
   clock = λ c1 c2 c3. omega arith;
   turn = λ c1 c2 c3. omega arith;
   asking = omega arith;
   line = λ c1 c2. omega arith;
   rest = λ c1 c2 c3. omega arith;
+}
+  where
+    go : (p k : ℕ) → Page p → 1 ≤ k → k ≤ 3 → (j ≡ 0) ⊎ (1 ≤ j) → p * 32 + k ≢ b
+    go p k h i v (inl z) = omega arith
+    go p k h i v (inr l) = let d = n l in omega arith
+
+pub unread-link : (x b : ℕ) → Page x → b ≡ x * 32 + 0 → Unread b
+unread-link x b g e = unread-word x 0 b g (omega arith) (λ i. absurd (omega arith)) e
+
+unread-low : (b : ℕ) → b < 7552 → ((a : ℕ) → 239 ≤ a → a ≤ 243 → a ≢ b) → ((a : ℕ) → 248 ≤ a → a ≤ 251 → a ≢ b) → 245 ≢ b
+    → ((k : ℕ) → k < 54 → 131 + 2 * k ≢ b) → ((a : ℕ) → 256 ≤ a → a < 320 → a ≢ b) → Unread b
+unread-low b u c t a l r = record {
+  page = λ c1 c2 c3 c4 c5. omega arith;
+  high = λ c1 c2 c3 c4 c5. omega arith;
+  clock = c;
+  turn = t;
+  asking = a;
+  line = l;
+  rest = r;
 }
 
 pub unread-place : {ps : List ℕ} {L : Lists} → Sep ps L → (b : ℕ) → Place ps b → Unread b
-unread-place s b (int n hn e) = record {
-  page = λ c1 c2 c3 c4 c5. omega arith;
-  high = λ c1 c2 c3 c4 c5. omega arith;
-  clock = λ c1 c2 c3. omega arith;
-  turn = λ c1 c2 c3. omega arith;
-  asking = omega arith;
-  line = λ c1 c2. omega arith;
-  rest = λ c1 c2 c3. omega arith;
-}
-unread-place s b (three x y z) = record {
-  page = λ c1 c2 c3 c4 c5. omega arith;
-  high = λ c1 c2 c3 c4 c5. omega arith;
-  clock = λ c1 c2 c3. omega arith;
-  turn = λ c1 c2 c3. omega arith;
-  asking = omega arith;
-  line = λ c1 c2. omega arith;
-  rest = λ c1 c2 c3. omega arith;
-}
-unread-place s b (grant x y) = record {
-  page = λ c1 c2 c3 c4 c5. omega arith;
-  high = λ c1 c2 c3 c4 c5. omega arith;
-  clock = λ c1 c2 c3. omega arith;
-  turn = λ c1 c2 c3. omega arith;
-  asking = omega arith;
-  line = λ c1 c2. omega arith;
-  rest = λ c1 c2 c3. omega arith;
-}
-unread-place s b (slot t) = let g = proc-page s (t .page) (t .proc) in record {
-  page = λ c1 c2 c3 c4 c5. omega arith;
-  high = λ c1 c2 c3 c4 c5. omega arith;
-  clock = λ c1 c2 c3. omega arith;
-  turn = λ c1 c2 c3. omega arith;
-  asking = omega arith;
-  line = λ c1 c2. omega arith;
-  rest = λ c1 c2 c3. omega arith;
-}
+unread-place s b (int n hn e) =
+    unread-low b (omega arith) (λ c1 c2 c3. omega arith) (λ c1 c2 c3. omega arith) (omega arith) (λ c1 c2. omega arith) (λ c1 c2 c3. omega arith)
+unread-place s b (three x y z) =
+    unread-low b (omega arith) (λ c1 c2 c3. omega arith) (λ c1 c2 c3. omega arith) (omega arith) (λ c1 c2. omega arith) (λ c1 c2 c3. omega arith)
+unread-place s b (grant x y) =
+    unread-low b (omega arith) (λ c1 c2 c3. omega arith) (λ c1 c2 c3. omega arith) (omega arith) (λ c1 c2. omega arith) (λ c1 c2 c3. omega arith)
+unread-place s b (slot t) = unread-word (t .page) (t .word) b (proc-page s (t .page) (t .proc)) (omega arith) (λ i. omega arith) (t .is)
 
 -- ---- a list with links in word 0
 module _ {m : List ℕ} {ps : List ℕ} {L : Lists} {W : View} (s : Sep ps L) (x : Mem m ps L W) (a : ℕ) (ha : Head ps a) (na : a ≢ 247) where
@@ -121,17 +101,7 @@ module _ {m : List ℕ} {ps : List ℕ} {L : Lists} {W : View} (s : Sep ps L) (x
   not-grant k h e = let z : _≡_ {A = ℕ} 0 1 = cc (ha .1, grant-is k h, ap isGrant e) in omega arith
 
   last-grant : (xs : List ℕ) → ((z : ℕ) → 1 ≤ count z xs → 1 ≤ count z (L a)) → (k : ℕ) → k < 32 → 320 + k ≢ last 0 a xs
-  last-grant [] f k h = λ e. not-grant k h (sym e)
-  last-grant (y ∷ ys) f k h =
-      let r = last-in 0 a y ys in
-      let g = all-pages s a (r .0) (ha .0) (f (r .0) (r .1)) in
-      rw (r .2) (omega arith)
-
-  -- a word that is neither the header nor a link of the list
-  last-far : (xs : List ℕ) → ((z : ℕ) → 1 ≤ count z xs → 1 ≤ count z (L a)) → (b : ℕ) → b ≢ a → ((z : ℕ) → 1 ≤ count z (L a) → b ≢ z * 32 + 0)
-      → b ≢ last 0 a xs
-  last-far [] f b n o = n
-  last-far (y ∷ ys) f b n o = let r = last-in 0 a y ys in rw (r .2) (o (r .0) (f (r .0) (r .1)))
+  last-grant xs f k h = last-not 0 a xs (320 + k) (λ e. not-grant k h (sym e)) (λ z i. let g = all-pages s a z (ha .0) (f z i) in omega arith)
 
   module _ (p : ℕ) (g : Page p) (new : (b : ℕ) → Head ps b → b ≢ 247 → count p (L b) ≡ 0) where
     join-eq : join m a 0 p ≡ set (set m (p * 32 + 0) 0) (last 0 a (L a)) p
@@ -160,14 +130,14 @@ module _ {m : List ℕ} {ps : List ℕ} {L : Lists} {W : View} (s : Sep ps L) (x
 
     pub join-frame : (b : ℕ) → b ≢ a → ((z : ℕ) → 1 ≤ count z (L a) → b ≢ z * 32 + 0) → b ≢ p * 32 + 0 → getD (join m a 0 p) b 0 ≡ getD m b 0
     join-frame b n o d =
-        rw join-eq (other (set m (p * 32 + 0) 0) (last 0 a (L a)) p b (last-far (L a) (λ z i. i) b n o) ∙ other m (p * 32 + 0) 0 b d)
+        rw join-eq (other (set m (p * 32 + 0) 0) (last 0 a (L a)) p b (last-not 0 a (L a) b n o) ∙ other m (p * 32 + 0) 0 b d)
 
   module _ (p : ℕ) (xs ys : List ℕ) (e : L a ≡ xs ++ p ∷ ys) where
     part : (z : ℕ) → 1 ≤ count z xs → 1 ≤ count z (L a)
     part z i = rw e (omega (arith, count-append z xs (p ∷ ys)))
 
     pub left-in : 1 ≤ count p (L a)
-    left-in = rw e (omega (arith, count-append p xs (p ∷ ys), hit-self p))
+    left-in = rw e (count-mid p xs ys)
 
     leave-eq : leave m a 0 p ≡ set (set m (last 0 a xs) (getD m (p * 32 + 0) 0)) (p * 32 + 0) 0
     leave-eq =
@@ -197,7 +167,7 @@ module _ {m : List ℕ} {ps : List ℕ} {L : Lists} {W : View} (s : Sep ps L) (x
     pub leave-frame : (b : ℕ) → b ≢ a → ((z : ℕ) → 1 ≤ count z (L a) → b ≢ z * 32 + 0) → getD (leave m a 0 p) b 0 ≡ getD m b 0
     leave-frame b n o =
         rw leave-eq (other (set m (last 0 a xs) (getD m (p * 32 + 0) 0)) (p * 32 + 0) 0 b (o p left-in)
-        ∙ other m (last 0 a xs) (getD m (p * 32 + 0) 0) b (last-far xs part b n o))
+        ∙ other m (last 0 a xs) (getD m (p * 32 + 0) 0) b (last-not 0 a xs b n (λ z i. o z (part z i))))
 
 -- ---- a word of page 10
 pub grant-mem : {m : List ℕ} {ps : List ℕ} {L : Lists} {W : View} (k q : ℕ) → k < 32 → Sep ps L → Mem m ps L W

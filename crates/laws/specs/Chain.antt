@@ -11,7 +11,7 @@ use borrow.Author.Tests.{eq-eqb, ne-eqb}
 use Rattle.model.specs.Store.{bytes}
 use Rattle.model.specs.Queue as Queue
 use Rattle.model.specs.Lists.{count}
-use Rattle.laws.specs.Count.{hit-self, hit-other, hit-or, count-append, count-ne}
+use Rattle.laws.specs.Count.{hit-self, hit-other, hit-or, count-append, count-ne, count-mid}
 
 abbrev pub Page : ℕ → Type 0
 Page x = (236 ≤ x) × (x < 256)
@@ -102,6 +102,11 @@ pub last-in : (k a : ℕ) (x : ℕ) (xs : List ℕ) → (z : ℕ) × (1 ≤ coun
 last-in k a x [] = (x, omega (arith, hit-self x), refl)
 last-in k a x (y ∷ ys) = let r = last-in k (x * 32 + k) y ys in (r .0, omega (arith, r .1), r .2)
 
+-- a word that is neither the header nor a link of the list is not the one that ends it
+pub last-not : (k a : ℕ) (xs : List ℕ) (b : ℕ) → b ≢ a → ((z : ℕ) → 1 ≤ count z xs → b ≢ z * 32 + k) → b ≢ last k a xs
+last-not k a [] b n o = n
+last-not k a (y ∷ ys) b n o = let r = last-in k a y ys in rw (r .2) (o (r .0) (r .1))
+
 abbrev pub NoDup : List ℕ → Type 0
 NoDup xs = (z : ℕ) → count z xs ≤ 1
 
@@ -151,7 +156,7 @@ chain-leave m k a p [] ys hm ha hk o d c =
 chain-leave m k a p (x ∷ xs) ys hm ha hk o d c =
     let v = getD m (p * 32 + k) 0 in
     let l = last-in k a x xs in (
-      getD-set-other (set m (last k a (x ∷ xs)) v) (p * 32 + k) a 0 0 (o p (omega (arith, count-append p xs (p ∷ ys), hit-self p)))
+      getD-set-other (set m (last k a (x ∷ xs)) v) (p * 32 + k) a 0 0 (o p (count-mid p (x ∷ xs) ys))
           ∙ getD-set-other m (last k a (x ∷ xs)) a v 0 (rw (l .2) (o (l .0) (omega (arith, l .1, count-append (l .0) xs (p ∷ ys))))) ∙ c .0,
       c .1,
       chain-leave m k (x * 32 + k) p xs ys hm (omega arith) hk (off-next x k (xs ++ p ∷ ys) hk d) (λ z. omega (arith, d z)) (c .2),

@@ -19,7 +19,7 @@ use Rattle.laws.specs.Uses.{Among, Sep, proc-page}
 use Rattle.laws.specs.Places.{InUses, InQueues, int-queue, int-once, own-once, q-once, asking-once, wait-page}
 use Rattle.laws.specs.Inv.{View, bearers, Message, Codes, Clock, Faults, stock, Runs, Facts, Base}
 use Rattle.laws.specs.Judged.{each-ext}
-use Rattle.laws.specs.Views.{withSem, withLow, withCode, withEntry, withState}
+use Rattle.laws.specs.Views.{withSem, withRest, withLow, withCode, withEntry, withState}
 
 -- a head of a wait queue stands once among them, and among no uses
 pub queue-once : {ps : List ℕ} {L : Lists} → Sep ps L → (s : ℕ) → 1 ≤ count (s + 1) (queues ps) → InQueues ps (s + 1)
@@ -97,21 +97,6 @@ pub stock-same : (L K : Lists) → K 244 ≡ L 244 → (s : ℕ) → stock K s �
 unfolding stock
 stock-same L K e s = rw e
 
-pub facts-same : {ps : List ℕ} {L : Lists} {W : View} {g : ℕ} → Facts ps L (withSem W (W .sem)) g → Facts ps L W g
-facts-same f = record {
-  sep = f .sep;
-  names = f .names;
-  seats = f .seats;
-  own = f .own;
-  sems = f .sems;
-  granted = f .granted;
-  mail = f .mail;
-  runs = f .runs;
-  codes = f .codes;
-  clock = f .clock;
-  faults = f .faults;
-}
-
 -- ---- a list of uses that only loses
 upd-le : (L : Lists) (a : ℕ) (K : List ℕ) → ((z : ℕ) → count z K ≤ count z (L a)) → (c z : ℕ) → count z (upd L a K c) ≤ count z (L c)
 upd-le L a K h c z = go (hit-or c a)
@@ -133,7 +118,7 @@ facts-less {ps} {L} {W} a K i na nf c l f =
     let s = f .sep in
     let cs = upd-le L a K c in
     let ls = upd-len L a K l in
-    facts-same (facts-uses (upd L a K) (W .sem) (record {
+    facts-uses (upd L a K) (W .sem) (record {
       sep = uses-sep s a i na K (λ z. omega (arith, uses-upd s a i na K z, c z, s .most z));
       same = queue-same s a i na K;
       sems = λ b h. rw (stock-same L (upd L a K) (upd-other L a 244 K (λ e. nf (sym e))) b) (f .sems b h);
@@ -141,7 +126,7 @@ facts-less {ps} {L} {W} a K i na nf c l f =
       known = λ k h d n. f .granted .known k h d (λ z. n (omega (arith, ls (320 + k))));
       mail = λ p w h u v q j. f .mail p w h u v q (omega (arith, cs (p * 32 + w) q));
       none = λ p x h j q d. f .own p h x j .none q (omega (arith, cs (p * 32 + 5) q));
-    }) f)
+    }) f
 
 -- ---- pages in hand
 module _ {m : List ℕ} {ps : List ℕ} {L : Lists} {W : View} {hs : List ℕ} {g : ℕ} (b : Base m ps L W hs g) (q : ℕ) (h : 1 ≤ count q hs) where
@@ -218,23 +203,9 @@ facts-off {ps} {L} {W} {X} q out free o f =
     }
 
 -- ---- page 8, the counters, page 9
-pub facts-code : {ps : List ℕ} {L : Lists} {W : View} {g : ℕ} (c : ℕ → ℕ) → Codes c → Facts ps L W g → Facts ps L (withCode W c) g
-facts-code c h f = record {
-  sep = f .sep;
-  names = f .names;
-  seats = f .seats;
-  own = f .own;
-  sems = f .sems;
-  granted = f .granted;
-  mail = f .mail;
-  runs = f .runs;
-  codes = h;
-  clock = f .clock;
-  faults = f .faults;
-}
-
-pub facts-low : {ps : List ℕ} {L : Lists} {W : View} {g : ℕ} (l : ℕ → ℕ) → Runs ps l (W .label) → Clock l → Facts ps L W g → Facts ps L (withLow W l) g
-facts-low l r c f = record {
+facts-rest : {ps : List ℕ} {L : Lists} {W : View} {g : ℕ} (l c : ℕ → ℕ) (n : ℕ) (e : ℕ → ℕ) → Runs ps l (W .label) → Codes c → Clock l → Faults n e
+    → Facts ps L W g → Facts ps L (withRest W (W .sem) l c n e) g
+facts-rest l c n e r k t h f = record {
   sep = f .sep;
   names = f .names;
   seats = f .seats;
@@ -243,25 +214,19 @@ facts-low l r c f = record {
   granted = f .granted;
   mail = f .mail;
   runs = r;
-  codes = f .codes;
-  clock = c;
-  faults = f .faults;
-}
-
-pub facts-entry : {ps : List ℕ} {L : Lists} {W : View} {g : ℕ} (n : ℕ) (e : ℕ → ℕ) → Faults n e → Facts ps L W g → Facts ps L (withEntry W n e) g
-facts-entry n e h f = record {
-  sep = f .sep;
-  names = f .names;
-  seats = f .seats;
-  own = f .own;
-  sems = f .sems;
-  granted = f .granted;
-  mail = f .mail;
-  runs = f .runs;
-  codes = f .codes;
-  clock = f .clock;
+  codes = k;
+  clock = t;
   faults = h;
 }
+
+pub facts-code : {ps : List ℕ} {L : Lists} {W : View} {g : ℕ} (c : ℕ → ℕ) → Codes c → Facts ps L W g → Facts ps L (withCode W c) g
+facts-code {W = W} c k f = facts-rest (W .low) c (W .next) (W .entry) (f .runs) k (f .clock) (f .faults) f
+
+pub facts-low : {ps : List ℕ} {L : Lists} {W : View} {g : ℕ} (l : ℕ → ℕ) → Runs ps l (W .label) → Clock l → Facts ps L W g → Facts ps L (withLow W l) g
+facts-low {W = W} l r t f = facts-rest l (W .code) (W .next) (W .entry) r (f .codes) t (f .faults) f
+
+pub facts-entry : {ps : List ℕ} {L : Lists} {W : View} {g : ℕ} (n : ℕ) (e : ℕ → ℕ) → Faults n e → Facts ps L W g → Facts ps L (withEntry W n e) g
+facts-entry {W = W} n e h f = facts-rest (W .low) (W .code) n e (f .runs) (f .codes) (f .clock) h f
 
 -- word 12, where neither the waiting bit nor the zeros change
 pub facts-state : {ps : List ℕ} {L : Lists} {W : View} {g : ℕ} (t : ℕ → ℕ)

@@ -40,3 +40,6 @@ one-hit z x e = rw (eq-eqb z x e)
 pub zero-or : (n : ℕ) → (n ≡ 0) ⊎ (1 ≤ n)
 zero-or zero = inl refl
 zero-or (suc n) = inr (omega arith)
+
+pub count-mid : (x : ℕ) (xs ys : List ℕ) → 1 ≤ count x (xs ++ x ∷ ys)
+count-mid x xs ys = omega (arith, count-append x xs (x ∷ ys), hit-self x)

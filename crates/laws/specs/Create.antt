@@ -18,7 +18,7 @@ use Rattle.laws.specs.Count.{hit-self, hit-other}
 use Rattle.laws.specs.Chain.{Page}
 use Rattle.laws.specs.Uses.{proc-page}
 use Rattle.laws.specs.Inv.{View, view, bearers, Base}
-use Rattle.laws.specs.Judged.{WellFormed, invariant, each-ext}
+use Rattle.laws.specs.Judged.{WellFormed, each-ext}
 use Rattle.laws.specs.Frames.{other, Only, only-refl, only-set, only-zeroed}
 use Rattle.laws.specs.Views.{put1-same, put1-other, retold}
 use Rattle.laws.specs.Changes.{hand-page, hand-out}
@@ -27,7 +27,7 @@ use Rattle.laws.specs.Grants.{Any, any-of, Takes, take-page}
 use Rattle.laws.specs.Grants.Takes.{gets, lacks}
 use Rattle.laws.specs.Grow.{grow-base}
 use Rattle.laws.specs.Start.{zeroed-size, zeroed-in}
-use Rattle.laws.specs.Who.{running-in, listed}
+use Rattle.laws.specs.Who.{listed, Busy, busy}
 use Rattle.laws.specs.Ends.{Fine, done-fine}
 use Rattle.laws.specs.Simple.{fails}
 use Rattle.laws.specs.Mails.{first-none, waits-for-page}
@@ -158,12 +158,11 @@ module _ {m : List ℕ} {ps : List ℕ} {L : Lists} {W : View} {hs : List ℕ} {
 
 -- ---- the instruction
 module _ {m : List ℕ} (w : WellFormed m) (d : getD m 248 0 ≢ 0) where
-  b : Base m (lists m 247) (lists m) (view m) [] 32
-  b = invariant w .base
+  open Busy (busy w d) using (base as b, runs as hr)
 
   crp-page : (n r v a len : ℕ) → 1 ≤ n → n ≤ 15 → 1 ≤ r → r ≤ 15 → pageOf m n ≡ 0 → Fine (Model.crpPage m n r v a len)
   unfolding Operate.crpPage
-  crp-page n r v a len n1 n2 r1 r2 free = go (take-page (getD m 248 0) (running-in b d) b)
+  crp-page n r v a len n1 n2 r1 r2 free = go (take-page (getD m 248 0) hr b)
     where
       go : Takes m (getD m 248 0) (lists m 247) (lists m) (view m) [] 32 → Fine (Model.crpPage m n r v a len)
       go (gets q m1 e z t k) =

@@ -10,28 +10,29 @@ use lib.ListN.{length, getD, set}
 use lib.Dec.{eqb, leb}
 use borrow.Author.Tests.{eqb-true, eqb-false, eq-eqb, ne-eqb, leb-true}
 use Rattle.model.specs.Delete as Delete
-use Rattle.model.specs.Mail as Mail
 use Rattle.model.specs.Operate as Operate
 use Rattle.model.specs.Bytes as Model
 use Rattle.model.specs.Bytes.{lists, leave, giveBack, deliver, makeNotice, pageOf, returned, emptied, mailReturned, grantReturned, delete}
 use Rattle.model.specs.Lists.{count, Lists, some}
-use Rattle.laws.specs.Count.{hit-self, count-append}
+use Rattle.laws.specs.Count.{hit-self, count-append, count-mid}
 use Rattle.laws.specs.Chain.{Page, Chain, NoDup, chain-move, chain-leave, leave-is}
 use Rattle.laws.specs.Queues.{upd-same}
 use Rattle.laws.specs.Heads.{one-le, short}
 use Rattle.laws.specs.Uses.{proc-page}
-use Rattle.laws.specs.Inv.{View, view, Message, Facts, Base, Inv}
-use Rattle.laws.specs.Judged.{WellFormed, invariant}
+use Rattle.laws.specs.Inv.{View, view, Message, Facts, Base}
+use Rattle.laws.specs.Judged.{WellFormed}
 use Rattle.laws.specs.Frames.{other, only-refl, only-set}
-use Rattle.laws.specs.Views.{put1-same, retold}
+use Rattle.laws.specs.Views.{retold}
 use Rattle.laws.specs.Changes.{hand-page}
 use Rattle.laws.specs.Hands.{hand-base, in-hand, take-grant}
+use Rattle.laws.specs.Who.{Busy, busy}
 use Rattle.laws.specs.Grants.{Any, any-of, give-back, some-is}
-use Rattle.laws.specs.Post.{notice-base, two, word1, word2}
+use Rattle.laws.specs.Post.{retold-letter, notice-only, notice-letter, notice-base}
 use Rattle.laws.specs.Still.{give-still, deliver-still}
 use Rattle.laws.specs.Leave.{Letters, Bag, unlisted-bag}
 use Rattle.laws.specs.Ends.{Fine, done-fine}
 use Rattle.laws.specs.Simple.{named-in, fails, st1-fine, stp-fine}
+use Rattle.laws.specs.Stores.{only-word}
 
 -- ---- one message returned: the words of the pages that stay in hand stay
 pub record Returned (m m1 : List ℕ) (ps : List ℕ) (hs : List ℕ) (g : ℕ) : Type 0 where
@@ -47,27 +48,11 @@ module _ {m : List ℕ} {ps : List ℕ} {L : Lists} {W : View} {hs : List ℕ} {
   not-q : (y : ℕ) → 1 ≤ count y hs → y ≢ q
   not-q y h e = omega (arith, b .all q, one-le q, hit-self q, ap (λ (z : ℕ). count z hs) e)
 
-  abbrev note2 : ℕ → ℕ → List ℕ
-  note2 n f = set (set m (q * 32 + 1) (n * 16 + f)) (q * 32 + 2) 128
-
-  pub letter : (n f : ℕ) → 1 ≤ n → n ≤ 15 → 1 ≤ f → f ≤ 7 → Message (retold (note2 n f) W q .note q) (retold (note2 n f) W q .reason q)
-  letter n f i j k l =
-      rw (
-        put1-same (W .note) q (getD (note2 n f) (q * 32 + 1) 0) q refl,
-        put1-same (W .reason) q (getD (note2 n f) (q * 32 + 2) 0) q refl,
-        word1 b (n * 16 + f) 128,
-        word2 b (n * 16 + f) 128,
-      )
-      (record { sender = omega arith; known = omega arith; flag = omega arith; small = omega arith; long = λ z. absurd (z refl) })
-
   notice-still : (n f p y j : ℕ) → 1 ≤ n → n ≤ 15 → 1 ≤ f → f ≤ 7 → 1 ≤ count p ps → 1 ≤ count y hs → j < 32
       → getD (deliver (makeNotice m q n f) p q) (y * 32 + j) 0 ≡ getD m (y * 32 + j) 0
-  unfolding Mail.makeNotice
   notice-still n f p y j n1 n2 f1 f2 hp h l =
-      let d = not-q y h in
-      let b2 = hand-base q (in-hand b) (two b (n * 16 + f) 128) b in
-      deliver-still b2 y j h l p hp (letter n f n1 n2 f1 f2)
-      ∙ other (set m (q * 32 + 1) (n * 16 + f)) (q * 32 + 2) 128 (y * 32 + j) (omega arith) ∙ other m (q * 32 + 1) (n * 16 + f) (y * 32 + j) (omega arith)
+      let o = notice-only b n f in
+      deliver-still (hand-base q (in-hand b) o b) y j h l p hp (retold-letter b o (notice-letter b n f n1 n2 f1 f2)) ∙ only-word o y j (not-q y h) l
 
   pub returned-base : (n : ℕ) → 1 ≤ n → n ≤ 15 → Message (getD m (q * 32 + 1) 0) (getD m (q * 32 + 2) 0) → Returned m (returned m n q) ps hs g
   unfolding Delete.returned Delete.noticed
@@ -222,7 +207,7 @@ mail-back {m} p n g n1 n2 t =
       chain = t .chain2;
       letters = t .letters2;
     } in
-    let d2 = drain p 6 n (omega arith) (omega arith) n1 n2 (t .procs) (t .q1 ++ p ∷ []) g (omega (arith, count-append p (t .q1) (p ∷ []), hit-self p))
+    let d2 = drain p 6 n (omega arith) (omega arith) n1 n2 (t .procs) (t .q1 ++ p ∷ []) g (count-mid p (t .q1) [])
     (t .q2) 20
     (tot-short (a2 .base) (t .q2) (λ z. omega (arith, count-append z (t .q2) (t .q1 ++ p ∷ [])))) a2 in
     second d2
@@ -232,7 +217,7 @@ mail-back {m} p n g n1 n2 t =
     second d =
         let m1 = emptied 20 m n (p * 32 + 6) in
         let in1 : (y : ℕ) → 1 ≤ count y (t .q1) → 1 ≤ count y (t .q1 ++ p ∷ []) = λ y i. omega (arith, count-append y (t .q1) (p ∷ [])) in
-        let inp : 1 ≤ count p (t .q1 ++ p ∷ []) = omega (arith, count-append p (t .q1) (p ∷ []), hit-self p) in
+        let inp : 1 ≤ count p (t .q1 ++ p ∷ []) = count-mid p (t .q1) [] in
         let a1 : Queue m1 (t .procs) p 5 (t .q1) (p ∷ []) g = record {
           lists = d .lists;
           view = d .view;
@@ -296,8 +281,7 @@ delete-base {m} {W = W} p hp d b =
 
 -- ---- the instructions
 module _ {m : List ℕ} (w : WellFormed m) (d : getD m 248 0 ≢ 0) where
-  i : Inv m (lists m 247) (lists m) (view m)
-  i = invariant w
+  open Busy (busy w d) using (base as b, ready)
 
   dep-fine : (p len : ℕ) → 1 ≤ count p (lists m 247) → Fine (Model.dep m p len)
   unfolding Operate.dep
@@ -307,8 +291,8 @@ module _ {m : List ℕ} (w : WellFormed m) (d : getD m 248 0 ≢ 0) where
       go false e = rw e (fails w d 10 (omega arith) (omega arith))
       go true e =
           let l = leb-true 128 (getD m (p * 32 + 12) 0) e in
-          let n : getD m 248 0 ≢ p = λ q. (let c = ap (λ (y : ℕ). getD m (y * 32 + 12) 0) q in omega (arith, i .best .ready d)) in
-          rw e (done-fine (delete-base p h n (i .base) .base) len)
+          let n : getD m 248 0 ≢ p = λ q. (let c = ap (λ (y : ℕ). getD m (y * 32 + 12) 0) q in omega (arith, ready)) in
+          rw e (done-fine (delete-base p h n b .base) len)
 
   pub named-fine : (c n len : ℕ) → Fine (Model.named m c n len)
   unfolding Operate.named Operate.onPage
@@ -317,6 +301,6 @@ module _ {m : List ℕ} (w : WellFormed m) (d : getD m 248 0 ≢ 0) where
       go : (x y z t : Bool) → eqb n 0 ≡ x → eqb (pageOf m n) 0 ≡ y → eqb c 8 ≡ z → eqb c 9 ≡ t → Fine (Model.named m c n len)
       go true y z t e f j k = rw e (fails w d 12 (omega arith) (omega arith))
       go false true z t e f j k = rw (e, f) (fails w d 7 (omega arith) (omega arith))
-      go false false true t e f j k = rw (e, f, j) (st1-fine w d (pageOf m n) len (named-in (i .base) n (eqb-false (pageOf m n) 0 f)))
-      go false false false true e f j k = rw (e, f, j, k) (stp-fine w d (pageOf m n) len (named-in (i .base) n (eqb-false (pageOf m n) 0 f)))
-      go false false false false e f j k = rw (e, f, j, k) (dep-fine (pageOf m n) len (named-in (i .base) n (eqb-false (pageOf m n) 0 f)))
+      go false false true t e f j k = rw (e, f, j) (st1-fine w d (pageOf m n) len (named-in b n (eqb-false (pageOf m n) 0 f)))
+      go false false false true e f j k = rw (e, f, j, k) (stp-fine w d (pageOf m n) len (named-in b n (eqb-false (pageOf m n) 0 f)))
+      go false false false false e f j k = rw (e, f, j, k) (dep-fine (pageOf m n) len (named-in b n (eqb-false (pageOf m n) 0 f)))

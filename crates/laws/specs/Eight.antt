@@ -1,23 +1,19 @@
 -- Memory map: "8,192 words of 8 bits". Every outcome of an instruction has such words again. Assumes nothing.
 use mathlib.Core.Path.{_≡_, refl}
-use mathlib.Core.Logic.{_≢_, _⊎_, inl, inr}
-use mathlib.Core.Bool.{Bool, true, false, cond}
+use mathlib.Core.Bool.{Bool, true, false}
 use mathlib.Core.List.{List, [], _∷_}
-use Prim.Native.Nat.{ℕ, zero, suc, _+_, _-_, _*_, _/_, _%_, _≤_, _<_}
+use Prim.Native.Nat.{ℕ, _+_, _-_, _*_, _/_, _%_, _≤_, _<_}
 use native.Mathlib.Omega.{arith}
 use lib.ListN.{getD}
 use lib.Bits.{and-le-l}
 use lib.Dec.{eqb, ltb, leb}
-use borrow.Author.Tests.{ltb-true, ne-eqb}
-use Rattle.model.specs.declared.Arguments.{Arguments}
+use borrow.Author.Tests.{ltb-true}
 use Rattle.model.specs.Address.{guarded, clear}
 use Rattle.model.specs.Instruction as Instruction
-use Rattle.model.specs.Instruction.{shapeFor, countFor, lengthFor}
 use Rattle.model.specs.Operate as Operate
 use Rattle.model.specs.Answer as Answer
 use Rattle.model.specs.Answer.{memoryOf}
 use Rattle.model.specs.Fault as Fault
-use Rattle.model.specs.Execute as Execute
 use Rattle.model.specs.Bytes as Model
 use Rattle.model.specs.Bytes.{Step}
 use Rattle.laws.specs.Simple.{pick}
@@ -26,7 +22,8 @@ use Rattle.laws.specs.Words.{small-advance, small-wait}
 use Rattle.laws.specs.Words.{small-back, small-zeroed, small-take, small-give, small-deliver, small-notice, small-message, small-move}
 use Rattle.laws.specs.Words.{small-test}
 use Rattle.laws.specs.Words.{small-out, small-delete, small-serve, small-turn}
-use Rattle.laws.specs.Run.{Bound, direct-bound, pointed-bound, fault-cases}
+use Rattle.laws.specs.Each.{fetched-each}
+use Rattle.laws.specs.Run.{Bound, direct-bound, pointed-bound}
 
 abbrev pub Tiny : Step → Type 0
 Tiny o = Small (memoryOf o)
@@ -120,7 +117,7 @@ module _ {m : List ℕ} (s : Small m) where
   unfolding Operate.tme Operate.tmeQ1
   tme-tiny n f a len =
       let t = small-test 20 (getD m 248 0) n f s in
-      either Tiny (eqb (Model.inQ2 m n f) 0) (rw (t .is) (either Tiny (t .found) (jumps-tiny (t .small) a) (done-tiny (t .small) len))) (jumps-tiny s a)
+      either Tiny (eqb (Model.inQ2 m n f) 0) (rw (t .is) (either Tiny (t .found) (jumps-tiny (t .kept) a) (done-tiny (t .kept) len))) (jumps-tiny s a)
 
   named-tiny : (c n len : ℕ) → Tiny (Model.named m c n len)
   unfolding Operate.named Operate.onPage Operate.st1 Operate.stp Operate.dep
@@ -176,89 +173,24 @@ module _ {m : List ℕ} (s : Small m) where
       (either Tiny (clear 2 e) (reaches-tiny o (Model.addressAt m e) len) (bad 11 (omega arith))))
 
   -- ---- any instruction
-  run-tiny : (e : List ℕ → Arguments → Step) (c : ℕ) (x : Arguments) (len : ℕ) → Bound c x → Tiny (e m x) → Tiny (Model.run e m c x len)
-  unfolding Execute.run
-  run-tiny e c x len b h =
-      let bf = b .field in
-      pick Tiny
-      (Model.cvi m (x .field) (x .address) len ∷ Model.dvi m (x .field) len ∷ Model.gin m len ∷ Model.win m (x .interrupt) (x .count) len
-      ∷ Model.sme m (x .field) (x .second) (x .address) len ∷ Model.wnm m (x .field) (x .second) len ∷ Model.rme m (x .field) (x .second) (x .address) len
-      ∷ Model.tme m (x .field) (x .second) (x .address) len ∷ Model.named m 8 (x .field) len ∷ Model.named m 9 (x .field) len
-      ∷ Model.st2 m (x .field) (x .address) len ∷ Model.crp m (x .field) (x .second) (x .w) (x .address) len ∷ Model.named m 12 (x .field) len
-      ∷ Model.thirteen m (x .field) (x .second) (x .address) len ∷ e m x ∷ [])
-      (Model.fault m 1) c c 0 (omega arith) (
-        (λ q. cvi-tiny (x .field) (x .address) len),
-        (
-          (λ q. dvi-tiny (x .field) len),
-          (
-            (λ q. gin-tiny len),
-            (
-              (λ q. win-tiny (x .interrupt) (x .count) len (b .count q)),
-              (
-                (λ q. sme-tiny (x .field) (x .second) (x .address) len bf (b .send q)),
-                (
-                  (λ q. wnm-tiny (x .field) (x .second) len bf (b .wait q)),
-                  (
-                    (λ q. rme-tiny (x .field) (x .second) (x .address) len),
-                    (
-                      (λ q. tme-tiny (x .field) (x .second) (x .address) len),
-                      (
-                        (λ q. named-tiny 8 (x .field) len),
-                        (
-                          (λ q. named-tiny 9 (x .field) len),
-                          (
-                            (λ q. st2-tiny (x .field) (x .address) len),
-                            (
-                              (λ q. crp-tiny (x .field) (x .second) (x .w) (x .address) len bf (b .create q)),
-                              (
-                                (λ q. named-tiny 12 (x .field) len),
-                                (
-                                  (λ q. thirteen-tiny (x .field) (x .second) (x .address) len),
-                                  ((λ q. h), tt),
-                                ),
-                              ),
-                            ),
-                          ),
-                        ),
-                      ),
-                    ),
-                  ),
-                ),
-              ),
-            ),
-          ),
-        ),
-      )
-      (bad 1 (omega arith))
-
-  foreign-tiny : (c a : ℕ) → Tiny (Model.foreign m c a)
-  unfolding Execute.foreign Answer.memoryOf
-  foreign-tiny c a = either Tiny (eqb (Model.kind m c) 2) s (bad 1 (omega arith))
-
-  argued-tiny : (r : List ℕ → ℕ → Arguments → ℕ → Step) → ((c : ℕ) (x : Arguments) (len : ℕ) → Bound c x → Tiny (r m c x len)) → (c e : ℕ)
-      → Tiny (Model.argued r m c e)
-  unfolding Execute.argued
-  argued-tiny r h c e = either Tiny (Model.isForeign m c) (foreign-tiny c e) (go (fault-cases m c e))
-    where
-      go : (Model.argumentFault m c e ≡ 0) ⊎ ((1 ≤ Model.argumentFault m c e) × (Model.argumentFault m c e ≤ 12))
-          → Tiny (cond (eqb (Model.argumentFault m c e) 0) (r m c (Model.pointed m e (shapeFor c)) 4) (Model.fault m (Model.argumentFault m c e)))
-      go (inl t) = rw t (h c (Model.pointed m e (shapeFor c)) 4 (pointed-bound m s c e))
-      go (inr t) = rw (ne-eqb (Model.argumentFault m c e) 0 (omega (arith, t .0))) (bad (Model.argumentFault m c e) (omega (arith, t .1)))
-
-  exi-tiny : (k : ℕ) (x : Arguments) → Tiny (Model.exi k m x)
-  unfolding Execute.exi
-  exi-tiny zero x = bad 2 (omega arith)
-  exi-tiny (suc k) x =
-      let ih = exi-tiny k in
-      argued-tiny (Model.run (Model.exi k)) (λ c y len b. run-tiny (Model.exi k) c y len b (ih y)) (x .field) (Model.indexed m (x .second) (x .address))
-
   pub fetched-tiny : (n : ℕ) → Tiny (Model.fetched m n)
-  unfolding Execute.fetched Execute.coded Execute.decoded Execute.taken Answer.memoryOf
-  fetched-tiny n =
-      let c = Model.codeAt m n in
-      let x = Model.direct m n (shapeFor c) in
-      either Tiny (guarded n) (bad 11 (omega arith)) (either Tiny (eqb (getD m n 0) 224)
-      (either Tiny (guarded ((n + 1) % 8192)) (bad 11 (omega arith)) (either Tiny (eqb (Model.kind m c) 1)
-      (either Tiny (clear (lengthFor c - 2) ((n + 2) % 8192)) (run-tiny (Model.exi 1) c x (lengthFor c) (direct-bound m s n c) (exi-tiny 1 x))
-      (bad 11 (omega arith)))
-      (foreign-tiny c ((n + 1) % 8192)))) s)
+  unfolding Answer.memoryOf
+  fetched-tiny = fetched-each {B = Bound} {P = Tiny} (record {
+    direct = direct-bound m s;
+    pointed = pointed-bound m s;
+    fault = λ f l u. bad f (omega arith);
+    handed = λ p a. s;
+    refused = s;
+    cvi = λ x len b. cvi-tiny (x .field) (x .address) len;
+    dvi = λ x len b. dvi-tiny (x .field) len;
+    gin = gin-tiny;
+    win = λ x len b. win-tiny (x .interrupt) (x .count) len (b .count refl);
+    sme = λ x len b. sme-tiny (x .field) (x .second) (x .address) len (b .field) (b .send refl);
+    wnm = λ x len b. wnm-tiny (x .field) (x .second) len (b .field) (b .wait refl);
+    rme = rme-tiny;
+    tme = tme-tiny;
+    named = named-tiny;
+    st2 = st2-tiny;
+    crp = λ x len b. crp-tiny (x .field) (x .second) (x .w) (x .address) len (b .field) (b .create refl);
+    thirteen = thirteen-tiny;
+  })

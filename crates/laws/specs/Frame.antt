@@ -3,7 +3,7 @@
 use mathlib.Core.Path.{_≡_, refl, ap, _∙_}
 use mathlib.Core.Logic.{_≢_}
 use mathlib.Core.List.{List}
-use Prim.Native.Nat.{ℕ, zero, suc, _+_, _-_, _*_, _%_, _≤_, _<_}
+use Prim.Native.Nat.{ℕ, zero, _+_, _-_, _*_, _%_, _≤_, _<_}
 use native.Mathlib.Omega.{arith}
 use lib.ListN.{length, getD, set, length-set}
 use lib.Seq.{getD-set-same}
@@ -20,7 +20,7 @@ use Rattle.model.specs.Bytes as Model
 use Rattle.model.specs.Bytes.{fault, whoRuns, name, running}
 use Rattle.laws.specs.Frames.{other}
 use Rattle.laws.specs.Words.{either}
-use Rattle.laws.specs.Who.{zero-low}
+use Rattle.laws.specs.Who.{zero-low, kept-frame, restored-frame}
 
 -- ---- what a change of who runs moves: words 24 and 25 of page 7, the nineteen words of page 0, and those of page r, which ran
 pub record Unmoved (r a : ℕ) : Type 0 where
@@ -28,19 +28,6 @@ pub record Unmoved (r a : ℕ) : Type 0 where
   pub label : a ≢ 249
   pub zero : (i : ℕ) → i < 19 → a ≢ zeroPlace i
   pub kept : (i : ℕ) → i < 19 → a ≢ r * 32 + (13 + i)
-
-kept-frame : (n : ℕ) (m : List ℕ) (p : ℕ) (w : List ℕ) (a : ℕ) → n ≤ 19 → ((i : ℕ) → i < 19 → a ≢ p * 32 + (13 + i))
-    → getD (Model.kept n m p w) a 0 ≡ getD m a 0
-unfolding Turn.kept
-kept-frame zero m p w a l f = refl
-kept-frame (suc n) m p w a l f =
-    kept-frame n (set m (p * 32 + (13 + n)) (getD w n 0)) p w a (omega arith) f ∙ other m (p * 32 + (13 + n)) (getD w n 0) a (f n (omega arith))
-
-pub restored-frame : (n : ℕ) (m : List ℕ) (w : List ℕ) (a : ℕ) → n ≤ 19 → ((i : ℕ) → i < 19 → a ≢ zeroPlace i) → getD (Model.restored n m w) a 0 ≡ getD m a 0
-unfolding Turn.restored
-restored-frame zero m w a l f = refl
-restored-frame (suc n) m w a l f =
-    restored-frame n (set m (zeroPlace n) (getD w n 0)) w a (omega arith) f ∙ other m (zeroPlace n) (getD w n 0) a (f n (omega arith))
 
 pub turn-frame : (m : List ℕ) (a : ℕ) → Unmoved (getD m 248 0) a → getD (whoRuns m) a 0 ≡ getD m a 0
 unfolding Turn.whoRuns Turn.switch Turn.runs Turn.save Turn.load
@@ -50,9 +37,9 @@ turn-frame m a u =
     let m1 = Model.save m r in
     let m2 = Model.load m1 t in
     let s : getD (Model.save m r) a 0 ≡ getD m a 0 = either (λ (x : List ℕ). getD x a 0 ≡ getD m a 0) (eqb r 0) refl
-    (kept-frame 19 m r (Model.onPage0 m) a (omega arith) (u .kept)) in
+    (kept-frame 19 m r (Model.onPage0 m) a (u .kept)) in
     let l : getD (Model.load (Model.save m r) t) a 0 ≡ getD m a 0 = either (λ (x : List ℕ). getD x a 0 ≡ getD m a 0) (eqb t 0) s
-    (restored-frame 19 m1 (Model.keptOn m1 t) a (omega arith) (u .zero) ∙ s) in
+    (restored-frame 19 m1 (Model.keptOn m1 t) a (u .zero) ∙ s) in
     either (λ (x : List ℕ). getD x a 0 ≡ getD m a 0) (eqb r t) refl
     (other (set m2 248 t) 249 _ a (u .label) ∙ other m2 248 t a (u .page) ∙ l)
 

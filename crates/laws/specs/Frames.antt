@@ -1,6 +1,6 @@
 -- What stays when words change that the judge does not look at: page 0 and unprotected words, registers and kept words of a processor; and when only
 -- one control page, which is in hand, changes. Assumes nothing.
-use mathlib.Core.Path.{_≡_, refl, _∙_}
+use mathlib.Core.Path.{_≡_, refl, sym, _∙_}
 use mathlib.Core.Logic.{_≢_, _⊎_, inl, inr}
 use mathlib.Core.List.{List}
 use Prim.Native.Nat.{ℕ, zero, suc, _+_, _-_, _*_, _%_, _≤_, _<_}
@@ -18,7 +18,7 @@ use Rattle.laws.specs.Heads.Place.{int, three, grant, slot}
 use Rattle.laws.specs.Heads.Seat.{line, page, own}
 use Rattle.laws.specs.Uses.{Among, Head, head-place, Sep, proc-page}
 use Rattle.laws.specs.Places.{in-grant, all-pages}
-use Rattle.laws.specs.Inv.{View, Holds, Mem, Base, Inv}
+use Rattle.laws.specs.Inv.{View, Fixed, Holds, Mem, Base, Inv}
 use Rattle.laws.specs.Judged.{WellFormed, well-formed, invariant}
 
 -- a store elsewhere
@@ -38,6 +38,24 @@ holds-kept m m′ ps L s heads zeros ones h = record {
     go a i x c (inl e) = rw (e, link-procs) (ones x (rw (e, s .procs) at c))
     go a i x c (inr n) = rw (link-other a n) (zeros a x (i .0) n c)
 
+-- ---- the counters, the words of who runs, pages 8 and 9
+pub fixed-same : {m m′ : List ℕ} {l c : ℕ → ℕ} {n : ℕ} {e : ℕ → ℕ} → ((a : ℕ) → 239 ≤ a → a ≤ 243 → getD m′ a 0 ≡ getD m a 0)
+    → ((a : ℕ) → 248 ≤ a → a ≤ 251 → getD m′ a 0 ≡ getD m a 0) → ((a : ℕ) → 256 ≤ a → a < 320 → getD m′ a 0 ≡ getD m a 0) → Fixed m l c n e → Fixed m′ l c n e
+fixed-same clock turn rest f = record {
+  clock = λ a h i. clock a h i ∙ f .clock a h i;
+  turn = λ a h i. turn a h i ∙ f .turn a h i;
+  code = λ k h. rest (256 + 2 * k) (omega arith) (omega arith) ∙ f .code k h;
+  next = rest 288 (omega arith) (omega arith) ∙ f .next;
+  entry = λ i h. rest (289 + i) (omega arith) (omega arith) ∙ f .entry i h;
+}
+
+-- ---- the semaphores
+pub seat-same : (m m′ : List ℕ) {ps : List ℕ} → ((a : ℕ) → 131 ≤ a → a ≤ 245 → getD m′ a 0 ≡ getD m a 0)
+    → ((p : ℕ) → 1 ≤ count p ps → getD m′ (p * 32 + 3) 0 ≡ getD m (p * 32 + 3) 0) → (a : ℕ) → Seat ps a → getD m′ a 0 ≡ getD m a 0
+seat-same m m′ low page-3 a (line k u e) = low a (omega arith) (omega arith)
+seat-same m m′ low page-3 a (page e) = low a (omega arith) (omega arith)
+seat-same m m′ low page-3 a (own p u e) = rw e (page-3 p u)
+
 -- ---- the judged words stay
 pub record Kept (m m′ : List ℕ) : Type 0 where
   pub size : length m′ ≡ length m
@@ -56,17 +74,12 @@ module _ {m m′ : List ℕ} (k : Kept m m′) where
       go (slot t) = rw (t .is) (k .words (t .page) (t .word) (proc-page s (t .page) (t .proc)) (omega arith))
 
   kept-sems : {ps : List ℕ} {L : Lists} → Sep ps L → (a : ℕ) → 1 ≤ count (a + 1) (queues ps) → getD m′ a 0 ≡ getD m a 0
-  kept-sems {ps} s a h = go (seat-of ps a h)
-    where
-      go : Seat ps a → getD m′ a 0 ≡ getD m a 0
-      go (line n u e) = k .fixed a (omega arith) (omega arith)
-      go (page e) = k .fixed a (omega arith) (omega arith)
-      go (own p u e) = rw e (k .words p 3 (proc-page s p u) (omega arith))
+  kept-sems {ps} s a h =
+      seat-same m m′ (λ a i j. k .fixed a (omega arith) (omega arith)) (λ p u. k .words p 3 (proc-page s p u) (omega arith)) a (seat-of ps a h)
 
   pub mem-kept : {ps : List ℕ} {L : Lists} {W : View} → Sep ps L → Mem m ps L W → Mem m′ ps L W
   mem-kept {ps} {L} {W} s x =
       let p = x .reads .words in
-      let f = x .reads .fixed in
       record {
         size = k .size ∙ x .size;
         holds = holds-kept m m′ ps L s (kept-heads s) (λ a y h n c. k .words y 0 (all-pages s a y h c) (omega arith))
@@ -78,13 +91,8 @@ module _ {m m′ : List ℕ} (k : Kept m m′) where
             label = λ y h. k .words y 7 h (omega arith) ∙ p .label y h;
             state = λ y h. k .state y h ∙ p .state y h;
           };
-          fixed = record {
-            clock = λ a h i. k .fixed a (omega arith) (omega arith) ∙ f .clock a h i;
-            turn = λ a h i. k .fixed a (omega arith) (omega arith) ∙ f .turn a h i;
-            code = λ i h. k .fixed (256 + 2 * i) (omega arith) (omega arith) ∙ f .code i h;
-            next = k .fixed 288 (omega arith) (omega arith) ∙ f .next;
-            entry = λ i h. k .fixed (289 + i) (omega arith) (omega arith) ∙ f .entry i h;
-          };
+          fixed = fixed-same (λ a h i. k .fixed a (omega arith) (omega arith)) (λ a h i. k .fixed a (omega arith) (omega arith))
+              (λ a h i. k .fixed a (omega arith) (omega arith)) (x .reads .fixed);
           sems = λ a h. kept-sems s a h ∙ x .reads .sems a h;
         };
       }
@@ -100,6 +108,14 @@ module _ {m m′ : List ℕ} (k : Kept m m′) where
 
 pub kept-refl : (m : List ℕ) → Kept m m
 kept-refl m = record { size = refl; fixed = λ a i j. refl; words = λ p j h i. refl; state = λ p h. refl }
+
+pub kept-on : {m m1 m2 : List ℕ} → Kept m m1 → Kept m1 m2 → Kept m m2
+kept-on f g = record {
+  size = g .size ∙ f .size;
+  fixed = λ a i j. g .fixed a i j ∙ f .fixed a i j;
+  words = λ p j h i. g .words p j h i ∙ f .words p j h i;
+  state = λ p h. g .state p h ∙ f .state p h;
+}
 
 -- ---- a store to a word that is not judged
 pub record Quiet (b : ℕ) : Type 0 where
@@ -117,9 +133,6 @@ kept-set {m} {m′} b v q k = record {
 
 pub quiet-low : (b : ℕ) → b < 128 → Quiet b
 quiet-low b u = record { fixed = λ a i j. omega arith; words = λ p j h i. omega arith; state = λ p h. omega arith }
-
-pub quiet-mid : (b : ℕ) → 352 ≤ b → b < 7552 → Quiet b
-quiet-mid b u v = record { fixed = λ a i j. omega arith; words = λ p j h i. omega arith; state = λ p h. omega arith }
 
 pub quiet-word : (q w b : ℕ) → Page q → 8 ≤ w → w < 32 → w ≢ 12 → b ≡ q * 32 + w → Quiet b
 quiet-word q w b g l u n e = record { fixed = λ a i j. omega arith; words = λ p j h i. omega arith; state = λ p h. omega arith }
@@ -139,6 +152,17 @@ only-set {q} {m} {m′} b v l u o = record {
   below = λ a h. other m′ b v a (omega arith) ∙ o .below a h;
   above = λ a h. other m′ b v a (omega arith) ∙ o .above a h;
 }
+
+-- ---- n words copied leave every other word
+pub copy-far : (n : ℕ) (m : List ℕ) (a b c : ℕ) → b < 8192 → ((i : ℕ) → i < n → c ≢ (b + i) % 8192) → getD (copy n m a b) c 0 ≡ getD m c 0
+unfolding Address.copy
+copy-far zero m a b c l f = refl
+copy-far (suc n) m a b c l f =
+    let e : (b + 0) % 8192 ≡ b = omega arith in
+    let f0 : c ≢ b = λ z. f 0 (omega arith) (z ∙ sym e) in
+    copy-far n (set m b (getD m a 0)) ((a + 1) % 8192) ((b + 1) % 8192) c (omega arith)
+    (λ i h z. f (suc i) (omega arith) (z ∙ (let d : ((b + 1) % 8192 + i) % 8192 ≡ (b + suc i) % 8192 = omega arith in d)))
+    ∙ other m b (getD m a 0) c f0
 
 -- n words copied to words of page q
 pub only-copy : {q : ℕ} {m : List ℕ} (n : ℕ) (m′ : List ℕ) (a b : ℕ) → q < 256 → q * 32 ≤ b → b + n ≤ q * 32 + 32 → Only q m m′ → Only q m (copy n m′ a b)

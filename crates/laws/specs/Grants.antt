@@ -1,5 +1,6 @@
 -- Pages: "A page given back goes to the first waiter as its grant and wakes it; with no waiter, to the end of the free list"; "SME and CRP use the page
--- granted to them, else the first free one". The model's steps. Assumes nothing.
+-- granted to them, else the first free one". The model's steps, and which words giving
+-- back leaves. Assumes nothing.
 use mathlib.Core.Path.{_≡_, refl, sym, ap, _∙_}
 use mathlib.Core.Logic.{_≢_, _⊎_, inl, inr}
 use mathlib.Core.List.{List, [], _∷_, _++_}
@@ -10,7 +11,7 @@ use lib.Dec.{eqb}
 use borrow.Author.Tests.{ne-eqb}
 use Rattle.model.specs.Page as Page
 use Rattle.model.specs.Page.Taken.{took}
-use Rattle.model.specs.Bytes.{takeFree, takePage, grantPage, giveBack}
+use Rattle.model.specs.Bytes.{takeFree, takePage, freePage, grantPage, giveBack}
 use Rattle.model.specs.Lists.{hit, count, Lists, sum, each-of, some, uses, queues}
 use Rattle.laws.specs.Count.{hit-self, hit-other, hit-or, one-hit}
 use Rattle.laws.specs.Chain.{Page, Chain}
@@ -19,11 +20,13 @@ use Rattle.laws.specs.Heads.{sum-one, sum-skip}
 use Rattle.laws.specs.Uses.{Sep, proc-page, proc-once}
 use Rattle.laws.specs.Places.{in-free, in-asking, asking-once, grant-once, grant-low, wait-page}
 use Rattle.laws.specs.Inv.{View, Facts, Base}
+use Rattle.laws.specs.Frames.{other}
 use Rattle.laws.specs.Views.{put1, withSem}
-use Rattle.laws.specs.Cells.{chain0, grant-mem}
-use Rattle.laws.specs.Changes.{uses-upd, queue-same, uses-sep, facts-uses, facts-same, stock-same, hand-page, page-sem}
-use Rattle.laws.specs.Wake.{woken, woken-proc, facts-wake, wake-mem}
-use Rattle.laws.specs.Hands.{take-free, give-free, take-grant}
+use Rattle.laws.specs.Stores.{sem-mem}
+use Rattle.laws.specs.Cells.{chain0, join-frame, grant-mem}
+use Rattle.laws.specs.Changes.{uses-upd, queue-same, uses-sep, facts-uses, stock-same, hand-page, page-sem}
+use Rattle.laws.specs.Wake.{woken, woken-proc, facts-wake, wake-mem, wake-frame}
+use Rattle.laws.specs.Hands.{in-hand, hand-new, take-free, give-free, take-grant}
 
 -- two of one name
 each-one : (f : ℕ → ℕ) (x : ℕ) (ps : List ℕ) → 1 ≤ count x ps → 1 ≤ count (f x) (each-of f ps)
@@ -104,7 +107,7 @@ module _ {m : List ℕ} {ps : List ℕ} {L : Lists} {W : View} {hs : List ℕ} {
   facts-grant =
       let i = grant-once s n (omega arith) in
       let o : (c : ℕ) → c ≢ 320 + n → K c ≡ A c = λ c d. upd-other A (320 + n) c (some q) d in
-      facts-same (facts-uses K (woken W 245 p .sem) (record {
+      facts-uses K (woken W 245 p .sem) (record {
         sep = uses-sep (fw .sep) (320 + n) i (omega arith) (some q) (λ z. omega (arith, more z, b .all z));
         same = queue-same (fw .sep) (320 + n) i (omega arith) (some q);
         sems = λ a h. rw (stock-same A K (o 244 (omega arith)) a) (fw .sems a h);
@@ -112,7 +115,7 @@ module _ {m : List ℕ} {ps : List ℕ} {L : Lists} {W : View} {hs : List ℕ} {
         known = λ k h d c. known k h d c (hit-or k n);
         mail = λ y w h u v. rw (o (y * 32 + w) (let t = proc-page s y h in omega arith)) (fw .mail y w h u v);
         none = λ y x h j. rw (o (y * 32 + 5) (let t = proc-page s y h in omega arith)) (fw .own y h x j .none);
-      }) fw)
+      }) fw
     where
       known : (k : ℕ) → k < 32 → k ≢ g → length (K (320 + k)) ≢ 0 → (k ≡ n) ⊎ (k ≢ n) → count k (each-of (λ y. W .label y % 16) ps) ≡ 1
       known k h d c (inl t) = rw t (b .facts .names .differ p waiter-proc)
@@ -161,26 +164,71 @@ pub record Any (m : List ℕ) (hs : List ℕ) (g : ℕ) : Type 0 where
 pub any-of : {m : List ℕ} {ps : List ℕ} {L : Lists} {W : View} {hs : List ℕ} {g : ℕ} → Base m ps L W hs g → Any m hs g
 any-of {ps = ps} {L = L} {W = W} b = record { procs = ps; lists = L; view = W; base = b }
 
-pub give-back : {m : List ℕ} {ps : List ℕ} {L : Lists} {W : View} {hs : List ℕ} {g q : ℕ} → Base m ps L W (q ∷ hs) g → Gave (giveBack m q) ps hs g W
-unfolding Page.giveBack
-give-back {m} {ps} {L} {W} {hs} {g} {q} b = go (L 246) refl (chain0 (b .facts .sep) (b .mem) 246 (in-asking ps, grant-low 246 (omega arith)) (omega arith))
-  where
-    go : (xs : List ℕ) → L 246 ≡ xs → Chain m 0 246 (L 246) → Gave (giveBack m q) ps hs g W
-    go [] e c = let z : getD m 246 0 ≡ 0 = rw e at c in rw z (record {
-      lists = upd L 244 (L 244 ++ q ∷ []);
-      view = withSem W (put1 (W .sem) 245 ((W .sem 245 + 1) % 256));
-      base = give-free b e;
-      low = refl;
-    })
-    go (p ∷ ws) e c =
-        let t = rw e at c in
-        let pg = proc-page (b .facts .sep) p (waiter-proc b p ws e) in
-        rw (t .0, ne-eqb p 0 (omega arith)) (record {
-          lists = upd (upd L 246 ws) (320 + W .label p % 16) (some q);
-          view = woken W 245 p;
-          base = give-grant b p ws e;
-          low = refl;
-        })
+module _ {m : List ℕ} {ps : List ℕ} {L : Lists} {W : View} {hs : List ℕ} {g q : ℕ} (b : Base m ps L W (q ∷ hs) g) where
+  asking : Chain m 0 246 (L 246)
+  asking = chain0 (b .facts .sep) (b .mem) 246 (in-asking ps, grant-low 246 (omega arith)) (omega arith)
+
+  pub give-is-free : L 246 ≡ [] → giveBack m q ≡ freePage m q
+  unfolding Page.giveBack
+  give-is-free e = let z : getD m 246 0 ≡ 0 = rw e at asking in rw z
+
+  pub give-is-grant : (p : ℕ) (ws : List ℕ) → L 246 ≡ p ∷ ws → giveBack m q ≡ grantPage m p q
+  unfolding Page.giveBack
+  give-is-grant p ws e = let t = rw e at asking in rw (t .0, ne-eqb p 0 (omega arith))
+
+  pub give-back : Gave (giveBack m q) ps hs g W
+  give-back = go (L 246) refl
+    where
+      go : (xs : List ℕ) → L 246 ≡ xs → Gave (giveBack m q) ps hs g W
+      go [] e = rw (give-is-free e) (record {
+        lists = upd L 244 (L 244 ++ q ∷ []);
+        view = withSem W (put1 (W .sem) 245 ((W .sem 245 + 1) % 256));
+        base = give-free b e;
+        low = refl;
+      })
+      go (p ∷ ws) e = rw (give-is-grant p ws e) (record {
+        lists = upd (upd L 246 ws) (320 + W .label p % 16) (some q);
+        view = woken W 245 p;
+        base = give-grant b p ws e;
+        low = refl;
+      })
+
+-- a word that is neither a grant nor one of the free list or the page queue, and for no waiter the link or word 2 or 12
+pub record Spared (L : Lists) (q c : ℕ) : Type 0 where
+  pub low : (a : ℕ) → 244 ≤ a → a ≤ 246 → c ≢ a
+  pub grant : (k : ℕ) → k < 16 → c ≢ 320 + k
+  pub hand : c ≢ q * 32 + 0
+  pub free : (z : ℕ) → 1 ≤ count z (L 244) → c ≢ z * 32 + 0
+  pub waiter : (p : ℕ) → 1 ≤ count p (L 246) → (c ≢ p * 32 + 0) × (c ≢ p * 32 + 2) × (c ≢ p * 32 + 12)
+
+-- it stays
+module _ {m : List ℕ} {ps : List ℕ} {L : Lists} {W : View} {hs : List ℕ} {g q : ℕ} (b : Base m ps L W (q ∷ hs) g) (c : ℕ) (o : Spared L q c) where
+  free-frame : getD (freePage m q) c 0 ≡ getD m c 0
+  unfolding Page.freePage
+  free-frame =
+      let s = b .facts .sep in
+      let v = (getD m 245 0 + 1) % 256 in
+      join-frame s (sem-mem s (b .mem) 245 v (page-sem ps)) 244 (in-free ps, grant-low 244 (omega arith)) (omega arith) q
+      (hand-page b q (in-hand b)) (hand-new b) c (o .low 244 (omega arith) (omega arith)) (o .free) (o .hand)
+      ∙ other m 245 v c (o .low 245 (omega arith) (omega arith))
+
+  grant-frame : (p : ℕ) (ws : List ℕ) → L 246 ≡ p ∷ ws → getD (grantPage m p q) c 0 ≡ getD m c 0
+  unfolding Page.grantPage
+  grant-frame p ws e =
+      let s = b .facts .sep in
+      let n = W .label p % 16 in
+      let same = upd-other L (320 + n) 246 (some q) (omega arith) in
+      let t = o .waiter p (rw e (omega (arith, hit-self p))) in
+      rw (b .mem .reads .words .label p (proc-page s p (waiter-proc b p ws e)))
+      (wake-frame (sep-G b p ws e) (grant-mem n q (omega arith) s (b .mem)) 245 p [] ws (page-sem ps) (same ∙ e) c (o .low 245 (omega arith) (omega arith))
+      (o .low 246 (omega arith) (omega arith)) (λ z i. o .waiter z (rw same at i) .0) (t .1) (t .2) ∙ other m (320 + n) q c (o .grant n (omega arith)))
+
+  pub give-frame : getD (giveBack m q) c 0 ≡ getD m c 0
+  give-frame = go (L 246) refl
+    where
+      go : (xs : List ℕ) → L 246 ≡ xs → getD (giveBack m q) c 0 ≡ getD m c 0
+      go [] e = rw (give-is-free b e) free-frame
+      go (p ∷ ws) e = rw (give-is-grant b p ws e) (grant-frame p ws e)
 
 -- ---- take a page
 pub data Takes (m : List ℕ) (p : ℕ) (ps : List ℕ) (L : Lists) (W : View) (hs : List ℕ) (g : ℕ) : Type 0 where

@@ -1,7 +1,7 @@
 -- Instructions: CRP, "created stopped, all else zero". A page in hand becomes a processor: the heads of lists grow by three, all empty. Assumes nothing.
-use mathlib.Core.Path.{_≡_, refl, sym, ap, _∙_}
+use mathlib.Core.Path.{_≡_, sym, ap, _∙_}
 use mathlib.Core.Logic.{_≢_, _⊎_, inl, inr}
-use mathlib.Core.List.{List, [], _∷_, _++_}
+use mathlib.Core.List.{List, [], _∷_, _++_, append-nil}
 use Prim.Native.Nat.{ℕ, _+_, _-_, _*_, _/_, _%_, _≤_, _<_}
 use native.Mathlib.Omega.{arith}
 use lib.ListN.{length, getD, set, length-set}
@@ -10,22 +10,19 @@ use Rattle.model.specs.Map.{less}
 use Rattle.model.specs.Bytes.{join}
 use Rattle.model.specs.Lists.{hit, count, Lists, sum, linkOf, uses, queues}
 use Rattle.laws.specs.Count.{hit-self, hit-other, hit-or, one-hit, count-append}
-use Rattle.laws.specs.Chain.{Page, Chain, last, last-in, join-is, off-page}
+use Rattle.laws.specs.Chain.{Page, Chain, last, last-not, join-is, off-page}
 use Rattle.laws.specs.Queues.{upd, upd-same, upd-other, link-procs, rep-join}
-use Rattle.laws.specs.Heads.{sum-upd, sum-ext, sum-skip, sum-pos, Seat, seat-of}
-use Rattle.laws.specs.Heads.Seat.{line, page, own}
+use Rattle.laws.specs.Heads.{sum-upd, sum-ext, sum-skip, sum-pos, seat-of}
+use Rattle.laws.specs.Heads.Seat.{page, own}
 use Rattle.laws.specs.Uses.{Among, Head, Sep, proc-page, list-short, good, apart, single}
 use Rattle.laws.specs.Places.{in-uses, in-queues, in-procs, in-free, in-asking, in-own, in-q, in-grant, int-queue, grant-low}
 use Rattle.laws.specs.Inv.{View, bearers, Label, Message, Waits, stock, stock-else, Facts, Mem, Base}
-use Rattle.laws.specs.Frames.{other}
+use Rattle.laws.specs.Frames.{other, fixed-same, seat-same}
 use Rattle.laws.specs.Views.{put1, put1-same, put1-other, withSem}
-use Rattle.laws.specs.Changes.{stock-same, hand-page, hand-out, hand-free}
+use Rattle.laws.specs.Changes.{stock-same}
 use Rattle.laws.specs.Hands.{in-hand}
 use Rattle.laws.specs.Members.{names-more, uses-more, queues-more, uses-sum, queues-sum, head-off, procs-once}
-
-append-nil : (xs : List ℕ) → xs ++ [] ≡ xs
-append-nil [] = refl
-append-nil (x ∷ xs) = ap {B = List ℕ} (λ l. x ∷ l) (append-nil xs)
+use Rattle.laws.specs.Still.{Aside, aside-hand}
 
 -- ---- the new page q: its words, and that nobody bears its name
 pub record New (m : List ℕ) (ps : List ℕ) (W : View) (q : ℕ) : Type 0 where
@@ -40,14 +37,7 @@ module _ {m : List ℕ} {ps : List ℕ} {L : Lists} {W : View} {hs : List ℕ} {
   s : Sep ps L
   s = b .facts .sep
 
-  pg : Page q
-  pg = hand-page b q (in-hand b)
-
-  out : count q ps ≡ 0
-  out = hand-out b q (in-hand b)
-
-  free : (a : ℕ) → Among ps a → count q (L a) ≡ 0
-  free = hand-free b q (in-hand b)
+  open Aside (aside-hand b q (in-hand b)) using (page as pg, out, free)
 
   abbrev P : List ℕ
   P = ps ++ q ∷ []
@@ -277,15 +267,6 @@ module _ {m : List ℕ} {ps : List ℕ} {L : Lists} {W : View} {hs : List ℕ} {
       mail y w u v x c (inr e) = let z = rw (e, new-list w (omega arith) v) at c in absurd (omega arith)
 
   -- ---- the memory
-  -- the cell that ends the processor list
-  data Cell (c : ℕ) : Type 0 where
-    head : c ≡ 247 → Cell c
-    link : (z : ℕ) → 1 ≤ count z ps → c ≡ z * 32 + 1 → Cell c
-
-  end-cell : (xs : List ℕ) → ((z : ℕ) → 1 ≤ count z xs → 1 ≤ count z ps) → Cell (last 1 247 xs)
-  end-cell [] f = head refl
-  end-cell (x ∷ xs) f = let r = last-in 1 247 x xs in link (r .0) (f (r .0) (r .1)) (r .2)
-
   abbrev c : ℕ
   c = last 1 247 ps
 
@@ -304,11 +285,7 @@ module _ {m : List ℕ} {ps : List ℕ} {L : Lists} {W : View} {hs : List ℕ} {
 
   -- a word that is neither q's word 1, nor word 1 of a processor, nor 247
   same : (a : ℕ) → a ≢ q * 32 + 1 → a ≢ 247 → ((z : ℕ) → 1 ≤ count z ps → a ≢ z * 32 + 1) → getD m2 a 0 ≡ getD m a 0
-  same a n1 n7 nz = other m1 c q a (go (end-cell ps (λ z i. i))) ∙ other m (q * 32 + 1) 0 a n1
-    where
-      go : Cell c → a ≢ c
-      go (head e) = rw e n7
-      go (link z h e) = rw e (nz z h)
+  same a n1 n7 nz = other m1 c q a (last-not 1 247 ps a n7 nz) ∙ other m (q * 32 + 1) 0 a n1
 
   -- word j of a page, but 1
   same-word : (y j : ℕ) → Page y → j < 32 → j ≢ 1 → getD m2 (y * 32 + j) 0 ≡ getD m (y * 32 + j) 0
@@ -335,13 +312,8 @@ module _ {m : List ℕ} {ps : List ℕ} {L : Lists} {W : View} {hs : List ℕ} {
         label = λ y h. same-word y 7 h (omega arith) (omega arith) ∙ b .mem .reads .words .label y h;
         state = λ y h. same-word y 12 h (omega arith) (omega arith) ∙ b .mem .reads .words .state y h;
       };
-      fixed = let f = b .mem .reads .fixed in record {
-        clock = λ a h i. same-low a (omega arith) (omega arith) ∙ f .clock a h i;
-        turn = λ a h i. same-low a (omega arith) (omega arith) ∙ f .turn a h i;
-        code = λ k h. same-low (256 + 2 * k) (omega arith) (omega arith) ∙ f .code k h;
-        next = same-low 288 (omega arith) (omega arith) ∙ f .next;
-        entry = λ i h. same-low (289 + i) (omega arith) (omega arith) ∙ f .entry i h;
-      };
+      fixed = fixed-same (λ a h i. same-low a (omega arith) (omega arith)) (λ a h i. same-low a (omega arith) (omega arith))
+          (λ a h i. same-low a (omega arith) (omega arith)) (b .mem .reads .fixed);
       sems = λ a h. sem a (which-queue (a + 1) h);
     };
   })
@@ -363,12 +335,8 @@ module _ {m : List ℕ} {ps : List ℕ} {L : Lists} {W : View} {hs : List ℕ} {
       sem : (a : ℕ) → (1 ≤ count (a + 1) (queues ps)) ⊎ (a + 1 ≡ q * 32 + 4) → getD m2 a 0 ≡ put1 (W .sem) (q * 32 + 3) 0 a
       sem a (inl h) =
           let d : a ≢ q * 32 + 3 = λ e. head-off s q 4 (a + 1) pg (omega arith) out (in-queues ps (a + 1) h) (omega arith) in
-          rw (put1-other (W .sem) (q * 32 + 3) 0 a d) (old-sem a (seat-of ps a h) ∙ b .mem .reads .sems a h)
-        where
-          old-sem : (a : ℕ) → Seat ps a → getD m2 a 0 ≡ getD m a 0
-          old-sem a (line k u e) = same-low a (omega arith) (omega arith)
-          old-sem a (page e) = same-low a (omega arith) (omega arith)
-          old-sem a (own y u e) = rw e (same-word y 3 (proc-page s y u) (omega arith) (omega arith))
+          rw (put1-other (W .sem) (q * 32 + 3) 0 a d) (seat-same m m2 (λ x i j. same-low x (omega arith) (omega arith))
+          (λ y u. same-word y 3 (proc-page s y u) (omega arith) (omega arith)) a (seat-of ps a h) ∙ b .mem .reads .sems a h)
       sem a (inr e) =
           let d : a ≡ q * 32 + 3 = omega arith in
           rw (put1-same (W .sem) (q * 32 + 3) 0 a d, d) (same-word q 3 pg (omega arith) (omega arith) ∙ n .empty 3 (omega arith) (omega arith))

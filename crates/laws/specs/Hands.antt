@@ -25,9 +25,7 @@ use Rattle.laws.specs.Frames.{Only}
 use Rattle.laws.specs.Views.{put1, put1-same, put1-other, withSem, retold}
 use Rattle.laws.specs.Stores.{sem-mem, hand-mem}
 use Rattle.laws.specs.Cells.{join-mem, leave-mem, grant-mem}
-use Rattle.laws.specs.Changes.{uses-upd, queue-same, uses-sep, facts-uses, facts-same, facts-less, stock-same, hand-page, hand-out}
-use Rattle.laws.specs.Changes.{hand-free, facts-off}
-use Rattle.laws.specs.Changes.{page-sem}
+use Rattle.laws.specs.Changes.{uses-upd, queue-same, uses-sep, facts-uses, facts-less, stock-same, hand-page, hand-out, hand-free, facts-off, page-sem}
 
 -- ---- words of a page in hand
 pub hand-base : {m m′ : List ℕ} {ps : List ℕ} {L : Lists} {W : View} {hs : List ℕ} {g : ℕ} (q : ℕ) → 1 ≤ count q hs → Only q m m′ → Base m ps L W hs g
@@ -185,7 +183,7 @@ module _ {ps : List ℕ} {L : Lists} {W : View} {g : ℕ} (q : ℕ) (fc : Facts 
   facts-mail =
       let i = q-once sp p w u v h in
       let o : (c : ℕ) → c ≢ a → upd L a K c ≡ L c = λ c n. upd-other L a c K n in
-      facts-same (facts-uses (upd L a K) (W .sem) (record {
+      facts-uses (upd L a K) (W .sem) (record {
         sep = uses-sep sp a i (omega (arith, low)) K (λ z. omega (arith, more-mail z, room z));
         same = queue-same sp a i (omega (arith, low)) K;
         sems = λ c j. rw (stock-same L (upd L a K) (o 244 (omega (arith, low))) c) (fc .sems c j);
@@ -193,7 +191,7 @@ module _ {ps : List ℕ} {L : Lists} {W : View} {g : ℕ} (q : ℕ) (fc : Facts 
         known = λ k j. rw (o (320 + k) (omega (arith, low))) (fc .granted .known k j);
         mail = λ y n j l r x c. mails y n j l r x c (hit-or (y * 32 + n) a) (hit-or x q);
         none = λ y x j k z c. nones y x j k z c (hit-or (y * 32 + 5) a) (hit-or z q);
-      }) fc)
+      }) fc
 
 module _ {m : List ℕ} {ps : List ℕ} {L : Lists} {W : View} {hs : List ℕ} {g q : ℕ} (b : Base m ps L W (q ∷ hs) g) where
   pub room : (z : ℕ) → sum z L (uses ps) + hit (eqb z q) ≤ one z

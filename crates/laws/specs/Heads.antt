@@ -27,10 +27,6 @@ one-page z h = go (leb 236 z) (ltb z 256) refl refl h
     go true false e f h = absurd (omega arith)
     go false t e f h = absurd (omega arith)
 
-pub one-is : (z : ℕ) → one z ≡ hit (leb 236 z && ltb z 256)
-unfolding one
-one-is z = refl
-
 pub page-one : (z : ℕ) → Page z → one z ≡ 1
 unfolding one
 page-one z p = rw (le-leb 236 z (p .0), lt-ltb z 256 (p .1))

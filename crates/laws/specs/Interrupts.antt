@@ -14,24 +14,25 @@ use Rattle.model.specs.Operate as Operate
 use Rattle.model.specs.Bytes as Model
 use Rattle.model.specs.Bytes.{lists, ends, struck, classed, servedFrom, serve, counts, turns, delivered, whoRuns}
 use Rattle.model.specs.Lists.{count, Lists, queues}
-use Rattle.laws.specs.Count.{hit-self, hit-or, count-append}
+use Rattle.laws.specs.Count.{hit-or, count-mid}
 use Rattle.laws.specs.Chain.{Page, Chain}
 use Rattle.laws.specs.Queues.{upd, upd-same}
 use Rattle.laws.specs.Heads.{sum-one, sum-two}
 use Rattle.laws.specs.Uses.{Sep, proc-page, proc-once, list-short}
 use Rattle.laws.specs.Places.{in-queues, int-queue, own-once, q-free, wait-page}
-use Rattle.laws.specs.Inv.{View, view, Clock, Facts, Base, Inv}
+use Rattle.laws.specs.Inv.{View, view, Clock, Facts, Base}
 use Rattle.laws.specs.Judged.{WellFormed, well-formed, invariant}
 use Rattle.laws.specs.Frames.{Kept, kept-refl, kept-set, quiet-word, base-kept}
 use Rattle.laws.specs.Views.{put1, put1-same, put1-other, withReason, withLow}
 use Rattle.laws.specs.Stores.{reason-mem, clock-mem}
 use Rattle.laws.specs.Cells.{chain0}
-use Rattle.laws.specs.Changes.{int-sem, facts-low}
+use Rattle.laws.specs.Changes.{facts-low}
 use Rattle.laws.specs.Wake.{wake-base, woken, woken-proc, seat-head, not-procs}
 use Rattle.laws.specs.Grants.{Gave}
-use Rattle.laws.specs.Who.{who-inv, running-in}
+use Rattle.laws.specs.Who.{who-inv, Busy, busy}
 use Rattle.laws.specs.Ends.{Fine, done-fine, waits-fine, advance-base}
 use Rattle.laws.specs.Simple.{fails}
+use Rattle.laws.specs.Waits.{line-fit}
 
 -- ---- a link along a chain
 abbrev pub head : List ℕ → ℕ
@@ -129,8 +130,8 @@ module _ (k c : ℕ) (k1 : 1 ≤ k) (k2 : k ≤ 54) where
   pub seat : (ps : List ℕ) → 1 ≤ count (a + 1) (queues ps)
   seat ps = rw (← at-head) (int-queue ps (k - 1) (omega arith))
 
-  pub struck-base : {m : List ℕ} {ps : List ℕ} {L : Lists} {W : View} {hs : List ℕ} {g : ℕ} (p : ℕ) (xs ys : List ℕ) → Base m ps L W hs g → L (a + 1) ≡ xs ++ p ∷ ys
-      → Struck (struck m k c p) ps a ys hs g W
+  pub struck-base : {m : List ℕ} {ps : List ℕ} {L : Lists} {W : View} {hs : List ℕ} {g : ℕ} (p : ℕ) (xs ys : List ℕ) → Base m ps L W hs g
+      → L (a + 1) ≡ xs ++ p ∷ ys → Struck (struck m k c p) ps a ys hs g W
   unfolding Interrupt.struck
   struck-base {m} {ps} {L} {W} {hs} {g} p xs ys b e = go (eqb (W .reason p) 1) refl
     where
@@ -138,7 +139,7 @@ module _ (k c : ℕ) (k1 : 1 ≤ k) (k2 : k ≤ 54) where
       s = b .facts .sep
 
       inside : 1 ≤ count p (L (a + 1))
-      inside = rw e (omega (arith, count-append p xs (p ∷ ys), hit-self p))
+      inside = rw e (count-mid p xs ys)
 
       pg : Page p
       pg = proc-page s p (wait-page s (a + 1) p (seat ps) inside)
@@ -252,7 +253,7 @@ pub record Some (m : List ℕ) (ps : List ℕ) (hs : List ℕ) (g : ℕ) : Type 
   pub view : View
   pub base : Base m ps lists view hs g
 
-some-of : {m : List ℕ} {ps : List ℕ} {hs : List ℕ} {g : ℕ} {W : View} → Gave m ps hs g W → Some m ps hs g
+abbrev pub some-of : {m : List ℕ} {ps : List ℕ} {hs : List ℕ} {g : ℕ} {W : View} → Gave m ps hs g W → Some m ps hs g
 some-of t = record { lists = t .lists; view = t .view; base = t .base }
 
 module _ {m : List ℕ} {ps : List ℕ} {L : Lists} {W : View} {hs : List ℕ} {g : ℕ} (b : Base m ps L W hs g) where
@@ -271,90 +272,86 @@ module _ {m : List ℕ} {ps : List ℕ} {L : Lists} {W : View} {hs : List ℕ} {
         all = b .all;
       }
 
-  -- the counter c comes to its end e, and interrupt k is served, or it counts on
-  turns-base : (c k : ℕ) → 240 ≤ c → c ≤ 243 → 1 ≤ k → k ≤ 54 → Clock (put1 (W .low) c 0) → Some (turns m c k) ps hs g
-  unfolding Interrupt.turns
-  turns-base c k l u i j h = some-of (serve-base k 0 i j (counter-base c 0 l u h))
+-- what is kept by a counter that is set and by an interrupt that is served, the clock keeps
+module _ {ps hs : List ℕ} {g : ℕ} (G : List ℕ → Type 0) (now : (m : List ℕ) → G m → Some m ps hs g)
+    (sets : (m : List ℕ) (t : G m) (c v : ℕ) → 240 ≤ c → c ≤ 243 → Clock (put1 (now m t .view .low) c v) → G (set m c v))
+    (serves : (m : List ℕ) → G m → (k : ℕ) → 1 ≤ k → k ≤ 54 → G (serve m k 0)) where
+  -- a counter c with end e: at its end interrupt k is served and what is behind it goes on, else it counts
+  turned : {m : List ℕ} (t : G m) (c k e : ℕ) (m2 : List ℕ) → 240 ≤ c → c ≤ 243 → 1 ≤ k → k ≤ 54
+      → Clock (put1 (now m t .view .low) c 0) → ((now m t .view .low c + 1) % 256 ≢ e → Clock (put1 (now m t .view .low) c ((now m t .view .low c + 1) % 256)))
+      → (G (turns m c k) → G m2) → G (cond (ends m c e) m2 (counts m c))
+  unfolding Interrupt.ends Interrupt.turns Interrupt.counts
+  turned {m} t c k e m2 l u i j z0 more onward = go (eqb ((now m t .view .low c + 1) % 256) e) refl
+    where
+      at : getD m c 0 ≡ now m t .view .low c
+      at = counter-at (now m t .base) c (omega arith) u
 
-  counts-base : (c : ℕ) → 240 ≤ c → c ≤ 243 → Clock (put1 (W .low) c ((W .low c + 1) % 256)) → Some (counts m c) ps hs g
-  unfolding Interrupt.counts
-  counts-base c l u h = rw (counter-at c (omega arith) u) (record {
-    lists = L;
-    view = withLow W (put1 (W .low) c ((W .low c + 1) % 256));
-    base = counter-base c ((W .low c + 1) % 256) l u h;
-  })
+      go : (x : Bool) → eqb ((now m t .view .low c + 1) % 256) e ≡ x → G (cond (ends m c e) m2 (counts m c))
+      go true f = rw (at, f) (onward (serves (set m c 0) (sets m t c 0 l u z0) k i j))
+      go false f = rw (at, f) (sets m t c ((now m t .view .low c + 1) % 256) l u (more (eqb-false ((now m t .view .low c + 1) % 256) e f)))
 
--- a counter c with end e: at its end interrupt k is served and what is behind it goes on, else it counts
-turned : {m : List ℕ} {ps : List ℕ} {hs : List ℕ} {g : ℕ} (t : Some m ps hs g) (c k e : ℕ) (m2 : List ℕ) → 240 ≤ c → c ≤ 243 → 1 ≤ k → k ≤ 54
-    → Clock (put1 (t .view .low) c 0) → ((t .view .low c + 1) % 256 ≢ e → Clock (put1 (t .view .low) c ((t .view .low c + 1) % 256)))
-    → (Some (turns m c k) ps hs g → Some m2 ps hs g) → Some (cond (ends m c e) m2 (counts m c)) ps hs g
-unfolding Interrupt.ends
-turned {m} {ps} {hs} {g} t c k e m2 l u i j z0 more onward = go (eqb ((t .view .low c + 1) % 256) e) refl
-  where
-    at : getD m c 0 ≡ t .view .low c
-    at = counter-at (t .base) c (omega arith) u
+  -- "at 60, 54"; "at 60, 53 and C3"; "at 10, 52 and C2"; "at the divider it is 0 and 51 is served and C1 counts"
+  c3-kept : {m : List ℕ} → G m → G (Model.c3Counts m)
+  unfolding Interrupt.c3Counts
+  c3-kept {m} t =
+      let l = now m t .view .low in
+      let k = now m t .base .facts .clock in
+      turned t 243 54 60 (turns m 243 54) (omega arith) (omega arith) (omega arith) (omega arith) (clock3 l 0 (omega arith) k)
+      (λ n. clock3 (now m t .view .low) ((now m t .view .low 243 + 1) % 256) (omega (arith, k .c3)) k) (λ x. x)
 
-    go : (x : Bool) → eqb ((t .view .low c + 1) % 256) e ≡ x → Some (cond (ends m c e) m2 (counts m c)) ps hs g
-    go true f = rw (at, f) (onward (turns-base (t .base) c k l u i j z0))
-    go false f = rw (at, f) (counts-base (t .base) c l u (more (eqb-false ((t .view .low c + 1) % 256) e f)))
+  c2-kept : {m : List ℕ} → G m → G (Model.c2Counts m)
+  unfolding Interrupt.c2Counts
+  c2-kept {m} t =
+      let l = now m t .view .low in
+      let k = now m t .base .facts .clock in
+      turned t 242 53 60 (Model.c3Counts (turns m 242 53)) (omega arith) (omega arith) (omega arith) (omega arith) (clock2 l 0 (omega arith) k)
+      (λ n. clock2 (now m t .view .low) ((now m t .view .low 242 + 1) % 256) (omega (arith, k .c2)) k) c3-kept
 
--- "at 60, 54"; "at 60, 53 and C3"; "at 10, 52 and C2"; "at the divider it is 0 and 51 is served and C1 counts"
-c3-base : {m : List ℕ} {ps : List ℕ} {hs : List ℕ} {g : ℕ} → Some m ps hs g → Some (Model.c3Counts m) ps hs g
-unfolding Interrupt.c3Counts
-c3-base {m} t =
-    let l = t .view .low in
-    let k = t .base .facts .clock in
-    turned t 243 54 60 (turns m 243 54) (omega arith) (omega arith) (omega arith) (omega arith) (clock3 l 0 (omega arith) k)
-    (λ n. clock3 (t .view .low) ((t .view .low 243 + 1) % 256) (omega (arith, k .c3)) k) (λ x. x)
+  c1-kept : {m : List ℕ} → G m → G (Model.c1Counts m)
+  unfolding Interrupt.c1Counts
+  c1-kept {m} t =
+      let l = now m t .view .low in
+      let k = now m t .base .facts .clock in
+      turned t 241 52 10 (Model.c2Counts (turns m 241 52)) (omega arith) (omega arith) (omega arith) (omega arith) (clock1 l 0 (omega arith) k)
+      (λ n. clock1 (now m t .view .low) ((now m t .view .low 241 + 1) % 256) (omega (arith, k .c1)) k) c2-kept
 
-c2-base : {m : List ℕ} {ps : List ℕ} {hs : List ℕ} {g : ℕ} → Some m ps hs g → Some (Model.c2Counts m) ps hs g
-unfolding Interrupt.c2Counts
-c2-base {m} t =
-    let l = t .view .low in
-    let k = t .base .facts .clock in
-    turned t 242 53 60 (Model.c3Counts (turns m 242 53)) (omega arith) (omega arith) (omega arith) (omega arith) (clock2 l 0 (omega arith) k)
-    (λ n. clock2 (t .view .low) ((t .view .low 242 + 1) % 256) (omega (arith, k .c2)) k) c3-base
+  c0-kept : {m : List ℕ} → G m → G (Model.c0Counts m)
+  unfolding Interrupt.c0Counts
+  c0-kept {m} t =
+      let l = now m t .view .low in
+      let k = now m t .base .facts .clock in
+      let end : getD m 251 0 ≡ now m t .view .low 251 = now m t .base .mem .reads .fixed .turn 251 (omega arith) (omega arith) in
+      turned t 240 51 (getD m 251 0) (Model.c1Counts (turns m 240 51)) (omega arith) (omega arith) (omega arith) (omega arith)
+      (clock0 l 0 (omega (arith, k .divider)) k)
+      (λ n. clock0 (now m t .view .low) ((now m t .view .low 240 + 1) % 256) (omega (arith, k .c0, k .divider, end)) k) c1-kept
 
-c1-base : {m : List ℕ} {ps : List ℕ} {hs : List ℕ} {g : ℕ} → Some m ps hs g → Some (Model.c1Counts m) ps hs g
-unfolding Interrupt.c1Counts
-c1-base {m} t =
-    let l = t .view .low in
-    let k = t .base .facts .clock in
-    turned t 241 52 10 (Model.c2Counts (turns m 241 52)) (omega arith) (omega arith) (omega arith) (omega arith) (clock1 l 0 (omega arith) k)
-    (λ n. clock1 (t .view .low) ((t .view .low 241 + 1) % 256) (omega (arith, k .c1)) k) c2-base
+  -- "An interrupt on the clock line is served, then C0 counts"
+  pub delivered-kept : (m : List ℕ) (k c : ℕ) → G (serve m k c) → G (delivered m k c)
+  unfolding Interrupt.delivered
+  delivered-kept m k c t = go (eqb k (getD m 239 0)) refl
+    where
+      go : (x : Bool) → eqb k (getD m 239 0) ≡ x → G (delivered m k c)
+      go true e = rw e (c0-kept t)
+      go false e = rw e t
 
-c0-base : {m : List ℕ} {ps : List ℕ} {hs : List ℕ} {g : ℕ} → Some m ps hs g → Some (Model.c0Counts m) ps hs g
-unfolding Interrupt.c0Counts
-c0-base {m} t =
-    let l = t .view .low in
-    let k = t .base .facts .clock in
-    let end : getD m 251 0 ≡ t .view .low 251 = t .base .mem .reads .fixed .turn 251 (omega arith) (omega arith) in
-    turned t 240 51 (getD m 251 0) (Model.c1Counts (turns m 240 51)) (omega arith) (omega arith) (omega arith) (omega arith)
-    (clock0 l 0 (omega (arith, k .divider)) k) (λ n. clock0 (t .view .low) ((t .view .low 240 + 1) % 256) (omega (arith, k .c0, k .divider, end)) k) c1-base
-
--- "An interrupt on the clock line is served, then C0 counts"
 pub delivered-base : {m : List ℕ} {ps : List ℕ} {hs : List ℕ} {g : ℕ} {L : Lists} {W : View} (k c : ℕ) → 1 ≤ k → k ≤ 54 → Base m ps L W hs g
     → Some (delivered m k c) ps hs g
-unfolding Interrupt.delivered
-delivered-base {m} {ps} {hs} {g} k c i j b = go (eqb k (getD m 239 0)) refl
-  where
-    go : (x : Bool) → eqb k (getD m 239 0) ≡ x → Some (delivered m k c) ps hs g
-    go true e = rw e (c0-base (some-of (serve-base k c i j b)))
-    go false e = rw e (some-of (serve-base k c i j b))
+delivered-base {m} {ps} {hs} {g} k c i j b =
+    delivered-kept (λ x. Some x ps hs g) (λ x t. t)
+    (λ x t c v l u h. record { lists = t .lists; view = withLow (t .view) (put1 (t .view .low) c v); base = counter-base (t .base) c v l u h })
+    (λ x t k i j. some-of (serve-base k 0 i j (t .base))) m k c (some-of (serve-base k c i j b))
 
 pub delivered-well : {m : List ℕ} (k c : ℕ) → 1 ≤ k → k ≤ 54 → WellFormed m → WellFormed (whoRuns (delivered m k c))
 delivered-well k c i j w = well-formed (who-inv (delivered-base k c i j (invariant w .base) .base) .1)
 
 -- ---- the instructions
 module _ {m : List ℕ} (w : WellFormed m) (d : getD m 248 0 ≢ 0) where
-  iv : Inv m (lists m 247) (lists m) (view m)
-  iv = invariant w
+  open Busy (busy w d) using (base as b, runs as hr, ready)
 
   pub gin-fine : (len : ℕ) → Fine (Model.gin m len)
   unfolding Operate.gin
   gin-fine len =
-      let b = iv .base in
-      let n = b .facts .names .range (getD m 248 0) (running-in b d) in
+      let n = b .facts .names .range (getD m 248 0) hr in
       done-fine (serve-base (getD m (getD m 248 0 * 32 + 7) 0 % 16) 0 (n .name) (omega arith) b .base) len
 
   pub win-fine : (k c len : ℕ) → c ≤ 255 → Fine (Model.win m k c len)
@@ -366,14 +363,8 @@ module _ {m : List ℕ} (w : WellFormed m) (d : getD m 248 0 ≢ 0) where
       go false true z e f g = rw (e, f) (fails w d 5 (omega arith) (omega arith))
       go false false true e f g = rw (e, f, g) (fails w d 5 (omega arith) (omega arith))
       go false false false e f g =
-          let b = iv .base in
           let k1 = eqb-false k 0 e in
           let k2 = ltb-false 54 k f in
           let c1 = eqb-false c 0 g in
-          let at1 : 131 + 2 * (k - 1) ≡ 129 + 2 * k = omega arith in
-          rw (e, f, g) (waits-fine (advance-base b len) (129 + 2 * k) c d (rw at1 at (int-sem (lists m 247) (k - 1) (omega arith)))
-          (omega (arith, iv .best .ready d)) (record {
-            line = λ j h q. (omega arith, omega arith);
-            page = λ q. absurd (omega arith);
-            own = λ y h q. let t = proc-page (b .facts .sep) y h in absurd (omega arith);
-          }))
+          rw (e, f, g) (waits-fine (advance-base b len) (129 + 2 * k) c d (seat k c (omega arith) k2 (lists m 247)) (omega (arith, ready))
+          (line-fit (b .facts .sep) k c (omega arith) k2 (omega arith) u))

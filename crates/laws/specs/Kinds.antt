@@ -1,19 +1,15 @@
 -- Refusals and faults: an instruction is done, put to wait, handed out, faulted or refused; handed out and refused it leaves all memory untouched, and a
 -- fault is the one step `fault` on the memory as it was. On any memory. Assumes nothing.
 use mathlib.Core.Path.{_≡_, refl}
-use mathlib.Core.Logic.{_≢_, _⊎_, inl, inr}
-use mathlib.Core.Bool.{Bool, true, cond}
-use mathlib.Core.List.{List, [], _∷_}
-use Prim.Native.Nat.{ℕ, zero, suc, _+_, _-_, _*_, _/_, _%_, _≤_}
+use mathlib.Core.Bool.{Bool}
+use mathlib.Core.List.{List}
+use Prim.Native.Nat.{ℕ, _+_, _-_, _*_, _/_, _%_, _≤_}
 use native.Mathlib.Omega.{arith}
 use lib.ListN.{getD}
 use lib.Dec.{eqb, ltb, leb}
-use borrow.Author.Tests.{ne-eqb}
 use Rattle.model.specs.declared.Answer.{Answer}
 use Rattle.model.specs.declared.Answer.the-variants.{Done, Waits, HandedOut, Refused}
-use Rattle.model.specs.declared.Arguments.{Arguments}
 use Rattle.model.specs.Address.{guarded, clear}
-use Rattle.model.specs.Instruction.{shapeFor, countFor, lengthFor}
 use Rattle.model.specs.Operate as Operate
 use Rattle.model.specs.Page.{Taken}
 use Rattle.model.specs.Page.Taken.{took}
@@ -22,12 +18,10 @@ use Rattle.model.specs.Mail.Tested.{tested}
 use Rattle.model.specs.Answer as Answer
 use Rattle.model.specs.Answer.{answerOf}
 use Rattle.model.specs.Answer.Outcome.{gives}
-use Rattle.model.specs.Execute as Execute
 use Rattle.model.specs.Bytes as Model
 use Rattle.model.specs.Bytes.{Step}
-use Rattle.laws.specs.Simple.{pick}
 use Rattle.laws.specs.Words.{either}
-use Rattle.laws.specs.Run.{fault-cases}
+use Rattle.laws.specs.Each.{fetched-each}
 
 pub data Kind (m : List ℕ) (o : Step) : Type 0 where
   done : answerOf o ≡ Done → Kind m o
@@ -151,81 +145,23 @@ module _ (m : List ℕ) where
       either K (ltb 5 o) (bad 12 (omega arith) (omega arith)) (either K (eqb (x / 8) 0) (reaches-kind o e len)
       (either K (clear 2 e) (reaches-kind o (Model.addressAt m e) len) (bad 11 (omega arith) (omega arith))))
 
-  run-kind : (e : List ℕ → Arguments → Step) (c : ℕ) (x : Arguments) (len : ℕ) → K (e m x) → K (Model.run e m c x len)
-  unfolding Execute.run
-  run-kind e c x len h =
-      pick K
-      (Model.cvi m (x .field) (x .address) len ∷ Model.dvi m (x .field) len ∷ Model.gin m len ∷ Model.win m (x .interrupt) (x .count) len
-      ∷ Model.sme m (x .field) (x .second) (x .address) len ∷ Model.wnm m (x .field) (x .second) len ∷ Model.rme m (x .field) (x .second) (x .address) len
-      ∷ Model.tme m (x .field) (x .second) (x .address) len ∷ Model.named m 8 (x .field) len ∷ Model.named m 9 (x .field) len
-      ∷ Model.st2 m (x .field) (x .address) len ∷ Model.crp m (x .field) (x .second) (x .w) (x .address) len ∷ Model.named m 12 (x .field) len
-      ∷ Model.thirteen m (x .field) (x .second) (x .address) len ∷ e m x ∷ [])
-      (Model.fault m 1) c c 0 (omega arith) (
-        (λ q. cvi-kind (x .field) (x .address) len),
-        (
-          (λ q. dvi-kind (x .field) len),
-          (
-            (λ q. gin-kind len),
-            (
-              (λ q. win-kind (x .interrupt) (x .count) len),
-              (
-                (λ q. sme-kind (x .field) (x .second) (x .address) len),
-                (
-                  (λ q. wnm-kind (x .field) (x .second) len),
-                  (
-                    (λ q. rme-kind (x .field) (x .second) (x .address) len),
-                    (
-                      (λ q. tme-kind (x .field) (x .second) (x .address) len),
-                      (
-                        (λ q. named-kind 8 (x .field) len),
-                        (
-                          (λ q. named-kind 9 (x .field) len),
-                          (
-                            (λ q. st2-kind (x .field) (x .address) len),
-                            (
-                              (λ q. crp-kind (x .field) (x .second) (x .w) (x .address) len),
-                              (
-                                (λ q. named-kind 12 (x .field) len),
-                                ((λ q. thirteen-kind (x .field) (x .second) (x .address) len), ((λ q. h), tt)),
-                              ),
-                            ),
-                          ),
-                        ),
-                      ),
-                    ),
-                  ),
-                ),
-              ),
-            ),
-          ),
-        ),
-      )
-      (bad 1 (omega arith) (omega arith))
-
-  foreign-kind : (c a : ℕ) → K (Model.foreign m c a)
-  unfolding Execute.foreign
-  foreign-kind c a = either K (eqb (Model.kind m c) 2) (handed (Model.program m c) a refl) (bad 1 (omega arith) (omega arith))
-
-  exi-kind : (k : ℕ) (x : Arguments) → K (Model.exi k m x)
-  unfolding Execute.exi Execute.argued
-  exi-kind zero x = bad 2 (omega arith) (omega arith)
-  exi-kind (suc k) x =
-      let c = x .field in
-      let e = Model.indexed m (x .second) (x .address) in
-      let h = run-kind (Model.exi k) c (Model.pointed m e (shapeFor c)) 4 (exi-kind k (Model.pointed m e (shapeFor c))) in
-      either K (Model.isForeign m c) (foreign-kind c e) (go c e h (fault-cases m c e))
-    where
-      go : {o : Step} (c e : ℕ) → K o → (Model.argumentFault m c e ≡ 0) ⊎ ((1 ≤ Model.argumentFault m c e) × (Model.argumentFault m c e ≤ 12))
-          → K (cond (eqb (Model.argumentFault m c e) 0) o (Model.fault m (Model.argumentFault m c e)))
-      go c e h (inl t) = rw t h
-      go c e h (inr t) = rw (ne-eqb (Model.argumentFault m c e) 0 (omega (arith, t .0))) (bad (Model.argumentFault m c e) (t .0) (t .1))
-
   pub fetched-kind : (n : ℕ) → K (Model.fetched m n)
-  unfolding Execute.fetched Execute.coded Execute.decoded Execute.taken
-  fetched-kind n =
-      let c = Model.codeAt m n in
-      let x = Model.direct m n (shapeFor c) in
-      either K (guarded n) (bad 11 (omega arith) (omega arith)) (either K (eqb (getD m n 0) 224)
-      (either K (guarded ((n + 1) % 8192)) (bad 11 (omega arith) (omega arith)) (either K (eqb (Model.kind m c) 1)
-      (either K (clear (lengthFor c - 2) ((n + 2) % 8192)) (run-kind (Model.exi 1) c x (lengthFor c) (exi-kind 1 x)) (bad 11 (omega arith) (omega arith)))
-      (foreign-kind c ((n + 1) % 8192)))) (refused 23 (omega arith) refl))
+  fetched-kind = fetched-each {B = λ c x. Unit {0}} {P = K} (record {
+    direct = λ n c. tt;
+    pointed = λ c e. tt;
+    fault = bad;
+    handed = λ p a. handed p a refl;
+    refused = refused 23 (omega arith) refl;
+    cvi = λ x len b. cvi-kind (x .field) (x .address) len;
+    dvi = λ x len b. dvi-kind (x .field) len;
+    gin = gin-kind;
+    win = λ x len b. win-kind (x .interrupt) (x .count) len;
+    sme = λ x len b. sme-kind (x .field) (x .second) (x .address) len;
+    wnm = λ x len b. wnm-kind (x .field) (x .second) len;
+    rme = rme-kind;
+    tme = tme-kind;
+    named = named-kind;
+    st2 = st2-kind;
+    crp = λ x len b. crp-kind (x .field) (x .second) (x .w) (x .address) len;
+    thirteen = thirteen-kind;
+  })

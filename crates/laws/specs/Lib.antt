@@ -4,6 +4,8 @@ pub mod Count
 pub mod Chain
 pub mod Queues
 pub mod Rules
+-- Words of 8 bits, on any memory
+pub mod Words
 -- Which cells head a list, and that no page has two uses
 pub mod Heads
 pub mod Uses
@@ -11,6 +13,7 @@ pub mod Places
 pub mod Members
 -- The invariant, and that the judge says the same
 pub mod Inv
+pub mod Accepted
 pub mod Judged
 -- Stores: what they leave, what the memory then holds, which sentences stay
 pub mod Frames
@@ -37,8 +40,8 @@ pub mod Mails
 pub mod Interrupts
 pub mod Create
 pub mod Delete
--- Words of 8 bits; any instruction; the calls
-pub mod Words
+-- Any instruction; the calls
+pub mod Each
 pub mod Run
 pub mod Eight
 pub mod Kinds

@@ -1,41 +1,42 @@
 -- Instructions: SME, WNM, RME and TME leave a well-formed memory. Assumes nothing.
-use mathlib.Core.Path.{_≡_, refl, sym, ap, _∙_}
+use mathlib.Core.Path.{_≡_, refl, sym, _∙_}
 use mathlib.Core.Logic.{_≢_, _⊎_, inl, inr}
-use mathlib.Core.Bool.{Bool, true, false, cond}
+use mathlib.Core.Bool.{Bool, true, false}
 use mathlib.Core.List.{List, [], _∷_, _++_}
 use Prim.Native.Nat.{ℕ, zero, suc, _+_, _-_, _*_, _/_, _%_, _≤_, _<_}
 use native.Mathlib.Omega.{arith}
-use lib.ListN.{length, getD, set}
+use lib.ListN.{length, getD, set, length-set}
 use lib.Dec.{eqb, ltb}
-use borrow.Author.Tests.{eqb-true, eqb-false, eq-eqb, ne-eqb, ltb-true, ltb-false}
+use borrow.Author.Tests.{eqb-true, eqb-false, ne-eqb, ltb-false}
 use Rattle.model.specs.Address as Address
 use Rattle.model.specs.Address.{guarded, clear}
 use Rattle.model.specs.Queue as Queue
 use Rattle.model.specs.Queue.{first}
 use Rattle.model.specs.Mail as Mail
-use Rattle.model.specs.Mail.{fits, Tested}
-use Rattle.model.specs.Mail.Tested.{tested}
+use Rattle.model.specs.Mail.{fits}
 use Rattle.model.specs.Operate as Operate
 use Rattle.model.specs.Bytes as Model
-use Rattle.model.specs.Bytes.{lists, queue, pageOf, matches, move, testQ1, copy, copyOut}
+use Rattle.model.specs.Bytes.{Step, lists, queue, pageOf, matches, move, testQ1, copy, copyOut}
 use Rattle.model.specs.Lists.{count, Lists}
 use Rattle.laws.specs.Count.{hit-self, hit-other, hit-or}
 use Rattle.laws.specs.Chain.{Page, Chain, walk-chain, split-at-page}
 use Rattle.laws.specs.Queues.{upd}
 use Rattle.laws.specs.Uses.{proc-page, list-short}
 use Rattle.laws.specs.Places.{in-q, grant-high, all-pages}
-use Rattle.laws.specs.Inv.{View, view, Label, Waits, Base, Inv}
-use Rattle.laws.specs.Judged.{WellFormed, invariant}
-use Rattle.laws.specs.Frames.{Kept, kept-refl, kept-set, base-kept, Quiet}
+use Rattle.laws.specs.Inv.{View, view, Label, Waits, Base}
+use Rattle.laws.specs.Judged.{WellFormed}
+use Rattle.laws.specs.Frames.{Kept, base-kept, other, copy-far}
 use Rattle.laws.specs.Cells.{chain0}
 use Rattle.laws.specs.Changes.{own-sem, page-sem}
 use Rattle.laws.specs.Hands.{take-mail, give-mail}
 use Rattle.laws.specs.Grants.{Gave, give-back, Takes, take-page}
 use Rattle.laws.specs.Grants.Takes.{gets, lacks}
 use Rattle.laws.specs.Post.{notice-base, message-base}
-use Rattle.laws.specs.Who.{running-at, running-in, label-at}
+use Rattle.laws.specs.Who.{Busy, busy, running-same, label-in}
 use Rattle.laws.specs.Ends.{Fine, done-fine, jumps-fine, waits-fine}
-use Rattle.laws.specs.Simple.{first-in, named-in, quiet-clear, fails}
+use Rattle.laws.specs.Simple.{first-in, named-in, fails, Open, clear-open}
+use Rattle.laws.specs.Waits.{Fit, page-fit}
+use Rattle.laws.specs.Words.{Tried, test-kept, either}
 
 -- ---- a search along a list
 pub first-none : (f : ℕ → Bool) (xs : List ℕ) → ((x : ℕ) → 1 ≤ count x xs → x ≢ 0) → first f xs ≡ 0 → (x : ℕ) → 1 ≤ count x xs → f x ≡ false
@@ -75,57 +76,24 @@ move-base {m} {ps} {L} {W} p q h i b =
       give-mail b1 p 6 h (omega arith) (omega arith) (b .facts .mail p 5 h (omega arith) (omega arith) q i) (λ x j e. absurd (omega arith)),
     )
 
--- "Q1 messages tested, the found one too, go to Q2 in order"
-pub record Proved (t : Tested (List ℕ)) (ps : List ℕ) (W : View) (hs : List ℕ) (g : ℕ) : Type 0 where
-  pub found : Bool
-  pub memory : List ℕ
-  pub is : t ≡ tested found memory
-  pub lists : Lists
-  pub base : Base memory ps lists W hs g
-
-pub test-end : (k : ℕ) (m : List ℕ) (p n f : ℕ) → getD m (p * 32 + 5) 0 ≡ 0 → testQ1 (suc k) m p n f ≡ tested false m
-unfolding Mail.testQ1
-test-end k m p n f e = rw (eq-eqb (getD m (p * 32 + 5) 0) 0 e, Mail.testQ1)
-
-pub test-hit : (k : ℕ) (m : List ℕ) (p n f : ℕ) → getD m (p * 32 + 5) 0 ≢ 0 → matches m n f (getD m (p * 32 + 5) 0) ≡ true
-    → testQ1 (suc k) m p n f ≡ tested true (move m p (getD m (p * 32 + 5) 0))
-unfolding Mail.testQ1
-test-hit k m p n f d e = rw (ne-eqb (getD m (p * 32 + 5) 0) 0 d, e, Mail.testQ1)
-
-pub test-miss : (k : ℕ) (m : List ℕ) (p n f : ℕ) → getD m (p * 32 + 5) 0 ≢ 0 → matches m n f (getD m (p * 32 + 5) 0) ≡ false
-    → testQ1 (suc k) m p n f ≡ testQ1 k (move m p (getD m (p * 32 + 5) 0)) p n f
-unfolding Mail.testQ1
-test-miss k m p n f d e = rw (ne-eqb (getD m (p * 32 + 5) 0) 0 d, e, Mail.testQ1)
-
-pub test-nought : (m : List ℕ) (p n f : ℕ) → testQ1 0 m p n f ≡ tested false m
-unfolding Mail.testQ1
-test-nought m p n f = refl
-
-pub test-base : {ps : List ℕ} {W : View} {hs : List ℕ} {g : ℕ} (k : ℕ) (m : List ℕ) (L : Lists) (p n f : ℕ) → 1 ≤ count p ps → Base m ps L W hs g
-    → Proved (testQ1 k m p n f) ps W hs g
-test-base zero m L p n f h b = record { found = false; memory = m; is = test-nought m p n f; lists = L; base = b }
-test-base {ps} {W} {hs} {g} (suc k) m L p n f h b =
-    go (λ m′ K c. test-base k m′ K p n f h c) (L (p * 32 + 5)) refl (mail-chain b p 5 h (omega arith) (omega arith)) (matches m n f (getD m (p * 32 + 5) 0))
-    refl
+-- the first of Q1
+pub first-mail : {m : List ℕ} {ps : List ℕ} {L : Lists} {W : View} {hs : List ℕ} {g : ℕ} → Base m ps L W hs g → (p : ℕ) → 1 ≤ count p ps
+    → getD m (p * 32 + 5) 0 ≢ 0 → (xs : List ℕ) × (L (p * 32 + 5) ≡ getD m (p * 32 + 5) 0 ∷ xs)
+first-mail {m} {L = L} b p h d = go (L (p * 32 + 5)) refl (mail-chain b p 5 h (omega arith) (omega arith))
   where
-    go : ((m′ : List ℕ) (K : Lists) → Base m′ ps K W hs g → Proved (testQ1 k m′ p n f) ps W hs g) → (xs : List ℕ) → L (p * 32 + 5) ≡ xs
-        → Chain m 0 (p * 32 + 5) (L (p * 32 + 5)) → (c : Bool) → matches m n f (getD m (p * 32 + 5) 0) ≡ c → Proved (testQ1 (suc k) m p n f) ps W hs g
-    go ih [] e c t d = record { found = false; memory = m; is = test-end k m p n f (rw e at c); lists = L; base = b }
-    go ih (x ∷ xs) e c true d =
-        let z = rw e at c in
-        let x0 = getD m (p * 32 + 5) 0 in
-        let r = move-base p x0 h (rw (e, z .0) (omega (arith, hit-self x))) b in
-        record { found = true; memory = move m p x0; is = test-hit k m p n f (omega (arith, z)) d; lists = r .0; base = r .1 }
-    go ih (x ∷ xs) e c false d =
-        let z = rw e at c in
-        let x0 = getD m (p * 32 + 5) 0 in
-        let r = move-base p x0 h (rw (e, z .0) (omega (arith, hit-self x))) b in
-        rw (test-miss k m p n f (omega (arith, z)) d) (ih (move m p x0) (r .0) (r .1))
+    go : (xs : List ℕ) → L (p * 32 + 5) ≡ xs → Chain m 0 (p * 32 + 5) (L (p * 32 + 5)) → (ys : List ℕ) × (L (p * 32 + 5) ≡ getD m (p * 32 + 5) 0 ∷ ys)
+    go [] e c = absurd (d (rw e at c))
+    go (x ∷ xs) e c = let z = rw e at c in (xs, rw (z .0) e)
+
+-- "Q1 messages tested, the found one too, go to Q2 in order"
+pub test-base : {m : List ℕ} {ps : List ℕ} {L : Lists} {W : View} {hs : List ℕ} {g : ℕ} (p n f : ℕ) → 1 ≤ count p ps → Base m ps L W hs g
+    → Tried (λ x. (K : Lists) × Base x ps K W hs g) (testQ1 20 m p n f)
+test-base {m} {ps} {L} {W} {hs} {g} p n f h b =
+    test-kept (λ x. (K : Lists) × Base x ps K W hs g) p (λ x t d.
+    let r = first-mail (t .1) p h d in
+    move-base p (getD x (p * 32 + 5) 0) h (rw (r .1) (omega (arith, hit-self (getD x (p * 32 + 5) 0)))) (t .1)) 20 m n f (L, b)
 
 -- ---- RME writes to unprotected words
-quiet-high : (a : ℕ) → 8192 ≤ a → Quiet a
-quiet-high a h = record { fixed = λ c i j. omega arith; words = λ p j i k. omega arith; state = λ p i. omega arith }
-
 pub clear-at : (n a : ℕ) → clear n a ≡ true → (i : ℕ) → i < n → guarded ((a + i) % 8192) ≡ false
 unfolding Address.clear
 clear-at zero a h i l = absurd (omega arith)
@@ -137,57 +105,50 @@ clear-at (suc n) a h i l = go (guarded ((a + n) % 8192)) refl (hit-or i n) (clea
     go false e (inl d) ih = rw d e
     go false e (inr d) ih = let k : clear (suc n) a ≡ clear n a = rw (e, Address.clear) in ih (sym k ∙ h) i (omega arith)
 
-copy-kept : {m : List ℕ} (n : ℕ) (m′ : List ℕ) (a b : ℕ) → b < 8192 → ((i : ℕ) → i < n → Quiet ((b + i) % 8192)) → Kept m m′ → Kept m (copy n m′ a b)
+copy-size : (n : ℕ) (m : List ℕ) (a b : ℕ) → length (copy n m a b) ≡ length m
 unfolding Address.copy
-copy-kept zero m′ a b l q k = k
-copy-kept (suc n) m′ a b l q k =
-    let e : (b + 0) % 8192 ≡ b = omega arith in
-    copy-kept n (set m′ b (getD m′ a 0)) ((a + 1) % 8192) ((b + 1) % 8192) (omega arith)
-    (λ i h. let d : ((b + 1) % 8192 + i) % 8192 ≡ (b + suc i) % 8192 = omega arith in rw d (q (suc i) (omega arith)))
-    (kept-set b (getD m′ a 0) (rw e at (q 0 (omega arith))) k)
+copy-size zero m a b = refl
+copy-size (suc n) m a b = copy-size n (set m b (getD m a 0)) ((a + 1) % 8192) ((b + 1) % 8192) ∙ simp length-set
+
+-- three words and the text: every other word stays
+pub out-far : (m : List ℕ) (q a c : ℕ) → c < 8192 → ((i : ℕ) → i < 3 + getD m (q * 32 + 2) 0 % 128 → c ≢ (a + i) % 8192)
+    → getD (copyOut m q a) c 0 ≡ getD m c 0
+unfolding Mail.copyOut
+out-far m q a c u f =
+    let n = getD m (q * 32 + 2) 0 % 128 in
+    let m1 = set m a (getD m (q * 32 + 1) 0 / 16) in
+    let m2 = set m1 ((a + 1) % 8192) (getD m (q * 32 + 1) 0 % 16) in
+    let f0 = f 0 (omega arith) in
+    copy-far n (set m2 ((a + 2) % 8192) n) (q * 32 + 3) ((a + 3) % 8192) c (omega arith)
+    (λ i l. let d : ((a + 3) % 8192 + i) % 8192 ≡ (a + (3 + i)) % 8192 = omega arith in rw d (f (3 + i) (omega arith)))
+    ∙ other m2 ((a + 2) % 8192) _ c (f 2 (omega arith)) ∙ other m1 ((a + 1) % 8192) _ c (f 1 (omega arith)) ∙ other m a _ c (λ z. f0 (omega arith))
 
 pub out-kept : (m : List ℕ) (q a : ℕ) → clear (3 + getD m (q * 32 + 2) 0 % 128) a ≡ true → Kept m (copyOut m q a)
 unfolding Mail.copyOut
-out-kept m q a h =
-    let n = getD m (q * 32 + 2) 0 % 128 in
-    let at : (i : ℕ) → i < 3 + n → Quiet ((a + i) % 8192) = λ i l. quiet-clear ((a + i) % 8192) (clear-at (3 + n) a h i l) in
-    let m1 = set m a (getD m (q * 32 + 1) 0 / 16) in
-    let m2 = set m1 ((a + 1) % 8192) (getD m (q * 32 + 1) 0 % 16) in
-    let m3 = set m2 ((a + 2) % 8192) n in
-    copy-kept n m3 (q * 32 + 3) ((a + 3) % 8192) (omega arith)
-    (λ i l. let d : ((a + 3) % 8192 + i) % 8192 ≡ (a + (3 + i)) % 8192 = omega arith in rw d (at (3 + i) (omega arith)))
-    (kept-set ((a + 2) % 8192) n (at 2 (omega arith)) (kept-set ((a + 1) % 8192) (getD m (q * 32 + 1) 0 % 16) (at 1 (omega arith))
-    (kept-set a (getD m (q * 32 + 1) 0 / 16) (here (ltb a 8192) refl (at 0 (omega arith))) (kept-refl m))))
+out-kept m q a h = record {
+  size = copy-size (getD m (q * 32 + 2) 0 % 128) _ (q * 32 + 3) ((a + 3) % 8192) ∙ simp length-set;
+  fixed = λ c l u. out-far m q a c (omega arith) (λ i k e. at i k .between c l u (sym e));
+  words = λ p j g l. out-far m q a (p * 32 + j) (omega (arith, g)) (λ i k. omega (arith, g, at i k .below));
+  state = λ p g. out-far m q a (p * 32 + 12) (omega (arith, g)) (λ i k. omega (arith, g, at i k .below));
+}
   where
-    here : (c : Bool) → ltb a 8192 ≡ c → Quiet ((a + 0) % 8192) → Quiet a
-    here true e s = let l = ltb-true a 8192 e in let d : (a + 0) % 8192 ≡ a = omega arith in rw d at s
-    here false e s = quiet-high a (ltb-false a 8192 e)
+    at : (i : ℕ) → i < 3 + getD m (q * 32 + 2) 0 % 128 → Open ((a + i) % 8192)
+    at i l = clear-open ((a + i) % 8192) (clear-at (3 + getD m (q * 32 + 2) 0 % 128) a h i l)
 
 -- ---- the instructions, of a well-formed memory where someone runs
 module _ {m : List ℕ} (w : WellFormed m) (d : getD m 248 0 ≢ 0) where
-  i : Inv m (lists m 247) (lists m) (view m)
-  i = invariant w
-
-  b : Base m (lists m 247) (lists m) (view m) [] 32
-  b = i .base
+  open Busy (busy w d) using (base as b, runs as hr, ready)
 
   abbrev r : ℕ
   r = getD m 248 0
 
-  hr : 1 ≤ count r (lists m 247)
-  hr = running-in b d
-
-  ready : getD m (r * 32 + 12) 0 % 128 / 64 ≡ 0
-  ready = omega (arith, i .best .ready d)
+  idle : getD m (r * 32 + 12) 0 % 128 / 64 ≡ 0
+  idle = omega (arith, ready)
 
   -- "with none, they wait in the page queue, LR staying"
   pub waits-for-page : lists m 244 ≡ [] → length (lists m (320 + getD m (r * 32 + 7) 0 % 16)) ≡ 0 → Fine (Model.waitsForPage m)
   unfolding Operate.waitsForPage
-  waits-for-page f g = waits-fine b 245 0 d (page-sem (lists m 247)) ready (record {
-    line = λ k h e. absurd (omega arith);
-    page = λ e. (refl, ap length f, g);
-    own = λ y h e. let t = proc-page (b .facts .sep) y h in absurd (omega arith);
-  })
+  waits-for-page f g = waits-fine b 245 0 d (page-sem (lists m 247)) idle (page-fit (b .facts .sep) f g)
 
   posted-fine : (n f a l len q : ℕ) (m1 : List ℕ) → 1 ≤ n → n ≤ 15 → 1 ≤ f → f ≤ 7 → l ≤ 29 → Gave m1 (lists m 247) (q ∷ []) 32 (view m)
       → Fine (Model.done (Model.posted m1 q n f a l) len)
@@ -195,13 +156,13 @@ module _ {m : List ℕ} (w : WellFormed m) (d : getD m 248 0 ≢ 0) where
   posted-fine n f a l len q m1 n1 n2 f1 f2 l2 t = go (eqb (pageOf m1 n) 0) refl
     where
       run : getD m1 248 0 ≡ getD m 248 0
-      run = running-at (t .base) ∙ ap (λ (z : ℕ → ℕ). z 248) (t .low)
+      run = running-same b t
 
       in1 : 1 ≤ count (getD m1 248 0) (lists m 247)
       in1 = rw run hr
 
       named : Label (getD m1 (getD m1 248 0 * 32 + 7) 0)
-      named = rw (label-at (t .base) (getD m1 248 0) in1) (t .base .facts .names .range (getD m1 248 0) in1)
+      named = label-in (t .base) (getD m1 248 0) in1
 
       go : (c : Bool) → eqb (pageOf m1 n) 0 ≡ c → Fine (Model.done (Model.posted m1 q n f a l) len)
       go true e = rw e (done-fine (notice-base (t .base) n f (getD m1 248 0) n1 n2 f1 f2 in1 .base) len)
@@ -242,9 +203,14 @@ module _ {m : List ℕ} (w : WellFormed m) (d : getD m 248 0 ≢ 0) where
       let q = mail-queue b r k hr u v in
       rw q (first-in (matches m n f) (lists m (r * 32 + k)) (rw q at z) .0)
 
-  pub wnm-fine : (n f len : ℕ) → f < 8 → Fine (Model.wnm m n f len)
-  unfolding Operate.wnm Mail.matches
-  wnm-fine n f len hf = go (eqb (Model.inQ1 m n f) 0) refl
+  -- who waits for a message waits as its own wait must be
+  pub wnm-fit : (n f : ℕ) → f < 8 → Model.inQ1 m n f ≡ 0 → Fit (lists m 247) (lists m) (view m) (r * 32 + 3) r (n * 16 + f)
+  unfolding Mail.matches
+  wnm-fit n f hf z = let pg = proc-page (b .facts .sep) r hr in record {
+    line = λ k h c. absurd (omega arith);
+    page = λ c. absurd (omega arith);
+    own = λ y h c. own z y c;
+  }
     where
       none : first (matches m n f) (queue m (r * 32 + 5)) ≡ 0 → (q : ℕ) → 1 ≤ count q (lists m (r * 32 + 5)) → fits n f (getD m (q * 32 + 1) 0) ≡ false
       none e q h =
@@ -259,15 +225,13 @@ module _ {m : List ℕ} (w : WellFormed m) (d : getD m 248 0 ≢ 0) where
           let c2 : (n * 16 + f) % 16 ≡ f = omega arith in
           rw t (record { owner = refl; flag = omega arith; none = λ q h. rw (c1, c2) (none z q h) })
 
+  pub wnm-fine : (n f len : ℕ) → f < 8 → Fine (Model.wnm m n f len)
+  unfolding Operate.wnm
+  wnm-fine n f len hf = go (eqb (Model.inQ1 m n f) 0) refl
+    where
       go : (c : Bool) → eqb (Model.inQ1 m n f) 0 ≡ c → Fine (Model.wnm m n f len)
       go true e =
-          let z = eqb-true (Model.inQ1 m n f) 0 e in
-          let pg = proc-page (b .facts .sep) r hr in
-          rw e (waits-fine b (r * 32 + 3) (n * 16 + f) d (own-sem (b .facts .sep) r hr) ready (record {
-            line = λ k h c. absurd (omega arith);
-            page = λ c. absurd (omega arith);
-            own = λ y h c. own z y c;
-          }))
+          rw e (waits-fine b (r * 32 + 3) (n * 16 + f) d (own-sem (b .facts .sep) r hr) idle (wnm-fit n f hf (eqb-true (Model.inQ1 m n f) 0 e)))
       go false e =
           let z = eqb-false (Model.inQ1 m n f) 0 e in
           rw e (done-fine (move-base r (Model.inQ1 m n f) hr (found-in 5 n f (omega arith) (omega arith) z) b .1) len)
@@ -293,11 +257,9 @@ module _ {m : List ℕ} (w : WellFormed m) (d : getD m 248 0 ≢ 0) where
 
   tested-fine : (n f a len : ℕ) → Fine (Model.tmeQ1 m n f a len)
   unfolding Operate.tmeQ1
-  tested-fine n f a len = let t = test-base 20 m (lists m) r n f hr b in rw (t .is) (go (t .found) t)
-    where
-      go : (c : Bool) → (t : Proved (testQ1 20 m r n f) (lists m 247) (view m) [] 32) → Fine (cond c (Model.jumps (t .memory) a) (Model.done (t .memory) len))
-      go true t = jumps-fine (t .base) a
-      go false t = done-fine (t .base) len
+  tested-fine n f a len =
+      let t = test-base r n f hr b in
+      rw (t .is) (either (λ (o : Step). Fine o) (t .found) (jumps-fine (t .kept .1) a) (done-fine (t .kept .1) len))
 
   pub tme-fine : (n f a len : ℕ) → Fine (Model.tme m n f a len)
   unfolding Operate.tme

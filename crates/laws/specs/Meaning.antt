@@ -6,23 +6,20 @@ use mathlib.Core.List.{List, [], _∷_, _++_}
 use Prim.Native.Nat.{ℕ, _+_, _*_, _/_, _%_, _≤_}
 use native.Mathlib.Omega.{arith}
 use lib.ListN.{length, getD, length-append}
-use borrow.Author.Tests.{ne-eqb}
-use Rattle.model.specs.Page as Page
 use Rattle.model.specs.Bytes.{lists, join, leave, giveBack, deliver, putToWait, wake}
 use Rattle.model.specs.Lists.{count, Lists, some, queues}
 use Rattle.laws.specs.Count.{count-append}
-use Rattle.laws.specs.Chain.{Page}
 use Rattle.laws.specs.Queues.{upd, upd-same, upd-other}
 use Rattle.laws.specs.Uses.{Among, Head, proc-page, list-short}
-use Rattle.laws.specs.Places.{InUses, in-free, in-asking, in-q, in-grant, grant-low, in-queues}
+use Rattle.laws.specs.Places.{InUses, in-free, in-asking, in-q, in-grant, in-queues}
 use Rattle.laws.specs.Inv.{View, Message, Base}
 use Rattle.laws.specs.Wake.{wake-base}
 use Rattle.laws.specs.Waits.{Fit, wait-base}
 use Rattle.laws.specs.Judged.{walked, walked-short}
-use Rattle.laws.specs.Cells.{chain0, join-mem, leave-mem}
+use Rattle.laws.specs.Cells.{join-mem, leave-mem}
 use Rattle.laws.specs.Changes.{uses-upd, uses-sep, hand-page}
 use Rattle.laws.specs.Hands.{in-hand, hand-new, give-free}
-use Rattle.laws.specs.Grants.{waiter-proc, give-grant, some-is}
+use Rattle.laws.specs.Grants.{waiter-proc, give-grant, some-is, give-is-free, give-is-grant}
 use Rattle.laws.specs.Post.{deliver-all}
 
 -- from m to m′ the list of a becomes xs, and no other list changes
@@ -63,13 +60,10 @@ leave-takes {m} {ps} {L} b a q xs ys ha na e =
 -- "A page given back": with no waiter, to the end of the free list
 pub give-frees : {m : List ℕ} {ps : List ℕ} {L : Lists} {W : View} {hs : List ℕ} {g q : ℕ} → Base m ps L W (q ∷ hs) g → lists m 246 ≡ []
     → Becomes ps m (giveBack m q) 244 (lists m 244 ++ q ∷ [])
-unfolding Page.giveBack
 give-frees {m} {ps} {L} {q = q} b e =
-    let s = b .facts .sep in
     let e2 = sym (walked b 246 (in-asking ps)) ∙ e in
-    let z : getD m 246 0 ≡ 0 = rw e2 at (chain0 s (b .mem) 246 (in-asking ps, grant-low 246 (omega arith)) (omega arith)) in
     let r = give-free b e2 in
-    rw z (record {
+    rw (give-is-free b e2) (record {
       here = walked r 244 (in-free ps) ∙ upd-same L 244 (L 244 ++ q ∷ []) ∙ ap (λ (l : List ℕ). l ++ q ∷ []) (sym (walked b 244 (in-free ps)));
       others = λ c h d. walked r c h ∙ upd-other L 244 c (L 244 ++ q ∷ []) d ∙ sym (walked b c h);
     })
@@ -83,17 +77,14 @@ pub record Grants (ps : List ℕ) (m m′ : List ℕ) (n q : ℕ) (ws : List ℕ
 pub give-grants : {m : List ℕ} {ps : List ℕ} {L : Lists} {W : View} {hs : List ℕ} {g q : ℕ} → Base m ps L W (q ∷ hs) g → (p : ℕ) (ws : List ℕ)
     → lists m 246 ≡ p ∷ ws
     → Grants ps m (giveBack m q) (getD m (p * 32 + 7) 0 % 16) q ws
-unfolding Page.giveBack
 give-grants {m} {ps} {L} {W} {q = q} b p ws e =
-    let s = b .facts .sep in
     let e2 = sym (walked b 246 (in-asking ps)) ∙ e in
-    let z = rw e2 at (chain0 s (b .mem) 246 (in-asking ps, grant-low 246 (omega arith)) (omega arith)) in
     let n = W .label p % 16 in
-    let l = b .mem .reads .words .label p (proc-page s p (waiter-proc b p ws e2)) in
+    let l = b .mem .reads .words .label p (proc-page (b .facts .sep) p (waiter-proc b p ws e2)) in
     let pq = hand-page b q (in-hand b) in
     let r = give-grant b p ws e2 in
     let A = upd L 246 ws in
-    rw (z .0, ne-eqb p 0 (omega (arith, z)), l) (record {
+    rw (give-is-grant b p ws e2, l) (record {
       grant = walked r (320 + n) (in-grant ps n (omega arith)) ∙ upd-same A (320 + n) (some q) ∙ some-is q (omega (arith, pq));
       queue = walked r 246 (in-asking ps) ∙ upd-other A (320 + n) 246 (some q) (omega arith) ∙ upd-same L 246 ws;
       others = λ c h d1 d2. walked r c h ∙ upd-other A (320 + n) c (some q) d1 ∙ upd-other L 246 c ws d2 ∙ sym (walked b c h);

@@ -1,7 +1,7 @@
 -- Well-formed: what one processor more on the list adds to the heads of lists and to the names. Assumes nothing.
 use mathlib.Core.Path.{_≡_, refl, ap}
 use mathlib.Core.Logic.{_≢_}
-use mathlib.Core.List.{List, [], _∷_, _++_}
+use mathlib.Core.List.{List, [], _∷_, _++_, append-nil}
 use Prim.Native.Nat.{ℕ, _+_, _-_, _*_, _<_}
 use native.Mathlib.Omega.{arith}
 use lib.Dec.{eqb}
@@ -27,6 +27,22 @@ each-append f (x ∷ xs) ys = ap {B = List ℕ} (λ l. f x ∷ l) (each-append f
 
 -- ---- the list xs ++ p ∷ ys against xs ++ ys
 module _ (xs : List ℕ) (p : ℕ) (ys : List ℕ) where
+  -- what adds up over a list of heads, of which g makes some from each page and t are the others
+  more : (f : List ℕ → ℕ) → ((k l : List ℕ) → f (k ++ l) ≡ f k + f l) → (g : List ℕ → List ℕ) → ((k l : List ℕ) → g (k ++ l) ≡ g k ++ g l) → (t : List ℕ)
+      → f (g (xs ++ p ∷ ys) ++ t) ≡ f (g (xs ++ ys) ++ t) + f (g (p ∷ []))
+  more f fa g ga t =
+      omega (
+        arith,
+        fa (g (xs ++ p ∷ ys)) t,
+        fa (g (xs ++ ys)) t,
+        ap f (ga xs (p ∷ ys)),
+        ap f (ga xs ys),
+        ap f (ga (p ∷ []) ys),
+        fa (g xs) (g (p ∷ ys)),
+        fa (g xs) (g ys),
+        fa (g (p ∷ [])) (g ys),
+      )
+
   pub count-more : (z : ℕ) → count z (xs ++ p ∷ ys) ≡ count z (xs ++ ys) + hit (eqb z p)
   count-more z = omega (arith, count-append z xs (p ∷ ys), count-append z xs ys)
 
@@ -34,59 +50,22 @@ module _ (xs : List ℕ) (p : ℕ) (ys : List ℕ) where
   names-more f k =
       omega (
         arith,
-        ap (count k) (each-append f xs (p ∷ ys)),
-        ap (count k) (each-append f xs ys),
-        count-append k (each-of f xs) (f p ∷ each-of f ys),
-        count-append k (each-of f xs) (each-of f ys),
+        more (count k) (count-append k) (each-of f) (each-append f) [],
+        ap (count k) (append-nil (each-of f (xs ++ p ∷ ys))),
+        ap (count k) (append-nil (each-of f (xs ++ ys))),
       )
 
   pub uses-more : (a : ℕ) → count a (uses (xs ++ p ∷ ys)) ≡ count a (uses (xs ++ ys)) + (hit (eqb a (p * 32 + 5)) + hit (eqb a (p * 32 + 6)))
-  uses-more a =
-      omega (
-        arith,
-        count-append a (mails (xs ++ p ∷ ys)) (range 32 1 320),
-        count-append a (mails (xs ++ ys)) (range 32 1 320),
-        ap (count a) (mails-append xs (p ∷ ys)),
-        ap (count a) (mails-append xs ys),
-        count-append a (mails xs) (mails (p ∷ ys)),
-        count-append a (mails xs) (mails ys),
-      )
+  uses-more a = omega (arith, more (count a) (count-append a) mails mails-append (range 32 1 320))
 
   pub queues-more : (a : ℕ) → count a (queues (xs ++ p ∷ ys)) ≡ count a (queues (xs ++ ys)) + hit (eqb a (p * 32 + 4))
-  queues-more a =
-      omega (
-        arith,
-        count-append a (owns (xs ++ p ∷ ys)) (range 54 2 132),
-        count-append a (owns (xs ++ ys)) (range 54 2 132),
-        ap (count a) (owns-append xs (p ∷ ys)),
-        ap (count a) (owns-append xs ys),
-        count-append a (owns xs) (owns (p ∷ ys)),
-        count-append a (owns xs) (owns ys),
-      )
+  queues-more a = omega (arith, more (count a) (count-append a) owns owns-append (range 54 2 132))
 
   pub uses-sum : (z : ℕ) (L : Lists) → sum z L (uses (xs ++ p ∷ ys)) ≡ sum z L (uses (xs ++ ys)) + (count z (L (p * 32 + 5)) + count z (L (p * 32 + 6)))
-  uses-sum z L =
-      omega (
-        arith,
-        sum-append z L (mails (xs ++ p ∷ ys)) (range 32 1 320),
-        sum-append z L (mails (xs ++ ys)) (range 32 1 320),
-        ap (sum z L) (mails-append xs (p ∷ ys)),
-        ap (sum z L) (mails-append xs ys),
-        sum-append z L (mails xs) (mails (p ∷ ys)),
-        sum-append z L (mails xs) (mails ys),
-      )
+  uses-sum z L = omega (arith, more (sum z L) (sum-append z L) mails mails-append (range 32 1 320))
 
   pub queues-sum : (z : ℕ) (L : Lists) → sum z L (queues (xs ++ p ∷ ys)) ≡ sum z L (queues (xs ++ ys)) + count z (L (p * 32 + 4))
-  queues-sum z L =
-      omega (
-        arith,
-        sum-append z L (owns (xs ++ p ∷ ys)) (range 54 2 132),
-        sum-append z L (owns (xs ++ ys)) (range 54 2 132),
-        ap (sum z L) (owns-append xs (p ∷ ys)),
-        ap (sum z L) (owns-append xs ys),
-        sum-append z L (owns xs) (owns (p ∷ ys)),
-        sum-append z L (owns xs) (owns ys),
-      )
+  queues-sum z L = omega (arith, more (sum z L) (sum-append z L) owns owns-append (range 54 2 132))
 
 -- ---- a page that is no processor's has no head
 pub head-off : {ps : List ℕ} {L : Lists} → Sep ps L → (q w a : ℕ) → Page q → w < 32 → count q ps ≡ 0 → Among ps a → a ≢ q * 32 + w

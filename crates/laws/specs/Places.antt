@@ -33,9 +33,6 @@ in-asking ps = in-queues ps 246 (omega arith)
 pub int-queue : (ps : List ℕ) (k : ℕ) → k < 54 → 1 ≤ count (132 + 2 * k) (queues ps)
 int-queue ps k h = omega (arith, count-append (132 + 2 * k) (owns ps) (range 54 2 132), range2-at 54 132 k h)
 
-pub in-int : (ps : List ℕ) (k : ℕ) → k < 54 → Among ps (132 + 2 * k)
-in-int ps k h = in-queues ps (132 + 2 * k) (int-queue ps k h)
-
 pub in-own : (ps : List ℕ) (p : ℕ) → 1 ≤ count p ps → Among ps (p * 32 + 4)
 in-own ps p h = in-queues ps (p * 32 + 4) (omega (arith, count-append (p * 32 + 4) (owns ps) (range 54 2 132), owns-at p ps))
 

@@ -1,33 +1,32 @@
--- Sending: "The page joins NI's Q1; if NI waits for it, NI wakes." "A notice wakes one that waits for it alike." A message or a notice in hand, delivered,
--- keeps the invariant. Assumes nothing.
+-- Sending: "The page joins NI's Q1; if NI waits for it, NI wakes." "A notice wakes one that waits for it alike." A message or a notice, written in a page in
+-- hand and delivered, keeps the invariant; and which words a delivery leaves. Assumes nothing.
 use mathlib.Core.Path.{_≡_, refl, ap, _∙_}
 use mathlib.Core.Logic.{_≢_}
 use mathlib.Core.Bool.{Bool, true, false}
 use mathlib.Core.List.{List, [], _∷_, _++_}
-use Prim.Native.Nat.{ℕ, zero, suc, _+_, _-_, _*_, _/_, _%_, _≤_, _<_}
+use Prim.Native.Nat.{ℕ, _+_, _-_, _*_, _/_, _%_, _≤_}
 use native.Mathlib.Omega.{arith}
 use lib.ListN.{length, getD, set, length-set}
 use lib.Seq.{getD-set-same}
 use lib.Dec.{eqb}
 use borrow.Author.Tests.{ne-eqb}
-use Rattle.model.specs.Address as Address
 use Rattle.model.specs.Mail as Mail
 use Rattle.model.specs.Mail.{fits}
-use Rattle.model.specs.Bytes.{join, wake, copy, deliver, writeMessage, makeNotice}
+use Rattle.model.specs.Bytes.{join, wake, deliver, writeMessage, makeNotice}
 use Rattle.model.specs.Lists.{hit, count, Lists, sum, uses}
 use Rattle.laws.specs.Count.{hit-self}
 use Rattle.laws.specs.Chain.{Page, Chain}
 use Rattle.laws.specs.Queues.{upd, upd-same, upd-other, upd-swap}
 use Rattle.laws.specs.Heads.{one, sum-skip}
 use Rattle.laws.specs.Uses.{Sep, proc-page, single}
-use Rattle.laws.specs.Places.{in-own, own-once, grant-high}
+use Rattle.laws.specs.Places.{in-q, in-own, own-once, grant-high}
 use Rattle.laws.specs.Inv.{View, Label, Message, Facts, Mem, Base}
-use Rattle.laws.specs.Frames.{other, Only, only-refl, only-set, only-copy}
-use Rattle.laws.specs.Views.{put1, put1-same, put1-other}
-use Rattle.laws.specs.Cells.{chain0}
+use Rattle.laws.specs.Frames.{other, Only, only-refl, only-set, only-copy, copy-far}
+use Rattle.laws.specs.Views.{put1, put1-same, put1-other, retold}
+use Rattle.laws.specs.Cells.{chain0, join-frame}
 use Rattle.laws.specs.Changes.{own-sem, hand-page, hand-out}
-use Rattle.laws.specs.Wake.{woken, facts-wake, wake-mem}
-use Rattle.laws.specs.Hands.{hand-base, in-hand, room, facts-mail, more-mail, mail-sep, mail-mem, give-mail}
+use Rattle.laws.specs.Wake.{woken, facts-wake, wake-mem, wake-frame}
+use Rattle.laws.specs.Hands.{hand-base, in-hand, hand-new, room, facts-mail, more-mail, mail-sep, mail-mem, give-mail}
 use Rattle.laws.specs.Grants.{Gave}
 
 module _ {m : List ℕ} {ps : List ℕ} {L : Lists} {W : View} {hs : List ℕ} {g q : ℕ} (b : Base m ps L W (q ∷ hs) g) (p : ℕ) (h : 1 ≤ count p ps)
@@ -132,9 +131,11 @@ module _ {m : List ℕ} {ps : List ℕ} {L : Lists} {W : View} {hs : List ℕ} {
           others = λ c d f. upd-other (upd L a4 xs) a5 c (upd L a4 xs a5 ++ q ∷ []) d ∙ upd-other L a4 c xs (λ z. f (z ∙ at4));
         }
 
-  pub deliver-all : Delivered (deliver m p q)
+  -- what holds of Q1 with the page, where p does not wait for it, and of p woken, where it does, holds of the memory that is delivered to
+  delivers : (P : List ℕ → Type 0) → (((x : ℕ) → 1 ≤ count x (L (p * 32 + 4)) → asked ≡ false) → P m1)
+      → ((ys : List ℕ) → L a4 ≡ p ∷ ys → P (wake m1 (p * 32 + 3) p)) → P (deliver m p q)
   unfolding Mail.deliver Mail.heard Mail.awaits Mail.matches
-  deliver-all =
+  delivers P stays wakes =
       go (L (p * 32 + 4)) refl (chain0 (mail-sep b p 5 h (omega arith) (omega arith)) x1 (p * 32 + 4) (
         in-own ps p h,
         grant-high (p * 32 + 4)
@@ -145,29 +146,41 @@ module _ {m : List ℕ} {ps : List ℕ} {L : Lists} {W : View} {hs : List ℕ} {
       same : K (p * 32 + 4) ≡ L (p * 32 + 4)
       same = upd-other L a5 (p * 32 + 4) (L a5 ++ q ∷ []) (omega arith)
 
-      go : (ys : List ℕ) → L (p * 32 + 4) ≡ ys → Chain m1 0 (p * 32 + 4) (K (p * 32 + 4)) → (c : Bool) → asked ≡ c → Delivered (deliver m p q)
-      go [] e c t f = let z : getD m1 (p * 32 + 4) 0 ≡ 0 = rw (same, e) at c in rw z (quiet (λ x i. absurd (omega (arith, ap (count x) e))))
+      go : (ys : List ℕ) → L (p * 32 + 4) ≡ ys → Chain m1 0 (p * 32 + 4) (K (p * 32 + 4)) → (c : Bool) → asked ≡ c → P (deliver m p q)
+      go [] e c t f = let z : getD m1 (p * 32 + 4) 0 ≡ 0 = rw (same, e) at c in rw z (stays (λ x i. absurd (omega (arith, ap (count x) e))))
       go (y ∷ ys) e c false f =
           let z = rw (same, e) at c in
-          rw (z .0, ne-eqb y 0 (omega arith), reason-at, note-at, f) (quiet (λ x i. f))
+          rw (z .0, ne-eqb y 0 (omega arith), reason-at, note-at, f) (stays (λ x i. f))
       go (y ∷ ys) e c true f =
           let z = rw (same, e) at c in
           let d = b .facts .own p h y (rw e (omega (arith, hit-self y))) .owner in
           let at4 : p * 32 + 3 + 1 ≡ p * 32 + 4 = omega arith in
           rw (z .0, ne-eqb y 0 (omega arith), reason-at, note-at, f) (wakes ys (rw (at4, e, d)))
 
+  pub deliver-all : Delivered (deliver m p q)
+  deliver-all = delivers Delivered quiet wakes
+
   pub deliver-base : Gave (deliver m p q) ps hs g W
   deliver-base = deliver-all .gave
 
--- ---- what is written in a page in hand
-pub copy-below : (n : ℕ) (m : List ℕ) (a b i : ℕ) → i < b → b + n ≤ 8192 → getD (copy n m a b) i 0 ≡ getD m i 0
-unfolding Address.copy
-copy-below zero m a b i h l = refl
-copy-below (suc zero) m a b i h l = other m b (getD m a 0) i (omega arith)
-copy-below (suc (suc n)) m a b i h l =
-    let w : (b + 1) % 8192 ≡ b + 1 = omega arith in
-    rw w (copy-below (suc n) (set m b (getD m a 0)) ((a + 1) % 8192) (b + 1) i (omega arith) (omega arith) ∙ other m b (getD m a 0) i (omega arith))
+  -- which words stay: all but the end of Q1, the link of the page, and of the processor words 0 to 5 and 12
+  pub deliver-frame : (c : ℕ) → ((j : ℕ) → j ≤ 5 → c ≢ p * 32 + j) → c ≢ p * 32 + 12 → c ≢ q * 32 + 0
+      → ((z : ℕ) → 1 ≤ count z (L (p * 32 + 5)) → c ≢ z * 32 + 0) → getD (deliver m p q) c 0 ≡ getD m c 0
+  deliver-frame c n n12 nq nl = delivers (λ x. getD x c 0 ≡ getD m c 0) (λ f. joined) (λ ys e.
+      let same = upd-other L a5 a4 (L a5 ++ q ∷ []) (omega arith) in
+      let own : (z : ℕ) → 1 ≤ count z (K a4) → c ≢ z * 32 + 0 = λ z i. rw (b .facts .own p h z (rw (← at4, ← same) i) .owner) (n 0 (omega arith)) in
+      wake-frame (mail-sep b p 5 h (omega arith) (omega arith)) x1 (p * 32 + 3) p [] ys (own-sem s p h) (same ∙ e) c (n 3 (omega arith))
+      (rw at4 (n 4 (omega arith))) own (n 2 (omega arith)) n12 ∙ joined)
+    where
+      at4 : a4 ≡ p * 32 + 4
+      at4 = omega arith
 
+      joined : getD m1 c 0 ≡ getD m c 0
+      joined =
+          join-frame s (b .mem) a5 (in-q ps p 5 (omega arith) (omega arith) h, grant-high a5 (omega (arith, pg))) (omega (arith, pg)) q
+          (hand-page b q (in-hand b)) (hand-new b) c (n 5 (omega arith)) nl nq
+
+-- ---- what is written in a page in hand
 module _ {m : List ℕ} {ps : List ℕ} {L : Lists} {W : View} {hs : List ℕ} {g q : ℕ} (b : Base m ps L W (q ∷ hs) g) where
   hp : Page q
   hp = hand-page b q (in-hand b)
@@ -184,33 +197,59 @@ module _ {m : List ℕ} {ps : List ℕ} {L : Lists} {W : View} {hs : List ℕ} {
   pub word2 : (v w : ℕ) → getD (set (set m (q * 32 + 1) v) (q * 32 + 2) w) (q * 32 + 2) 0 ≡ w
   word2 v w = getD-set-same (set m (q * 32 + 1) v) (q * 32 + 2) w 0 (omega (arith, hp, size1 v))
 
+  -- the page in hand is written, then delivered
+  module _ {m2 : List ℕ} (o : Only q m m2) (letter : Message (getD m2 (q * 32 + 1) 0) (getD m2 (q * 32 + 2) 0)) where
+    pub retold-letter : Message (retold m2 W q .note q) (retold m2 W q .reason q)
+    retold-letter = rw (put1-same (W .note) q (getD m2 (q * 32 + 1) 0) q refl, put1-same (W .reason) q (getD m2 (q * 32 + 2) 0) q refl) letter
+
+    written-base : (p : ℕ) → 1 ≤ count p ps → Gave (deliver m2 p q) ps hs g W
+    written-base p h =
+        let t = deliver-base (hand-base q (in-hand b) o b) p h retold-letter in
+        record { lists = t .lists; view = t .view; base = t .base; low = t .low }
+
   -- "a notice with NI as sender and the same flag"
-  pub notice-base : (n f p : ℕ) → 1 ≤ n → n ≤ 15 → 1 ≤ f → f ≤ 7 → 1 ≤ count p ps → Gave (deliver (makeNotice m q n f) p q) ps hs g W
+  pub notice-only : (n f : ℕ) → Only q m (makeNotice m q n f)
   unfolding Mail.makeNotice
-  notice-base n f p i j k l h =
-      let m2 = set (set m (q * 32 + 1) (n * 16 + f)) (q * 32 + 2) 128 in
-      let t = deliver-base (hand-base q (in-hand b) (two (n * 16 + f) 128) b) p h
-      (rw (
-        put1-same (W .note) q (getD m2 (q * 32 + 1) 0) q refl,
-        put1-same (W .reason) q (getD m2 (q * 32 + 2) 0) q refl,
-        word1 (n * 16 + f) 128,
-        word2 (n * 16 + f) 128,
-      )
-      (record { sender = omega arith; known = omega arith; flag = omega arith; small = omega arith; long = λ z. absurd (z refl) })) in
-      record { lists = t .lists; view = t .view; base = t .base; low = t .low }
+  notice-only n f = two (n * 16 + f) 128
+
+  pub notice-words : (n f : ℕ) → (getD (makeNotice m q n f) (q * 32 + 1) 0 ≡ n * 16 + f) × (getD (makeNotice m q n f) (q * 32 + 2) 0 ≡ 128)
+  unfolding Mail.makeNotice
+  notice-words n f = (word1 (n * 16 + f) 128, word2 (n * 16 + f) 128)
+
+  pub notice-letter : (n f : ℕ) → 1 ≤ n → n ≤ 15 → 1 ≤ f → f ≤ 7
+      → Message (getD (makeNotice m q n f) (q * 32 + 1) 0) (getD (makeNotice m q n f) (q * 32 + 2) 0)
+  notice-letter n f i j k l =
+      rw (notice-words n f .0, notice-words n f .1)
+      (record { sender = omega arith; known = omega arith; flag = omega arith; small = omega arith; long = λ z. absurd (z refl) })
+
+  pub notice-base : (n f p : ℕ) → 1 ≤ n → n ≤ 15 → 1 ≤ f → f ≤ 7 → 1 ≤ count p ps → Gave (deliver (makeNotice m q n f) p q) ps hs g W
+  notice-base n f p i j k l h = written-base (notice-only n f) (notice-letter n f i j k l) p h
 
   -- "text length at A, text from A+1, to processor NI"
+  module _ (f a l : ℕ) (l2 : l ≤ 29) where
+    abbrev v : ℕ
+    v = getD m (getD m 248 0 * 32 + 7) 0 % 16 * 16 + f
+
+    abbrev mw : List ℕ
+    mw = set (set m (q * 32 + 1) v) (q * 32 + 2) l
+
+    pub message-only : Only q m (writeMessage m q f a l)
+    unfolding Mail.writeMessage
+    message-only = only-copy l mw a (q * 32 + 3) (omega (arith, hp)) (omega arith) (omega arith) (two v l)
+
+    pub message-words : (getD (writeMessage m q f a l) (q * 32 + 1) 0 ≡ v) × (getD (writeMessage m q f a l) (q * 32 + 2) 0 ≡ l)
+    unfolding Mail.writeMessage
+    message-words = (
+      copy-far l mw a (q * 32 + 3) (q * 32 + 1) (omega (arith, hp)) (λ i u. omega (arith, hp)) ∙ word1 v l,
+      copy-far l mw a (q * 32 + 3) (q * 32 + 2) (omega (arith, hp)) (λ i u. omega (arith, hp)) ∙ word2 v l,
+    )
+
+    pub message-letter : 1 ≤ f → f ≤ 7 → Label (getD m (getD m 248 0 * 32 + 7) 0)
+        → Message (getD (writeMessage m q f a l) (q * 32 + 1) 0) (getD (writeMessage m q f a l) (q * 32 + 2) 0)
+    message-letter f1 f2 n =
+        rw (message-words .0, message-words .1)
+        (record { sender = omega (arith, n .name); known = omega arith; flag = omega arith; small = omega arith; long = λ z. l2 })
+
   pub message-base : (f a l p : ℕ) → 1 ≤ f → f ≤ 7 → l ≤ 29 → Label (getD m (getD m 248 0 * 32 + 7) 0) → 1 ≤ count p ps
       → Gave (deliver (writeMessage m q f a l) p q) ps hs g W
-  unfolding Mail.writeMessage
-  message-base f a l p i j k n h =
-      let v = getD m (getD m 248 0 * 32 + 7) 0 % 16 * 16 + f in
-      let m1 = set (set m (q * 32 + 1) v) (q * 32 + 2) l in
-      let m2 = copy l m1 a (q * 32 + 3) in
-      let o : Only q m m2 = only-copy l m1 a (q * 32 + 3) (omega (arith, hp)) (omega arith) (omega arith) (two v l) in
-      let w1 : getD m2 (q * 32 + 1) 0 ≡ v = copy-below l m1 a (q * 32 + 3) (q * 32 + 1) (omega arith) (omega (arith, hp)) ∙ word1 v l in
-      let w2 : getD m2 (q * 32 + 2) 0 ≡ l = copy-below l m1 a (q * 32 + 3) (q * 32 + 2) (omega arith) (omega (arith, hp)) ∙ word2 v l in
-      let t = deliver-base (hand-base q (in-hand b) o b) p h
-      (rw (put1-same (W .note) q (getD m2 (q * 32 + 1) 0) q refl, put1-same (W .reason) q (getD m2 (q * 32 + 2) 0) q refl, w1, w2)
-      (record { sender = omega (arith, n .name); known = omega arith; flag = omega arith; small = omega arith; long = λ z. k })) in
-      record { lists = t .lists; view = t .view; base = t .base; low = t .low }
+  message-base f a l p i j k n h = written-base (message-only f a l k) (message-letter f a l k i j n) p h

@@ -11,7 +11,7 @@ use lib.Dec.{eqb}
 use borrow.Author.Tests.{eq-eqb, ne-eqb}
 use Rattle.model.specs.Lists as Model
 use Rattle.model.specs.Lists.{hit, count, linkOf, Lists}
-use Rattle.laws.specs.Count.{hit-le, hit-self, hit-other, hit-or, count-append}
+use Rattle.laws.specs.Count.{hit-le, hit-self, hit-other, hit-or, count-append, count-mid}
 use Rattle.laws.specs.Chain.{Page, Chain, Off, NoDup, last, last-in, chain-put, off-page, off-word, chain-join, chain-leave}
 
 pub link-le : (a : ℕ) → linkOf a ≤ 1
@@ -148,9 +148,5 @@ module _ (m : List ℕ) (H : ℕ → Type 0) (L : Lists) (hm : length m ≡ 8192
       go (inl q) = rw (q, upd-same) (chain-leave m (linkOf a) a p xs ys hm (good a ia .fits) (omega (arith, link-le a))
           (rw e at (off-head a a ia ia)) (rw e at (single a ia)) (rw e at (rep a ia)))
       go (inr n) = rw (upd-other L a b (xs ++ ys) n) (other-put (set m c v) a b (p * 32 + linkOf a) 0 ia ib n
-          (inr (p, rw e (omega (arith, count-append p xs (p ∷ ys), hit-self p)), refl))
+          (inr (p, rw e (count-mid p xs ys), refl))
           (other-put m a b c v ia ib n (own (last-cell a xs)) (rep b ib)))
-
-  -- a word that is neither a header nor a link
-  pub rep-put : (b v : ℕ) → ((a : ℕ) → H a → (b ≢ a) × Off b (linkOf a) (L a)) → Rep (set m b v) H L
-  rep-put b v o a ia = chain-put m b v (linkOf a) a (L a) (o a ia .0) (o a ia .1) (rep a ia)

@@ -1,24 +1,17 @@
 -- Instructions: "EXI runs another instruction by the same rules". Refusals and faults: "Order". Every instruction leaves a well-formed memory, direct and by
 -- EXI, whatever its words hold. Words are of 8 bits: so a flag has three bits, a priority four, a count eight. Assumes nothing.
-use mathlib.Core.Path.{_≡_, refl, sym, _∙_}
-use mathlib.Core.Logic.{_≢_, _⊎_, inl, inr}
-use mathlib.Core.Bool.{Bool, true, false}
+use mathlib.Core.Path.{_≡_, refl}
+use mathlib.Core.Logic.{_≢_}
 use mathlib.Core.List.{List, [], _∷_}
-use Prim.Native.Nat.{ℕ, zero, suc, _+_, _-_, _%_, _≤_, _<_}
+use Prim.Native.Nat.{ℕ, _+_, _-_, _%_, _≤_, _<_}
 use native.Mathlib.Omega.{arith}
 use lib.ListN.{getD}
-use lib.Dec.{eqb, leb}
-use borrow.Author.Tests.{eqb-true, ne-eqb, leb-true}
 use Rattle.model.specs.declared.Arguments.{Arguments}
-use Rattle.model.specs.Address.{guarded, clear}
 use Rattle.model.specs.Instruction as Instruction
-use Rattle.model.specs.Instruction.{shapeFor, countFor, lengthFor, arguments, countedArguments}
+use Rattle.model.specs.Instruction.{shapeFor, arguments, countedArguments}
 use Rattle.model.specs.Answer as Answer
-use Rattle.model.specs.Execute as Execute
 use Rattle.model.specs.Bytes as Model
-use Rattle.model.specs.Bytes.{Step, direct, pointed, within, argument, run, foreign, isForeign, argumentFault, argued, exi, taken, decoded, coded}
-use Rattle.model.specs.Bytes.{fetched, fieldAt, kind}
-use Rattle.laws.specs.Count.{hit-or}
+use Rattle.model.specs.Bytes.{direct, pointed, argument, fetched, fieldAt}
 use Rattle.laws.specs.Judged.{WellFormed}
 use Rattle.laws.specs.Words.{Small}
 use Rattle.laws.specs.Ends.{Fine}
@@ -27,6 +20,7 @@ use Rattle.laws.specs.Mails.{sme-fine, wnm-fine, rme-fine, tme-fine}
 use Rattle.laws.specs.Interrupts.{gin-fine, win-fine}
 use Rattle.laws.specs.Create.{crp-fine}
 use Rattle.laws.specs.Delete.{named-fine}
+use Rattle.laws.specs.Each.{fetched-each}
 
 -- ---- what the arguments of code c hold
 pub record Bound (c : ℕ) (x : Arguments) : Type 0 where
@@ -78,130 +72,25 @@ pointed-bound m s c e = record {
   create = λ q. rw q (omega arith);
 }
 
--- the fault in the argument words: none, 11 or 12
-pub fault-cases : (m : List ℕ) (c e : ℕ) → (argumentFault m c e ≡ 0) ⊎ ((1 ≤ argumentFault m c e) × (argumentFault m c e ≤ 12))
-unfolding Execute.argumentFault
-fault-cases m c e = go (eqb c 14) (clear (countFor c) e) (within (countFor c) m e (shapeFor c)) refl refl refl
-  where
-    go : (x y z : Bool) → eqb c 14 ≡ x → clear (countFor c) e ≡ y → within (countFor c) m e (shapeFor c) ≡ z
-        → (argumentFault m c e ≡ 0) ⊎ ((1 ≤ argumentFault m c e) × (argumentFault m c e ≤ 12))
-    go true y z f g h = inl (rw f)
-    go false false z f g h = inr (rw (f, g) (omega arith), rw (f, g) (omega arith))
-    go false true false f g h = inr (rw (f, g, h) (omega arith), rw (f, g, h) (omega arith))
-    go false true true f g h = inl (rw (f, g, h))
-
 -- ---- of a well-formed memory where someone runs
-module _ {m : List ℕ} (w : WellFormed m) (d : getD m 248 0 ≢ 0) (s : Small m) where
-  run-fine : (e : List ℕ → Arguments → Step) (c : ℕ) (x : Arguments) (len : ℕ) → Bound c x → Fine (e m x) → Fine (run e m c x len)
-  unfolding Execute.run
-  run-fine e c x len b h =
-      let bf = b .field in
-      pick (λ (o : Step). Fine o)
-      (Model.cvi m (x .field) (x .address) len ∷ Model.dvi m (x .field) len ∷ Model.gin m len ∷ Model.win m (x .interrupt) (x .count) len
-      ∷ Model.sme m (x .field) (x .second) (x .address) len ∷ Model.wnm m (x .field) (x .second) len ∷ Model.rme m (x .field) (x .second) (x .address) len
-      ∷ Model.tme m (x .field) (x .second) (x .address) len ∷ Model.named m 8 (x .field) len ∷ Model.named m 9 (x .field) len
-      ∷ Model.st2 m (x .field) (x .address) len ∷ Model.crp m (x .field) (x .second) (x .w) (x .address) len ∷ Model.named m 12 (x .field) len
-      ∷ Model.thirteen m (x .field) (x .second) (x .address) len ∷ e m x ∷ [])
-      (Model.fault m 1) c c 0 (omega arith) (
-        (λ q. cvi-fine w d (x .field) (x .address) len bf),
-        (
-          (λ q. dvi-fine w d (x .field) len bf),
-          (
-            (λ q. gin-fine w d len),
-            (
-              (λ q. win-fine w d (x .interrupt) (x .count) len (b .count q)),
-              (
-                (λ q. sme-fine w d (x .field) (x .second) (x .address) len bf (b .send q)),
-                (
-                  (λ q. wnm-fine w d (x .field) (x .second) len (b .wait q)),
-                  (
-                    (λ q. rme-fine w d (x .field) (x .second) (x .address) len),
-                    (
-                      (λ q. tme-fine w d (x .field) (x .second) (x .address) len),
-                      (
-                        (λ q. named-fine w d 8 (x .field) len),
-                        (
-                          (λ q. named-fine w d 9 (x .field) len),
-                          (
-                            (λ q. st2-fine w d (x .field) (x .address) len),
-                            (
-                              (λ q. crp-fine w d (x .field) (x .second) (x .w) (x .address) len bf (b .create q)),
-                              (
-                                (λ q. named-fine w d 12 (x .field) len),
-                                (
-                                  (λ q. thirteen-fine w d (x .field) (x .second) (x .address) len),
-                                  ((λ q. h), tt),
-                                ),
-                              ),
-                            ),
-                          ),
-                        ),
-                      ),
-                    ),
-                  ),
-                ),
-              ),
-            ),
-          ),
-        ),
-      )
-      (fails w d 1 (omega arith) (omega arith))
-
-  foreign-fine : (c a : ℕ) → Fine (foreign m c a)
-  unfolding Execute.foreign Answer.memoryOf
-  foreign-fine c a = go (eqb (kind m c) 2) refl
-    where
-      go : (x : Bool) → eqb (kind m c) 2 ≡ x → Fine (foreign m c a)
-      go true e = rw e w
-      go false e = rw e (fails w d 1 (omega arith) (omega arith))
-
-  argued-fine : (r : List ℕ → ℕ → Arguments → ℕ → Step) → ((c : ℕ) (x : Arguments) (len : ℕ) → Bound c x → Fine (r m c x len)) → (c e : ℕ)
-      → Fine (argued r m c e)
-  unfolding Execute.argued
-  argued-fine r h c e = go (isForeign m c) refl (fault-cases m c e)
-    where
-      go : (x : Bool) → isForeign m c ≡ x → (argumentFault m c e ≡ 0) ⊎ ((1 ≤ argumentFault m c e) × (argumentFault m c e ≤ 12))
-          → Fine (argued r m c e)
-      go true f t = rw f (foreign-fine c e)
-      go false f (inl t) = rw (f, t) (h c (pointed m e (shapeFor c)) 4 (pointed-bound m s c e))
-      go false f (inr t) = rw (f, ne-eqb (argumentFault m c e) 0 (omega (arith, t .0))) (fails w d (argumentFault m c e) (t .0) (t .1))
-
-  exi-fine : (k : ℕ) (x : Arguments) → Fine (exi k m x)
-  unfolding Execute.exi
-  exi-fine zero x = fails w d 2 (omega arith) (omega arith)
-  exi-fine (suc k) x =
-      let ih = exi-fine k in
-      argued-fine (run (exi k)) (λ c y len b. run-fine (exi k) c y len b (ih y)) (x .field) (Model.indexed m (x .second) (x .address))
-
-  taken-fine : (n c : ℕ) → Fine (taken m n c)
-  unfolding Execute.taken
-  taken-fine n c = go (clear (lengthFor c - 2) ((n + 2) % 8192)) refl
-    where
-      go : (x : Bool) → clear (lengthFor c - 2) ((n + 2) % 8192) ≡ x → Fine (taken m n c)
-      go false e = rw e (fails w d 11 (omega arith) (omega arith))
-      go true e = rw e (run-fine (exi 1) c (direct m n (shapeFor c)) (lengthFor c) (direct-bound m s n c) (exi-fine 1 (direct m n (shapeFor c))))
-
-  decoded-fine : (n c : ℕ) → Fine (decoded m n c)
-  unfolding Execute.decoded
-  decoded-fine n c = go (eqb (kind m c) 1) refl
-    where
-      go : (x : Bool) → eqb (kind m c) 1 ≡ x → Fine (decoded m n c)
-      go false e = rw e (foreign-fine c ((n + 1) % 8192))
-      go true e = rw e (taken-fine n c)
-
-  coded-fine : (n : ℕ) → Fine (coded m n)
-  unfolding Execute.coded
-  coded-fine n = go (guarded ((n + 1) % 8192)) refl
-    where
-      go : (x : Bool) → guarded ((n + 1) % 8192) ≡ x → Fine (coded m n)
-      go true e = rw e (fails w d 11 (omega arith) (omega arith))
-      go false e = rw e (decoded-fine n (Model.codeAt m n))
-
-  pub fetched-fine : (n : ℕ) → Fine (fetched m n)
-  unfolding Execute.fetched Answer.memoryOf
-  fetched-fine n = go (guarded n) (eqb (getD m n 0) 224) refl refl
-    where
-      go : (x y : Bool) → guarded n ≡ x → eqb (getD m n 0) 224 ≡ y → Fine (fetched m n)
-      go true y e f = rw e (fails w d 11 (omega arith) (omega arith))
-      go false false e f = rw (e, f) w
-      go false true e f = rw (e, f) (coded-fine n)
+pub fetched-fine : {m : List ℕ} → WellFormed m → getD m 248 0 ≢ 0 → Small m → (n : ℕ) → Fine (fetched m n)
+unfolding Answer.memoryOf
+fetched-fine {m} w d s = fetched-each {B = Bound} {P = Fine} (record {
+  direct = direct-bound m s;
+  pointed = pointed-bound m s;
+  fault = fails w d;
+  handed = λ p a. w;
+  refused = w;
+  cvi = λ x len b. cvi-fine w d (x .field) (x .address) len (b .field);
+  dvi = λ x len b. dvi-fine w d (x .field) len (b .field);
+  gin = gin-fine w d;
+  win = λ x len b. win-fine w d (x .interrupt) (x .count) len (b .count refl);
+  sme = λ x len b. sme-fine w d (x .field) (x .second) (x .address) len (b .field) (b .send refl);
+  wnm = λ x len b. wnm-fine w d (x .field) (x .second) len (b .wait refl);
+  rme = rme-fine w d;
+  tme = tme-fine w d;
+  named = named-fine w d;
+  st2 = st2-fine w d;
+  crp = λ x len b. crp-fine w d (x .field) (x .second) (x .w) (x .address) len (b .field) (b .create refl);
+  thirteen = thirteen-fine w d;
+})

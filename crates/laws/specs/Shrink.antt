@@ -1,8 +1,8 @@
 -- Deleting: "leave the processor list". A processor that waits nowhere leaves the list: its page and its mail are in hand then, and its grant is the one
 -- of the name that is being deleted. Assumes nothing.
-use mathlib.Core.Path.{_≡_, refl, ap, _∙_}
+use mathlib.Core.Path.{_≡_, ap, _∙_}
 use mathlib.Core.Logic.{_≢_, _⊎_, inl, inr}
-use mathlib.Core.List.{List, [], _∷_, _++_}
+use mathlib.Core.List.{List, _∷_, _++_}
 use Prim.Native.Nat.{ℕ, _+_, _-_, _*_, _%_, _≤_, _<_}
 use native.Mathlib.Omega.{arith}
 use lib.ListN.{length, getD, set, length-set, length-append}
@@ -11,14 +11,13 @@ use lib.Dec.{eqb}
 use Rattle.model.specs.Bytes.{leave}
 use Rattle.model.specs.Lists.{hit, count, Lists, sum, uses, queues}
 use Rattle.laws.specs.Count.{hit-self, hit-other, hit-or, count-append, zero-or}
-use Rattle.laws.specs.Chain.{Page, Chain, last, last-in, leave-is}
+use Rattle.laws.specs.Chain.{Page, Chain, last, last-not, leave-is}
 use Rattle.laws.specs.Queues.{upd, upd-same, upd-other, link-procs, link-other, Rep, rep-leave}
 use Rattle.laws.specs.Heads.{sum-one, sum-upd, sum-skip, Seat, seat-of}
-use Rattle.laws.specs.Heads.Seat.{line, page, own}
 use Rattle.laws.specs.Uses.{Among, Head, Sep, proc-page, proc-once, list-short, good, apart, single}
 use Rattle.laws.specs.Places.{in-procs, in-q, grant-low, grant-high, own-once}
 use Rattle.laws.specs.Inv.{View, bearers, Facts, Mem}
-use Rattle.laws.specs.Frames.{other}
+use Rattle.laws.specs.Frames.{other, fixed-same, seat-same}
 use Rattle.laws.specs.Views.{put1, put1-same, put1-other, withWords}
 use Rattle.laws.specs.Changes.{stock-same}
 use Rattle.laws.specs.Grants.{each-two}
@@ -176,21 +175,10 @@ module _ (xs : List ℕ) (p : ℕ) (ys : List ℕ) where
       rep-P : Rep m2 (Head P) A
       rep-P = rw link-procs at (rep-leave m (Head P) L (x .size) (good s) (apart s) (single s) (x .holds .rep) 247 p xs ys h7 (s .procs))
 
-      data Cell (d : ℕ) : Type 0 where
-        head : d ≡ 247 → Cell d
-        link : (z : ℕ) → 1 ≤ count z P → d ≡ z * 32 + 1 → Cell d
-
-      end-cell : (zs : List ℕ) → ((z : ℕ) → 1 ≤ count z zs → 1 ≤ count z P) → Cell (last 1 247 zs)
-      end-cell [] f = head refl
-      end-cell (z ∷ zs) f = let r = last-in 1 247 z zs in link (r .0) (f (r .0) (r .1)) (r .2)
-
       pub same : (a : ℕ) → a ≢ 247 → ((z : ℕ) → 1 ≤ count z P → a ≢ z * 32 + 1) → getD m2 a 0 ≡ getD m a 0
       same a n7 nz =
-          other (set m c v) (p * 32 + 1) 0 a (nz p in-P) ∙ other m c v a (go (end-cell xs (λ z i. omega (arith, count-append z xs (p ∷ ys)))))
-        where
-          go : Cell c → a ≢ c
-          go (head e) = rw e n7
-          go (link z h e) = rw e (nz z h)
+          other (set m c v) (p * 32 + 1) 0 a (nz p in-P)
+          ∙ other m c v a (last-not 1 247 xs a n7 (λ z i. nz z (omega (arith, count-append z xs (p ∷ ys)))))
 
       same-word : (y j : ℕ) → Page y → j < 32 → j ≢ 1 → getD m2 (y * 32 + j) 0 ≡ getD m (y * 32 + j) 0
       same-word y j h l d = same (y * 32 + j) (omega (arith, h)) (λ z i. omega arith)
@@ -212,13 +200,8 @@ module _ (xs : List ℕ) (p : ℕ) (ys : List ℕ) where
             label = λ y h. same-word y 7 h (omega arith) (omega arith) ∙ x .reads .words .label y h;
             state = λ y h. same-word y 12 h (omega arith) (omega arith) ∙ x .reads .words .state y h;
           };
-          fixed = let f = x .reads .fixed in record {
-            clock = λ a h i. same-low a (omega arith) (omega arith) ∙ f .clock a h i;
-            turn = λ a h i. same-low a (omega arith) (omega arith) ∙ f .turn a h i;
-            code = λ k h. same-low (256 + 2 * k) (omega arith) (omega arith) ∙ f .code k h;
-            next = same-low 288 (omega arith) (omega arith) ∙ f .next;
-            entry = λ i h. same-low (289 + i) (omega arith) (omega arith) ∙ f .entry i h;
-          };
+          fixed = fixed-same (λ a h i. same-low a (omega arith) (omega arith)) (λ a h i. same-low a (omega arith) (omega arith))
+              (λ a h i. same-low a (omega arith) (omega arith)) (x .reads .fixed);
           sems = λ a h. let q = queue-left (a + 1) h in sem a (seat-of P a q) ∙ x .reads .sems a q;
         };
       })
@@ -233,9 +216,7 @@ module _ (xs : List ℕ) (p : ℕ) (ys : List ℕ) where
               ∙ x .reads .words .note y h out)
 
           sem : (a : ℕ) → Seat P a → getD m2 a 0 ≡ getD m a 0
-          sem a (line k u e) = same-low a (omega arith) (omega arith)
-          sem a (page e) = same-low a (omega arith) (omega arith)
-          sem a (own y u e) = rw e (same-word y 3 (proc-page s y u) (omega arith) (omega arith))
+          sem = seat-same m m2 (λ a i j. same-low a (omega arith) (omega arith)) (λ y u. same-word y 3 (proc-page s y u) (omega arith) (omega arith))
 
       -- its mail hangs there still
       pub mail-left : (w : ℕ) → 5 ≤ w → w ≤ 6 → Chain (leave m 247 1 p) 0 (p * 32 + w) (L (p * 32 + w))

@@ -1,5 +1,6 @@
--- Instructions: CVI, DVI, ST1, STP, ST2 and code 13 leave a well-formed memory, and so does setting registers. Assumes nothing.
-use mathlib.Core.Path.{_≡_, refl, ap}
+-- Instructions: CVI, DVI, ST1, STP, ST2 and code 13 leave a well-formed memory, and so does setting registers. Before them the tests that instructions share:
+-- a case picked from a list, the first that a test picks, a word that is not protected. Assumes nothing.
+use mathlib.Core.Path.{_≡_, refl, sym, ap, _∙_}
 use mathlib.Core.Logic.{_≢_, _⊎_, inl, inr}
 use mathlib.Core.Bool.{Bool, true, false}
 use mathlib.Core.List.{List, [], _∷_}
@@ -22,13 +23,13 @@ use Rattle.model.specs.Bytes.{lists, pageOf, isNamed, setCode, setRegistersOf}
 use Rattle.model.specs.Lists.{count, Lists}
 use Rattle.laws.specs.Count.{hit-self, hit-or}
 use Rattle.laws.specs.Uses.{proc-page}
-use Rattle.laws.specs.Inv.{View, view, Codes, Base, Inv}
+use Rattle.laws.specs.Inv.{View, Codes, Base}
 use Rattle.laws.specs.Judged.{WellFormed, well-formed, invariant}
-use Rattle.laws.specs.Frames.{Kept, kept-refl, kept-set, base-kept, Quiet, quiet-low, quiet-mid}
+use Rattle.laws.specs.Frames.{Kept, kept-refl, kept-set, base-kept, Quiet, quiet-low}
 use Rattle.laws.specs.Views.{put1, put1-same, put1-other, withCode}
 use Rattle.laws.specs.Stores.{code-mem}
 use Rattle.laws.specs.Changes.{facts-code}
-use Rattle.laws.specs.Who.{listed}
+use Rattle.laws.specs.Who.{listed, Busy, busy}
 use Rattle.laws.specs.Ends.{Fine, stop-base, start-base, state-base, lr-kept, quiet-run, run-page, done-fine, jumps-fine, fault-fine}
 
 -- ---- one of a list of things, by its number
@@ -41,7 +42,32 @@ pick P [] d k c i e h z = z
 pick P (x ∷ xs) d zero c i e h z = h .0 (omega arith)
 pick P (x ∷ xs) d (suc k) c i e h z = pick P xs d k c (suc i) (omega arith) (h .1) z
 
--- ---- a name on the list
+-- ---- the first that a test picks, and a name on the list
+pub first-yes : (f : ℕ → Bool) (z : ℕ) (zs : List ℕ) → f z ≡ true → first f (z ∷ zs) ≡ z
+unfolding Queue.first
+first-yes f z zs e = rw (e, Queue.first)
+
+pub first-no : (f : ℕ → Bool) (z : ℕ) (zs : List ℕ) → f z ≡ false → first f (z ∷ zs) ≡ first f zs
+unfolding Queue.first
+first-no f z zs e = rw (e, Queue.first)
+
+first-nil : (f : ℕ → Bool) → first f [] ≡ 0
+unfolding Queue.first
+first-nil f = refl
+
+first-same : (f g : ℕ → Bool) (zs : List ℕ) → ((z : ℕ) → 1 ≤ count z zs → f z ≡ g z) → first f zs ≡ first g zs
+first-same f g [] h = first-nil f ∙ sym (first-nil g)
+first-same f g (z ∷ zs) h = go (g z) refl (h z (omega (arith, hit-self z))) (first-same f g zs (λ y i. h y (omega arith)))
+  where
+    go : (c : Bool) → g z ≡ c → f z ≡ g z → first f zs ≡ first g zs → first f (z ∷ zs) ≡ first g (z ∷ zs)
+    go true e d ih = first-yes f z zs (d ∙ e) ∙ sym (first-yes g z zs e)
+    go false e d ih = first-no f z zs (d ∙ e) ∙ ih ∙ sym (first-no g z zs e)
+
+pub named-same : (m m1 : List ℕ) (n : ℕ) (zs : List ℕ) → ((z : ℕ) → 1 ≤ count z zs → getD m1 (z * 32 + 7) 0 ≡ getD m (z * 32 + 7) 0)
+    → first (isNamed m1 n) zs ≡ first (isNamed m n) zs
+unfolding Processor.isNamed
+named-same m m1 n zs h = first-same (isNamed m1 n) (isNamed m n) zs (λ z i. rw (h z i))
+
 pub first-in : (f : ℕ → Bool) (xs : List ℕ) → first f xs ≢ 0 → (1 ≤ count (first f xs) xs) × (f (first f xs) ≡ true)
 unfolding Queue.first
 first-in f [] n = absurd (n refl)
@@ -57,19 +83,35 @@ module _ {m : List ℕ} {ps : List ℕ} {L : Lists} {W : View} {hs : List ℕ} {
   named-in n h = let l = listed b in rw l (first-in (isNamed m n) ps (rw l at h) .0)
 
 -- ---- what an instruction may write
-pub quiet-clear : (a : ℕ) → guarded a ≡ false → Quiet a
+-- where an unprotected word stands
+pub record Open (a : ℕ) : Type 0 where
+  pub above : 16 ≤ a
+  pub below : a < 7552
+  pub between : (b : ℕ) → 128 ≤ b → b < 352 → a ≢ b
+
+pub clear-open : (a : ℕ) → guarded a ≡ false → Open a
 unfolding Address.guarded
-quiet-clear a h = go (ltb a 16) (ltb a 128) (ltb a 352) (leb 7552 a) refl refl refl refl
+clear-open a h = go (ltb a 16) (ltb a 128) (ltb a 352) (leb 7552 a) refl refl refl refl
   where
-    go : (x y z t : Bool) → ltb a 16 ≡ x → ltb a 128 ≡ y → ltb a 352 ≡ z → leb 7552 a ≡ t → Quiet a
+    go : (x y z t : Bool) → ltb a 16 ≡ x → ltb a 128 ≡ y → ltb a 352 ≡ z → leb 7552 a ≡ t → Open a
     go true y z t e f i j = let c = rw e at h in let k : _≡_ {A = ℕ} 0 1 = cc in absurd (omega arith)
-    go false true z t e f i j = let l = ltb-true a 128 f in quiet-low a (omega arith)
+    go false true z t e f i j =
+        let l = ltb-false a 16 e in
+        let u = ltb-true a 128 f in
+        record { above = omega arith; below = omega arith; between = λ b c d. omega arith }
     go false false true t e f i j = let c = rw (e, f, i) at h in let k : _≡_ {A = ℕ} 0 1 = cc in absurd (omega arith)
     go false false false true e f i j = let c = rw (e, f, i, j) at h in let k : _≡_ {A = ℕ} 0 1 = cc in absurd (omega arith)
     go false false false false e f i j =
         let l = ltb-false a 352 i in
         let u = leb-false 7552 a j in
-        quiet-mid a (omega arith) (omega arith)
+        record { above = omega arith; below = omega arith; between = λ b c d. omega arith }
+
+pub quiet-clear : (a : ℕ) → guarded a ≡ false → Quiet a
+quiet-clear a h = let o = clear-open a h in record {
+  fixed = λ b i j e. o .between b i j (sym e);
+  words = λ p j k i. omega (arith, o .below);
+  state = λ p k. omega (arith, o .below);
+}
 
 -- ---- page 8
 codes-put : (c : ℕ → ℕ) (k v : ℕ) → 2 ≤ k → v / 32 ≤ 2 → v / 32 ≢ 1 → Codes c → Codes (put1 c k v)
@@ -114,11 +156,7 @@ code-base {W = W} c k a l u o b = record {
 
 -- ---- the instructions, of a well-formed memory where someone runs
 module _ {m : List ℕ} (w : WellFormed m) (d : getD m 248 0 ≢ 0) where
-  i : Inv m (lists m 247) (lists m) (view m)
-  i = invariant w
-
-  b : Base m (lists m 247) (lists m) (view m) [] 32
-  b = i .base
+  open Busy (busy w d) using (base as b, runs as hr, ready)
 
   pub fails : (f : ℕ) → 1 ≤ f → f ≤ 12 → Fine (Model.fault m f)
   fails f h j = fault-fine b f d h j
@@ -228,7 +266,6 @@ module _ {m : List ℕ} (w : WellFormed m) (d : getD m 248 0 ≢ 0) where
   unfolding Processor.setRegistersOf Processor.setFlagsLr
   registers-well r =
       let p = getD m 248 0 in
-      let hp : 1 ≤ count p (lists m 247) = omega (arith, b .facts .runs .listed d) in
       let m2 = set (set m (p * 32 + 8) (r .a % 256)) (p * 32 + 9) (r .s % 256) in
       let m3 = set m2 (p * 32 + 10) (threeFlags (r .p) (r .z) (r .ci) + r .lr / 256 % 32) in
       let k : Kept m (set m3 (p * 32 + 11) (r .lr % 256)) =
@@ -236,15 +273,15 @@ module _ {m : List ℕ} (w : WellFormed m) (d : getD m 248 0 ≢ 0) where
       (reg 9 (r .s % 256) (set m (p * 32 + 8) (r .a % 256)) (omega arith) (omega arith) (reg 8 (r .a % 256) m (omega arith) (omega arith) (kept-refl m)))) in
       let v = getD m (p * 32 + 12) 0 / 16 * 16 + r .w % 16 in
       rw (k .state p (run-page b d)) (well-formed (record {
-        base = state-base p v hp (low-bits (getD m (p * 32 + 12) 0) (r .w) (b .facts .seats .zeros p hp)) (base-kept k b);
+        base = state-base p v hr (low-bits (getD m (p * 32 + 12) 0) (r .w) (b .facts .seats .zeros p hr)) (base-kept k b);
         best = record {
-          ready = λ n. rw (put1-same (λ y. getD m (y * 32 + 12) 0) p v p refl) (omega (arith, i .best .ready d));
-          top = λ y j c. i .best .top y j (still y c (hit-or y p));
+          ready = λ n. rw (put1-same (λ y. getD m (y * 32 + 12) 0) p v p refl) (omega (arith, ready));
+          top = λ y j c. invariant w .best .top y j (still y c (hit-or y p));
         };
       }))
     where
       still : (y : ℕ) → suc (put1 (λ z. getD m (z * 32 + 12) 0) (getD m 248 0) (getD m (getD m 248 0 * 32 + 12) 0 / 16 * 16 + r .w % 16) y) ≤ 64
           → (y ≡ getD m 248 0) ⊎ (y ≢ getD m 248 0) → suc (getD m (y * 32 + 12) 0) ≤ 64
-      still y c (inl e) = rw e (omega (arith, i .best .ready d))
+      still y c (inl e) = rw e (omega (arith, ready))
       still y c (inr n) =
           rw (put1-other (λ z. getD m (z * 32 + 12) 0) (getD m 248 0) (getD m (getD m 248 0 * 32 + 12) 0 / 16 * 16 + r .w % 16) y n) at c

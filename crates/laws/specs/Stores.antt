@@ -18,8 +18,8 @@ use Rattle.laws.specs.Heads.Seat.{line, page, own}
 use Rattle.laws.specs.Uses.{Among, head-place, Sep, proc-page}
 use Rattle.laws.specs.Places.{all-pages}
 use Rattle.laws.specs.Inv.{View, Col, Words, Fixed, Holds, Mem}
-use Rattle.laws.specs.Frames.{other, holds-kept, Only}
-use Rattle.laws.specs.Views.{put1, put1-same, put1-other, withState, withReason, withSem, withLow, withCode, withEntry, retold}
+use Rattle.laws.specs.Frames.{other, holds-kept, Only, fixed-same, seat-same}
+use Rattle.laws.specs.Views.{put1, put1-same, put1-other, withWords, withRest, withState, withReason, withSem, withLow, withCode, withEntry, retold}
 
 -- ---- one store
 pub col-off : (m : List ℕ) (b v k : ℕ) (f : ℕ → ℕ) → ((p : ℕ) → Page p → p * 32 + k ≢ b) → Col m k f → Col (set m b v) k f
@@ -40,8 +40,8 @@ pub record Loose (b : ℕ) : Type 0 where
   pub page : (p j : ℕ) → Page p → j ≤ 6 → j ≢ 2 → j ≢ 3 → p * 32 + j ≢ b
 
 -- below page 10 only the headers of interrupts and three words of page 7 are heads
-loose-low : (b : ℕ) → ((k : ℕ) → k < 54 → 132 + 2 * k ≢ b) → ((a : ℕ) → 244 ≤ a → a ≤ 247 → a ≢ 245 → a ≢ b) → b < 320 → Loose b
-loose-low b f g u = record { int = f; three = g; grant = λ c1 c2 c3. omega arith; page = λ c1 c2 c3 c4 c5 c6. omega arith }
+loose-low : (b : ℕ) → b < 320 → ((k : ℕ) → k < 54 → 132 + 2 * k ≢ b) → ((a : ℕ) → 244 ≤ a → a ≤ 247 → a ≢ 245 → a ≢ b) → Loose b
+loose-low b u f g = record { int = f; three = g; grant = λ c1 c2 c3. omega arith; page = λ c1 c2 c3 c4 c5 c6. omega arith }
 
 -- words 2, 3 and those from 7 on of a control page
 loose-word : (q j : ℕ) → Page q → j < 32 → ((k : ℕ) → k ≤ 6 → k ≢ 2 → k ≢ 3 → k ≢ j) → Loose (q * 32 + j)
@@ -78,71 +78,77 @@ deaf-seat {ps} s b d a h = go (seat-of ps a h)
     go (page e) = rw e (d .page)
     go (own p u e) = rw e (d .own p (proc-page s p u))
 
-fixed-high : {m : List ℕ} (b v : ℕ) {l c : ℕ → ℕ} {n : ℕ} {e : ℕ → ℕ} → 352 ≤ b → Fixed m l c n e → Fixed (set m b v) l c n e
-fixed-high {m} b v g f = record {
-  clock = λ a h i. other m b v a (omega arith) ∙ f .clock a h i;
-  turn = λ a h i. other m b v a (omega arith) ∙ f .turn a h i;
-  code = λ k h. other m b v (256 + 2 * k) (omega arith) ∙ f .code k h;
-  next = other m b v 288 (omega arith) ∙ f .next;
-  entry = λ i h. other m b v (289 + i) (omega arith) ∙ f .entry i h;
+deaf-word : (q j : ℕ) → Page q → j < 32 → j ≢ 3 → Deaf (q * 32 + j)
+deaf-word q j g l n = record { line = λ c1 c2. omega arith; page = omega arith; own = λ c1 c2. omega arith }
+
+-- the counters, the words of who runs, pages 8 and 9
+abbrev Mid : ℕ → Type 0
+Mid b = (239 ≤ b) × (b < 320) × ((a : ℕ) → 244 ≤ a → a ≤ 247 → a ≢ b)
+
+loose-mid : (b : ℕ) → Mid b → Loose b
+loose-mid b i = loose-low b (i .1) (λ c1 c2. omega arith) (λ a h u d. i .2 a h u)
+
+deaf-mid : (b : ℕ) → Mid b → Deaf b
+deaf-mid b i = record { line = λ c1 c2. omega arith; page = i .2 245 (omega arith) (omega arith); own = λ c1 c2. omega arith }
+
+-- b is no word k of a control page
+abbrev NoWord : ℕ → ℕ → Type 0
+NoWord b k = (p : ℕ) → Page p → p * 32 + k ≢ b
+
+pub words-off : {m : List ℕ} (b v : ℕ) {ps : List ℕ} {n r l t : ℕ → ℕ} → NoWord b 1 → NoWord b 2 → NoWord b 7 → NoWord b 12 → Words m ps n r l t
+    → Words (set m b v) ps n r l t
+words-off {m} b v {ps} {n} {r} {l} {t} n1 n2 n7 n12 f = record {
+  note = λ p h z. other m b v (p * 32 + 1) (n1 p h) ∙ f .note p h z;
+  reason = col-off m b v 2 r n2 (f .reason);
+  label = col-off m b v 7 l n7 (f .label);
+  state = col-off m b v 12 t n12 (f .state);
 }
 
 words-low : {m : List ℕ} (b v : ℕ) {ps : List ℕ} {n r l t : ℕ → ℕ} → b < 7552 → Words m ps n r l t → Words (set m b v) ps n r l t
-words-low {m} b v {ps} {n} {r} {l} {t} g f = record {
-  note = λ p h z. other m b v (p * 32 + 1) (omega arith) ∙ f .note p h z;
-  reason = col-off m b v 2 r (λ p h. omega arith) (f .reason);
-  label = col-off m b v 7 l (λ p h. omega arith) (f .label);
-  state = col-off m b v 12 t (λ p h. omega arith) (f .state);
-}
+words-low b v g f = words-off b v (λ p h. omega arith) (λ p h. omega arith) (λ p h. omega arith) (λ p h. omega arith) f
+
+pub fixed-off : {m : List ℕ} (b v : ℕ) {l c : ℕ → ℕ} {n : ℕ} {e : ℕ → ℕ} → ((a : ℕ) → 239 ≤ a → a ≤ 243 → a ≢ b) → ((a : ℕ) → 248 ≤ a → a ≤ 251 → a ≢ b)
+    → ((a : ℕ) → 256 ≤ a → a < 320 → a ≢ b) → Fixed m l c n e → Fixed (set m b v) l c n e
+fixed-off {m} b v clock turn rest f =
+    fixed-same (λ a h i. other m b v a (clock a h i)) (λ a h i. other m b v a (turn a h i)) (λ a h i. other m b v a (rest a h i)) f
 
 module _ {m : List ℕ} {ps : List ℕ} {L : Lists} {W : View} (s : Sep ps L) (x : Mem m ps L W) where
   sems-off : (b v : ℕ) → Deaf b → (a : ℕ) → 1 ≤ count (a + 1) (queues ps) → getD (set m b v) a 0 ≡ W .sem a
   sems-off b v d a h = other m b v a (deaf-seat s b d a h) ∙ x .reads .sems a h
 
-  -- words 2 and 12 of a control page
-  pub state-mem : (q v : ℕ) → Page q → Mem (set m (q * 32 + 12) v) ps L (withState W (put1 (W .state) q v))
-  state-mem q v g = let p = x .reads .words in let a = q * 32 + 12 in record {
+  -- a word of a control page
+  high-mem : (b v : ℕ) {n r l t h : ℕ → ℕ} → 352 ≤ b → Loose b → Words (set m b v) ps n r l t
+      → ((a : ℕ) → 1 ≤ count (a + 1) (queues ps) → getD (set m b v) a 0 ≡ h a) → Mem (set m b v) ps L (withSem (withWords W n r l t) h)
+  high-mem b v u l words sems = record {
     size = simp length-set (x .size);
-    holds = holds-loose m a v s
-        (record {
-          int = λ c1 c2. omega arith;
-          three = λ c1 c2 c3 c4. omega arith;
-          grant = λ c1 c2 c3. omega arith;
-          page = λ c1 c2 c3 c4 c5 c6. omega arith;
-        }) (x .holds);
+    holds = holds-loose m b v s l (x .holds);
     reads = record {
-      words = record {
+      words = words;
+      fixed = fixed-off b v (λ c1 c2 c3. omega arith) (λ c1 c2 c3. omega arith) (λ c1 c2 c3. omega arith) (x .reads .fixed);
+      sems = sems;
+    };
+  }
+
+  -- words 2 and 12
+  pub state-mem : (q v : ℕ) → Page q → Mem (set m (q * 32 + 12) v) ps L (withState W (put1 (W .state) q v))
+  state-mem q v g = let p = x .reads .words in let a = q * 32 + 12 in high-mem a v (omega arith)
+      (loose-word q 12 g (omega arith) (λ c1 c2 c3 c4. omega arith))
+      (record {
         note = λ y h n. other m a v (y * 32 + 1) (omega arith) ∙ p .note y h n;
         reason = col-off m a v 2 (W .reason) (λ y h. omega arith) (p .reason);
         label = col-off m a v 7 (W .label) (λ y h. omega arith) (p .label);
         state = col-on m q v 12 (W .state) (x .size) g (omega arith) (p .state);
-      };
-      fixed = fixed-high a v (omega arith) (x .reads .fixed);
-      sems = sems-off a v (record { line = λ k h. omega arith; page = omega arith; own = λ p h. omega arith });
-    };
-  }
+      }) (sems-off a v (deaf-word q 12 g (omega arith) (omega arith)))
 
   pub reason-mem : (q v : ℕ) → Page q → Mem (set m (q * 32 + 2) v) ps L (withReason W (put1 (W .reason) q v))
-  reason-mem q v g = let p = x .reads .words in let a = q * 32 + 2 in record {
-    size = simp length-set (x .size);
-    holds = holds-loose m a v s
-        (record {
-          int = λ c1 c2. omega arith;
-          three = λ c1 c2 c3 c4. omega arith;
-          grant = λ c1 c2 c3. omega arith;
-          page = λ c1 c2 c3 c4 c5 c6. omega arith;
-        }) (x .holds);
-    reads = record {
-      words = record {
+  reason-mem q v g = let p = x .reads .words in let a = q * 32 + 2 in high-mem a v (omega arith)
+      (loose-word q 2 g (omega arith) (λ c1 c2 c3 c4. omega arith))
+      (record {
         note = λ y h n. other m a v (y * 32 + 1) (omega arith) ∙ p .note y h n;
         reason = col-on m q v 2 (W .reason) (x .size) g (omega arith) (p .reason);
         label = col-off m a v 7 (W .label) (λ y h. omega arith) (p .label);
         state = col-off m a v 12 (W .state) (λ y h. omega arith) (p .state);
-      };
-      fixed = fixed-high a v (omega arith) (x .reads .fixed);
-      sems = sems-off a v (record { line = λ k h. omega arith; page = omega arith; own = λ p h. omega arith });
-    };
-  }
+      }) (sems-off a v (deaf-word q 2 g (omega arith) (omega arith)))
 
   -- a semaphore
   pub sem-mem : (b v : ℕ) → 1 ≤ count (b + 1) (queues ps) → Mem (set m b v) ps L (withSem W (put1 (W .sem) b v))
@@ -154,147 +160,112 @@ module _ {m : List ℕ} {ps : List ℕ} {L : Lists} {W : View} (s : Sep ps L) (x
 
       low : b < 256 → Loose b → ((a : ℕ) → 239 ≤ a → a ≤ 243 → a ≢ b) → ((a : ℕ) → 248 ≤ a → a ≤ 251 → a ≢ b)
           → Mem (set m b v) ps L (withSem W (put1 (W .sem) b v))
-      low u l clk trn = let f = x .reads .fixed in record {
+      low u l clock turn = record {
         size = simp length-set (x .size);
         holds = holds-loose m b v s l (x .holds);
         reads = record {
           words = words-low b v (omega arith) (x .reads .words);
-          fixed = record {
-            clock = λ a h i. other m b v a (clk a h i) ∙ f .clock a h i;
-            turn = λ a h i. other m b v a (trn a h i) ∙ f .turn a h i;
-            code = λ k h. other m b v (256 + 2 * k) (omega arith) ∙ f .code k h;
-            next = other m b v 288 (omega arith) ∙ f .next;
-            entry = λ i h. other m b v (289 + i) (omega arith) ∙ f .entry i h;
-          };
+          fixed = fixed-off b v clock turn (λ c1 c2 c3. omega arith) (x .reads .fixed);
           sems = λ a h. here (omega arith) a h (hit-or a b);
         };
       }
 
       go : Seat ps b → Mem (set m b v) ps L (withSem W (put1 (W .sem) b v))
-      go (line k u e) = low (omega arith) (loose-low b (λ c1 c2. omega arith) (λ c1 c2 c3 c4. omega arith) (omega arith)) (λ c1 c2 c3. omega arith)
+      go (line k u e) = low (omega arith) (loose-low b (omega arith) (λ c1 c2. omega arith) (λ c1 c2 c3 c4. omega arith)) (λ c1 c2 c3. omega arith)
           (λ c1 c2 c3. omega arith)
-      go (page e) = low (omega arith) (loose-low b (λ c1 c2. omega arith) (λ c1 c2 c3 c4. omega arith) (omega arith)) (λ c1 c2 c3. omega arith)
+      go (page e) = low (omega arith) (loose-low b (omega arith) (λ c1 c2. omega arith) (λ c1 c2 c3 c4. omega arith)) (λ c1 c2 c3. omega arith)
           (λ c1 c2 c3. omega arith)
-      go (own q u e) = let g = proc-page s q u in let p = x .reads .words in record {
-        size = simp length-set (x .size);
-        holds = holds-loose m b v s
-            (record {
-              int = λ c1 c2. omega arith;
-              three = λ c1 c2 c3 c4. omega arith;
-              grant = λ c1 c2 c3. omega arith;
-              page = λ c1 c2 c3 c4 c5 c6. omega arith;
-            }) (x .holds);
-        reads = record {
-          words = record {
-            note = λ y h n. other m b v (y * 32 + 1) (omega arith) ∙ p .note y h n;
-            reason = col-off m b v 2 (W .reason) (λ y h. omega arith) (p .reason);
-            label = col-off m b v 7 (W .label) (λ y h. omega arith) (p .label);
-            state = col-off m b v 12 (W .state) (λ y h. omega arith) (p .state);
-          };
-          fixed = fixed-high b v (omega arith) (x .reads .fixed);
-          sems = λ a h. here (omega arith) a h (hit-or a b);
-        };
-      }
+      go (own q u e) = let g = proc-page s q u in
+          high-mem b v (omega arith) (rw e (loose-word q 3 g (omega arith) (λ c1 c2 c3 c4. omega arith)))
+          (words-off b v (λ y h. omega arith) (λ y h. omega arith) (λ y h. omega arith) (λ y h. omega arith) (x .reads .words))
+          (λ a h. here (omega arith) a h (hit-or a b))
 
-  -- a word of page 7 that is no head and no semaphore
-  low-mem : (b v : ℕ) → b < 256 → Loose b → Deaf b → Mem (set m b v) ps L (withLow W (put1 (W .low) b v))
-  low-mem b v u l d = let f = x .reads .fixed in record {
+  -- a counter, a word of who runs, a word of page 8 or 9
+  mid-mem : (b v : ℕ) {l c : ℕ → ℕ} {n : ℕ} {e : ℕ → ℕ} → Mid b → Fixed (set m b v) l c n e → Mem (set m b v) ps L (withRest W (W .sem) l c n e)
+  mid-mem b v i f = record {
     size = simp length-set (x .size);
-    holds = holds-loose m b v s l (x .holds);
-    reads = record {
-      words = words-low b v (omega arith) (x .reads .words);
-      fixed = record {
-        clock = λ a h i. here a (f .clock a h i) (hit-or a b);
-        turn = λ a h i. here a (f .turn a h i) (hit-or a b);
-        code = λ k h. other m b v (256 + 2 * k) (omega arith) ∙ f .code k h;
-        next = other m b v 288 (omega arith) ∙ f .next;
-        entry = λ i h. other m b v (289 + i) (omega arith) ∙ f .entry i h;
-      };
-      sems = sems-off b v d;
-    };
+    holds = holds-loose m b v s (loose-mid b i) (x .holds);
+    reads = record { words = words-low b v (omega arith) (x .reads .words); fixed = f; sems = sems-off b v (deaf-mid b i) };
   }
+
+  low-mem : (b v : ℕ) → b < 256 → Mid b → Mem (set m b v) ps L (withLow W (put1 (W .low) b v))
+  low-mem b v u i = let f = x .reads .fixed in mid-mem b v i (record {
+    clock = λ a h i. here a (f .clock a h i) (hit-or a b);
+    turn = λ a h i. here a (f .turn a h i) (hit-or a b);
+    code = λ k h. other m b v (256 + 2 * k) (omega arith) ∙ f .code k h;
+    next = other m b v 288 (omega arith) ∙ f .next;
+    entry = λ i h. other m b v (289 + i) (omega arith) ∙ f .entry i h;
+  })
     where
       here : (a : ℕ) → getD m a 0 ≡ W .low a → (a ≡ b) ⊎ (a ≢ b) → getD (set m b v) a 0 ≡ put1 (W .low) b v a
       here a h (inl e) = rw (put1-same (W .low) b v a e, e) (getD-set-same m b v 0 (omega (arith, x .size)))
       here a h (inr n) = rw (put1-other (W .low) b v a n) (other m b v a n ∙ h)
 
   pub clock-mem : (b v : ℕ) → 239 ≤ b → b ≤ 243 → Mem (set m b v) ps L (withLow W (put1 (W .low) b v))
-  clock-mem b v l u =
-      low-mem b v (omega arith) (loose-low b (λ c1 c2. omega arith) (λ c1 c2 c3 c4. omega arith) (omega arith))
-      (record { line = λ c1 c2. omega arith; page = omega arith; own = λ c1 c2. omega arith })
+  clock-mem b v l u = low-mem b v (omega arith) (l, omega arith, λ c1 c2 c3. omega arith)
 
   pub turn-mem : (b v : ℕ) → 248 ≤ b → b ≤ 251 → Mem (set m b v) ps L (withLow W (put1 (W .low) b v))
-  turn-mem b v l u =
-      low-mem b v (omega arith) (loose-low b (λ c1 c2. omega arith) (λ c1 c2 c3 c4. omega arith) (omega arith))
-      (record { line = λ c1 c2. omega arith; page = omega arith; own = λ c1 c2. omega arith })
+  turn-mem b v l u = low-mem b v (omega arith) (omega arith, omega arith, λ c1 c2 c3. omega arith)
 
-  -- both words of code c
-  pub code-mem : (c v w : ℕ) → c < 16 → Mem (set (set m (256 + 2 * c) v) (257 + 2 * c) w) ps L (withCode W (put1 (W .code) c v))
-  code-mem c v w l = let f = x .reads .fixed in let m1 = set m (256 + 2 * c) v in let b = 257 + 2 * c in let d = 256 + 2 * c in record {
-    size = simp length-set (x .size);
-    holds = holds-loose m1 b w s
-        (record { int = λ c1 c2. omega arith; three = λ c1 c2 c3 c4. omega arith; grant = λ c1 c2 c3. omega arith; page = λ c1 c2 c3 c4 c5 c6. omega arith })
-        (holds-loose m d v s
-        (record {
-          int = λ c1 c2. omega arith;
-          three = λ c1 c2 c3 c4. omega arith;
-          grant = λ c1 c2 c3. omega arith;
-          page = λ c1 c2 c3 c4 c5 c6. omega arith;
-        }) (x .holds));
-    reads = record {
-      words = words-low b w (omega arith) (words-low d v (omega arith) (x .reads .words));
-      fixed = record {
-        clock = λ a h i. other m1 b w a (omega arith) ∙ other m d v a (omega arith) ∙ f .clock a h i;
-        turn = λ a h i. other m1 b w a (omega arith) ∙ other m d v a (omega arith) ∙ f .turn a h i;
-        code = λ k h. other m1 b w (256 + 2 * k) (omega arith) ∙ here k h (hit-or k c);
-        next = other m1 b w 288 (omega arith) ∙ other m d v 288 (omega arith) ∙ f .next;
-        entry = λ i h. other m1 b w (289 + i) (omega arith) ∙ other m d v (289 + i) (omega arith) ∙ f .entry i h;
-      };
-      sems = λ a h.
-          other m1 b w a (deaf-seat s b (record { line = λ k h. omega arith; page = omega arith; own = λ p h. omega arith }) a h)
-          ∙ sems-off d v (record { line = λ k h. omega arith; page = omega arith; own = λ p h. omega arith }) a h;
-    };
-  }
+  first-code : (c v : ℕ) → c < 16 → Mem (set m (256 + 2 * c) v) ps L (withCode W (put1 (W .code) c v))
+  first-code c v l = let f = x .reads .fixed in let b = 256 + 2 * c in mid-mem b v (omega arith, omega arith, λ c1 c2 c3. omega arith) (record {
+    clock = λ a h i. other m b v a (omega arith) ∙ f .clock a h i;
+    turn = λ a h i. other m b v a (omega arith) ∙ f .turn a h i;
+    code = λ k h. here k h (hit-or k c);
+    next = other m b v 288 (omega arith) ∙ f .next;
+    entry = λ i h. other m b v (289 + i) (omega arith) ∙ f .entry i h;
+  })
     where
       here : (k : ℕ) → k < 16 → (k ≡ c) ⊎ (k ≢ c) → getD (set m (256 + 2 * c) v) (256 + 2 * k) 0 ≡ put1 (W .code) c v k
       here k h (inl e) = rw (put1-same (W .code) c v k e, e) (getD-set-same m (256 + 2 * c) v 0 (omega (arith, x .size)))
       here k h (inr n) = rw (put1-other (W .code) c v k n) (other m (256 + 2 * c) v (256 + 2 * k) (omega arith) ∙ x .reads .fixed .code k h)
 
+  first-entry : (n e : ℕ) → 1 ≤ n → n < 32 → Mem (set m (288 + n) e) ps L (withEntry W (W .next) (put1 (W .entry) (n - 1) e))
+  first-entry n e l u = let f = x .reads .fixed in let b = 288 + n in mid-mem b e (omega arith, omega arith, λ c1 c2 c3. omega arith) (record {
+    clock = λ a h i. other m b e a (omega arith) ∙ f .clock a h i;
+    turn = λ a h i. other m b e a (omega arith) ∙ f .turn a h i;
+    code = λ k h. other m b e (256 + 2 * k) (omega arith) ∙ f .code k h;
+    next = other m b e 288 (omega arith) ∙ f .next;
+    entry = λ i h. here i h (hit-or i (n - 1));
+  })
+    where
+      here : (i : ℕ) → i < 31 → (i ≡ n - 1) ⊎ (i ≢ n - 1) → getD (set m (288 + n) e) (289 + i) 0 ≡ put1 (W .entry) (n - 1) e i
+      here i h (inl q) =
+          let a : 289 + i ≡ 288 + n = omega arith in
+          rw (put1-same (W .entry) (n - 1) e i q, a) (getD-set-same m (288 + n) e 0 (omega (arith, x .size)))
+      here i h (inr q) = rw (put1-other (W .entry) (n - 1) e i q) (other m (288 + n) e (289 + i) (omega arith) ∙ x .reads .fixed .entry i h)
+
+module _ {m : List ℕ} {ps : List ℕ} {L : Lists} {W : View} (s : Sep ps L) (x : Mem m ps L W) where
+  -- both words of code c
+  pub code-mem : (c v w : ℕ) → c < 16 → Mem (set (set m (256 + 2 * c) v) (257 + 2 * c) w) ps L (withCode W (put1 (W .code) c v))
+  code-mem c v w l =
+      let x1 = first-code s x c v l in
+      let m1 = set m (256 + 2 * c) v in
+      let b = 257 + 2 * c in
+      let f = x1 .reads .fixed in
+      mid-mem s x1 b w (omega arith, omega arith, λ c1 c2 c3. omega arith) (record {
+        clock = λ a h i. other m1 b w a (omega arith) ∙ f .clock a h i;
+        turn = λ a h i. other m1 b w a (omega arith) ∙ f .turn a h i;
+        code = λ k h. other m1 b w (256 + 2 * k) (omega arith) ∙ f .code k h;
+        next = other m1 b w 288 (omega arith) ∙ f .next;
+        entry = λ i h. other m1 b w (289 + i) (omega arith) ∙ f .entry i h;
+      })
+
   -- both words of page 9
   pub entry-mem : (e : ℕ) → 1 ≤ W .next → W .next < 32
       → Mem (set (set m (288 + W .next) e) 288 (W .next + 1)) ps L (withEntry W (W .next + 1) (put1 (W .entry) (W .next - 1) e))
-  entry-mem e l u = let f = x .reads .fixed in let n = W .next in let b = 288 + W .next in let m1 = set m (288 + W .next) e in record {
-    size = simp length-set (x .size);
-    holds = holds-loose m1 288 (n + 1) s
-        (record { int = λ c1 c2. omega arith; three = λ c1 c2 c3 c4. omega arith; grant = λ c1 c2 c3. omega arith; page = λ c1 c2 c3 c4 c5 c6. omega arith })
-        (holds-loose m b e s
-        (record {
-          int = λ c1 c2. omega arith;
-          three = λ c1 c2 c3 c4. omega arith;
-          grant = λ c1 c2 c3. omega arith;
-          page = λ c1 c2 c3 c4 c5 c6. omega arith;
-        }) (x .holds));
-    reads = record {
-      words = words-low 288 (n + 1) (omega arith) (words-low b e (omega arith) (x .reads .words));
-      fixed = record {
-        clock = λ a h i. other m1 288 (n + 1) a (omega arith) ∙ other m b e a (omega arith) ∙ f .clock a h i;
-        turn = λ a h i. other m1 288 (n + 1) a (omega arith) ∙ other m b e a (omega arith) ∙ f .turn a h i;
-        code = λ k h. other m1 288 (n + 1) (256 + 2 * k) (omega arith) ∙ other m b e (256 + 2 * k) (omega arith) ∙ f .code k h;
-        next = getD-set-same m1 288 (n + 1) 0 (simp length-set (omega (arith, x .size)));
-        entry = λ i h. other m1 288 (n + 1) (289 + i) (omega arith) ∙ here i h (hit-or i (n - 1));
-      };
-      sems = λ a h.
-          other m1 288 (n + 1) a (deaf-seat s 288 (record { line = λ k h. omega arith; page = omega arith; own = λ p h. omega arith }) a h)
-          ∙ sems-off b e (record { line = λ k h. omega arith; page = omega arith; own = λ p h. omega arith }) a h;
-    };
-  }
-    where
-      here : (i : ℕ) → i < 31 → (i ≡ W .next - 1) ⊎ (i ≢ W .next - 1) → getD (set m (288 + W .next) e) (289 + i) 0 ≡ put1 (W .entry) (W .next - 1) e i
-      here i h (inl q) =
-          let a : 289 + i ≡ 288 + W .next = omega arith in
-          rw (put1-same (W .entry) (W .next - 1) e i q, a) (getD-set-same m (288 + W .next) e 0 (omega (arith, x .size)))
-      here i h (inr q) =
-          rw (put1-other (W .entry) (W .next - 1) e i q) (other m (288 + W .next) e (289 + i) (omega arith) ∙ x .reads .fixed .entry i h)
+  entry-mem e l u =
+      let n = W .next in
+      let x1 = first-entry s x n e l u in
+      let m1 = set m (288 + n) e in
+      let f = x1 .reads .fixed in
+      mid-mem s x1 288 (n + 1) (omega arith, omega arith, λ c1 c2 c3. omega arith) (record {
+        clock = λ a h i. other m1 288 (n + 1) a (omega arith) ∙ f .clock a h i;
+        turn = λ a h i. other m1 288 (n + 1) a (omega arith) ∙ f .turn a h i;
+        code = λ k h. other m1 288 (n + 1) (256 + 2 * k) (omega arith) ∙ f .code k h;
+        next = getD-set-same m1 288 (n + 1) 0 (omega (arith, x1 .size));
+        entry = λ i h. other m1 288 (n + 1) (289 + i) (omega arith) ∙ f .entry i h;
+      })
 
 -- ---- page q, which is in no list
 pub only-word : {q : ℕ} {m m′ : List ℕ} → Only q m m′ → (p j : ℕ) → p ≢ q → j < 32 → getD m′ (p * 32 + j) 0 ≡ getD m (p * 32 + j) 0
@@ -319,7 +290,6 @@ module _ {m m′ : List ℕ} {q : ℕ} (o : Only q m m′) (g : Page q) {ps : Li
   pub hand-mem : Mem m′ ps L (retold m′ W q)
   hand-mem =
       let p = x .reads .words in
-      let f = x .reads .fixed in
       record {
         size = o .size ∙ x .size;
         holds = holds-kept m m′ ps L s (λ a h. head a (head-place ps a h)) (λ a y h n c. only-word o y 0 (λ e. link a y h c e) (omega arith))
@@ -331,14 +301,9 @@ module _ {m m′ : List ℕ} {q : ℕ} (o : Only q m m′) (g : Page q) {ps : Li
             label = col-retold 7 (W .label) (omega arith) (p .label);
             state = col-retold 12 (W .state) (omega arith) (p .state);
           };
-          fixed = record {
-            clock = λ a h i. o .below a (omega arith) ∙ f .clock a h i;
-            turn = λ a h i. o .below a (omega arith) ∙ f .turn a h i;
-            code = λ k h. o .below (256 + 2 * k) (omega arith) ∙ f .code k h;
-            next = o .below 288 (omega arith) ∙ f .next;
-            entry = λ i h. o .below (289 + i) (omega arith) ∙ f .entry i h;
-          };
-          sems = λ a h. sem a (seat-of ps a h) ∙ x .reads .sems a h;
+          fixed = fixed-same (λ a h i. o .below a (omega arith)) (λ a h i. o .below a (omega arith)) (λ a h i. o .below a (omega arith)) (x .reads .fixed);
+          sems = λ a h.
+              seat-same m m′ (λ a i j. o .below a (omega arith)) (λ p u. only-word o p 3 (not-q p u) (omega arith)) a (seat-of ps a h) ∙ x .reads .sems a h;
         };
       }
     where
@@ -354,8 +319,3 @@ module _ {m m′ : List ℕ} {q : ℕ} (o : Only q m m′) (g : Page q) {ps : Li
       note : (y : ℕ) → Page y → count y ps ≡ 0 → (y ≡ q) ⊎ (y ≢ q) → getD m′ (y * 32 + 1) 0 ≡ put1 (W .note) q (getD m′ (q * 32 + 1) 0) y
       note y h n (inl e) = rw (put1-same (W .note) q (getD m′ (q * 32 + 1) 0) y e, e)
       note y h n (inr d) = rw (put1-other (W .note) q (getD m′ (q * 32 + 1) 0) y d) (only-word o y 1 d (omega arith) ∙ x .reads .words .note y h n)
-
-      sem : (a : ℕ) → Seat ps a → getD m′ a 0 ≡ getD m a 0
-      sem a (line k u e) = o .below a (omega arith)
-      sem a (page e) = o .below a (omega arith)
-      sem a (own p u e) = rw e (only-word o p 3 (not-q p u) (omega arith))

@@ -25,12 +25,6 @@ Among ps a = 1 ≤ count a (uses ps ++ queues ps)
 abbrev pub Head : List ℕ → ℕ → Type 0
 Head ps a = Among ps a × (isGrant a ≡ false)
 
-pub use-head : (ps : List ℕ) (a : ℕ) → isGrant a ≡ false → 1 ≤ count a (uses ps) → Head ps a
-use-head ps a g h = (omega (arith, count-append a (uses ps) (queues ps)), g)
-
-pub queue-head : (ps : List ℕ) (a : ℕ) → isGrant a ≡ false → 1 ≤ count a (queues ps) → Head ps a
-queue-head ps a g h = (omega (arith, count-append a (uses ps) (queues ps)), g)
-
 pub head-place : (ps : List ℕ) (a : ℕ) → Among ps a → Place ps a
 head-place ps a h = go (zero-or (count a (uses ps)))
   where

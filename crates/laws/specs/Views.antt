@@ -41,57 +41,30 @@ withState W t = withWords W (W .note) (W .reason) (W .label) t
 abbrev pub withReason : View → (ℕ → ℕ) → View
 withReason W r = withWords W (W .note) r (W .label) (W .state)
 
-abbrev pub withSem : View → (ℕ → ℕ) → View
-withSem W g = record {
+abbrev pub withRest : View → (ℕ → ℕ) → (ℕ → ℕ) → (ℕ → ℕ) → ℕ → (ℕ → ℕ) → View
+withRest W s l c n e = record {
   note = W .note;
   reason = W .reason;
   label = W .label;
   state = W .state;
-  sem = g;
-  low = W .low;
-  code = W .code;
-  next = W .next;
-  entry = W .entry;
+  sem = s;
+  low = l;
+  code = c;
+  next = n;
+  entry = e;
 }
+
+abbrev pub withSem : View → (ℕ → ℕ) → View
+withSem W s = withRest W s (W .low) (W .code) (W .next) (W .entry)
 
 abbrev pub withLow : View → (ℕ → ℕ) → View
-withLow W g = record {
-  note = W .note;
-  reason = W .reason;
-  label = W .label;
-  state = W .state;
-  sem = W .sem;
-  low = g;
-  code = W .code;
-  next = W .next;
-  entry = W .entry;
-}
+withLow W l = withRest W (W .sem) l (W .code) (W .next) (W .entry)
 
 abbrev pub withCode : View → (ℕ → ℕ) → View
-withCode W g = record {
-  note = W .note;
-  reason = W .reason;
-  label = W .label;
-  state = W .state;
-  sem = W .sem;
-  low = W .low;
-  code = g;
-  next = W .next;
-  entry = W .entry;
-}
+withCode W c = withRest W (W .sem) (W .low) c (W .next) (W .entry)
 
 abbrev pub withEntry : View → ℕ → (ℕ → ℕ) → View
-withEntry W n g = record {
-  note = W .note;
-  reason = W .reason;
-  label = W .label;
-  state = W .state;
-  sem = W .sem;
-  low = W .low;
-  code = W .code;
-  next = n;
-  entry = g;
-}
+withEntry W n e = withRest W (W .sem) (W .low) (W .code) n e
 
 -- page q as the memory m has it
 abbrev pub retold : List ℕ → View → ℕ → View

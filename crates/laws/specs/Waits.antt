@@ -1,6 +1,6 @@
 -- Pages, Instructions: "wait in IK's queue", "wait in the page queue", "else wait". A processor that is put to wait, in any of the wait queues, keeps the
 -- invariant if its reason fits the queue. Assumes nothing.
-use mathlib.Core.Path.{_≡_, sym, ap, _∙_}
+use mathlib.Core.Path.{_≡_, refl, sym, ap, _∙_}
 use mathlib.Core.Logic.{_≢_, _⊎_, inl, inr}
 use mathlib.Core.List.{List, [], _∷_, _++_}
 use Prim.Native.Nat.{ℕ, _+_, _-_, _*_, _/_, _%_, _≤_, _<_}
@@ -40,6 +40,21 @@ pub record Fit (ps : List ℕ) (L : Lists) (W : View) (a p w : ℕ) : Type 0 whe
   pub line : (k : ℕ) → k < 54 → a ≡ 131 + 2 * k → (1 ≤ w) × (w ≤ 255)
   pub page : a ≡ 245 → (w ≡ 0) × (length (L 244) ≡ 0) × (length (L (320 + W .label p % 16)) ≡ 0)
   pub own : (y : ℕ) → 1 ≤ count y ps → a ≡ y * 32 + 3 → Waits w (W .note) (L (y * 32 + 5)) y p
+
+-- an interrupt's queue with a count, the page queue where no page is free or granted
+pub line-fit : {ps : List ℕ} {L : Lists} {W : View} {p : ℕ} → Sep ps L → (k c : ℕ) → 1 ≤ k → k ≤ 54 → 1 ≤ c → c ≤ 255 → Fit ps L W (129 + 2 * k) p c
+line-fit s k c k1 k2 l u = record {
+  line = λ j h e. (l, u);
+  page = λ e. absurd (omega arith);
+  own = λ y h e. let t = proc-page s y h in absurd (omega arith);
+}
+
+pub page-fit : {ps : List ℕ} {L : Lists} {W : View} {p : ℕ} → Sep ps L → L 244 ≡ [] → length (L (320 + W .label p % 16)) ≡ 0 → Fit ps L W 245 p 0
+page-fit s f g = record {
+  line = λ k h e. absurd (omega arith);
+  page = λ e. (refl, ap length f, g);
+  own = λ y h e. let t = proc-page s y h in absurd (omega arith);
+}
 
 -- a processor that does not wait is in no list with links in word 0
 pub waits-not : {ps : List ℕ} {L : Lists} → Sep ps L → (p : ℕ) → 1 ≤ count p ps → sum p L (queues ps) ≡ 0 → (c : ℕ) → Head ps c → c ≢ 247

@@ -1,16 +1,16 @@
 -- Sending: "Waking leaves the queue and clears the waiting bit and reason." A processor that wakes, from any of the wait queues, keeps the invariant; so
--- does one whose reason falls by one. Assumes nothing.
+-- does one whose reason falls by one; and which words waking leaves. Assumes nothing.
 use mathlib.Core.Path.{_≡_, sym, ap, _∙_}
 use mathlib.Core.Logic.{_≢_, _⊎_, inl, inr}
 use mathlib.Core.Bool.{false}
 use mathlib.Core.List.{List, _∷_, _++_}
 use Prim.Native.Nat.{ℕ, _+_, _-_, _*_, _/_, _%_, _≤_, _<_}
 use native.Mathlib.Omega.{arith}
-use lib.ListN.{length, length-append}
+use lib.ListN.{length, getD, set, length-append}
 use lib.Dec.{eqb}
 use Rattle.model.specs.Map.{less}
 use Rattle.model.specs.Wait as Wait
-use Rattle.model.specs.Bytes.{wake}
+use Rattle.model.specs.Bytes.{unqueue, wake}
 use Rattle.model.specs.Lists.{hit, count, Lists, sum, uses, queues, isGrant}
 use Rattle.laws.specs.Count.{hit-self, hit-other, hit-or, count-append}
 use Rattle.laws.specs.Chain.{Page}
@@ -18,12 +18,12 @@ use Rattle.laws.specs.Queues.{upd, upd-same, upd-other}
 use Rattle.laws.specs.Heads.{sum-one, sum-skip, sum-upd, Seat, seat-of}
 use Rattle.laws.specs.Heads.Seat.{line, page, own}
 use Rattle.laws.specs.Uses.{Head, Sep, proc-page, proc-once, list-short}
-use Rattle.laws.specs.Places.{in-queues, in-free, int-queue, own-once, q-once, free-once, grant-once, grant-low, grant-high}
-use Rattle.laws.specs.Places.{q-free, wait-page}
+use Rattle.laws.specs.Places.{in-queues, in-free, int-queue, own-once, q-once, free-once, grant-once, grant-low, grant-high, q-free, wait-page}
 use Rattle.laws.specs.Inv.{View, stock, stock-page, stock-else, Facts, Mem, Base}
+use Rattle.laws.specs.Frames.{other}
 use Rattle.laws.specs.Views.{put1, put1-same, put1-other, withWords, withSem}
 use Rattle.laws.specs.Stores.{sem-mem, state-mem, reason-mem}
-use Rattle.laws.specs.Cells.{leave-mem}
+use Rattle.laws.specs.Cells.{leave-mem, leave-frame}
 use Rattle.laws.specs.Changes.{queue-once, stock-same}
 
 pub wake-bits : (w : ℕ) → ((w / 128 * 128 + w % 64) % 128 / 64 ≡ 0) × ((w / 128 * 128 + w % 64) % 64 / 16 ≡ w % 64 / 16)
@@ -211,3 +211,19 @@ wake-base {m} {ps} {L} {W} a p xs ys b h e =
       facts = facts-wake a p xs ys (b .facts) h e;
       all = λ z. omega (arith, sum-skip z L (a + 1) (xs ++ ys) (uses ps) (queue-once s a h .away), b .all z);
     }
+
+-- which words stay: all but the semaphore and the header, the links of the queue, and of the one that wakes words 2 and 12
+module _ {m : List ℕ} {ps : List ℕ} {L : Lists} {W : View} (s : Sep ps L) (x : Mem m ps L W) (a p : ℕ) (xs ys : List ℕ) (h : 1 ≤ count (a + 1) (queues ps))
+    (e : L (a + 1) ≡ xs ++ p ∷ ys) (c : ℕ) (na : c ≢ a) (nh : c ≢ a + 1) (nl : (z : ℕ) → 1 ≤ count z (L (a + 1)) → c ≢ z * 32 + 0) where
+  pub unqueue-frame : getD (unqueue m a p) c 0 ≡ getD m c 0
+  unfolding Wait.unqueue
+  unqueue-frame =
+      let v = (getD m a 0 + 1) % 256 in
+      leave-frame s (sem-mem s x a v h) (a + 1) (seat-head s a h) (λ d. not-procs s a h (sym d)) p xs ys e c nh nl ∙ other m a v c na
+
+  pub wake-frame : c ≢ p * 32 + 2 → c ≢ p * 32 + 12 → getD (wake m a p) c 0 ≡ getD m c 0
+  unfolding Wait.wake
+  wake-frame n2 n12 =
+      let m2 = unqueue m a p in
+      let t = getD m2 (p * 32 + 12) 0 / 128 * 128 + getD m2 (p * 32 + 12) 0 % 64 in
+      other (set m2 (p * 32 + 12) t) (p * 32 + 2) 0 c n2 ∙ other m2 (p * 32 + 12) t c n12 ∙ unqueue-frame

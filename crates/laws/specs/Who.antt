@@ -1,17 +1,19 @@
 -- Who runs: "the running one stays if ready (neither bit set) and no ready one has higher priority; else the first on the processor list of the highest
--- ready priority; else nobody". After it the right one runs, whoever ran before. Assumes nothing.
+-- ready priority; else nobody". After it the right one runs, whoever ran before. What a well-formed memory gives where someone runs.
+-- Assumes nothing.
 use mathlib.Core.Path.{_≡_, refl, sym, ap, _∙_}
 use mathlib.Core.Logic.{_≢_, _⊎_, inl, inr}
 use mathlib.Core.Bool.{Bool, true, false, cond}
 use mathlib.Core.List.{List, [], _∷_}
 use Prim.Native.Nat.{ℕ, zero, suc, _+_, _-_, _*_, _/_, _≤_, _<_}
 use native.Mathlib.Omega.{arith}
-use lib.ListN.{length, getD, set}
+use lib.ListN.{length, getD, set, length-set}
 use lib.Dec.{eqb, ltb}
 use borrow.Author.Tests.{eqb-true, eqb-false, eq-eqb, ne-eqb, ltb-true, ltb-false}
 use Rattle.model.specs.Turn as Turn
+use Rattle.model.specs.Map.{zeroPlace}
 use Rattle.model.specs.Turn.{fold}
-use Rattle.model.specs.Bytes.{better, stays, processors, save, load, switch, whoRuns}
+use Rattle.model.specs.Bytes.{lists, better, stays, processors, save, load, switch, whoRuns}
 use Rattle.model.specs.Bytes as Model
 use Rattle.model.specs.Lists.{count, Lists}
 use Rattle.laws.specs.Count.{hit-self, hit-other, hit-or}
@@ -19,49 +21,69 @@ use Rattle.laws.specs.Chain.{Page, walk-chain}
 use Rattle.laws.specs.Queues.{link-procs}
 use Rattle.laws.specs.Uses.{Sep, proc-page, proc-once, list-short}
 use Rattle.laws.specs.Places.{in-procs, grant-low}
-use Rattle.laws.specs.Inv.{View, Runs, Clock, Best, Base, Inv}
-use Rattle.laws.specs.Frames.{Kept, kept-refl, kept-set, quiet-low, quiet-word, base-kept}
+use Rattle.laws.specs.Inv.{View, view, Label, Runs, Clock, Best, Base, Inv}
+use Rattle.laws.specs.Judged.{WellFormed, invariant}
+use Rattle.laws.specs.Frames.{Kept, kept-refl, base-kept, kept-on, other}
 use Rattle.laws.specs.Views.{put1, withLow}
+use Rattle.laws.specs.Words.{either}
 use Rattle.laws.specs.Stores.{turn-mem}
 use Rattle.laws.specs.Changes.{facts-low}
+use Rattle.laws.specs.Grants.{Gave}
 
 -- ---- page 0's words, saved and loaded
-kept-kept : {m : List ℕ} (n : ℕ) (m′ : List ℕ) (p : ℕ) (w : List ℕ) → Page p → n ≤ 19 → Kept m m′ → Kept m (Model.kept n m′ p w)
-unfolding Turn.kept
-kept-kept zero m′ p w g l k = k
-kept-kept (suc n) m′ p w g l k =
-    kept-kept n (set m′ (p * 32 + (13 + n)) (getD w n 0)) p w g (omega arith)
-    (kept-set (p * 32 + (13 + n)) (getD w n 0) (quiet-word p (13 + n) (p * 32 + (13 + n)) g (omega arith) (omega arith) (omega arith) refl) k)
-
-pub zero-low : (n : ℕ) → n < 19 → cond (ltb n 3) (4 + n) (13 + n) < 32
+pub zero-low : (n : ℕ) → n < 19 → zeroPlace n < 32
 zero-low n h = go (ltb n 3) refl
   where
     go : (b : Bool) → ltb n 3 ≡ b → cond (ltb n 3) (4 + n) (13 + n) < 32
     go true e = rw e (let l = ltb-true n 3 e in omega arith)
     go false e = rw e (omega arith)
 
-kept-restored : {m : List ℕ} (n : ℕ) (m′ : List ℕ) (w : List ℕ) → n ≤ 19 → Kept m m′ → Kept m (Model.restored n m′ w)
+pub kept-size : (n : ℕ) (m : List ℕ) (p : ℕ) (w : List ℕ) → length (Model.kept n m p w) ≡ length m
+unfolding Turn.kept
+kept-size zero m p w = refl
+kept-size (suc n) m p w = kept-size n (set m (p * 32 + (13 + n)) (getD w n 0)) p w ∙ simp length-set
+
+pub restored-size : (n : ℕ) (m : List ℕ) (w : List ℕ) → length (Model.restored n m w) ≡ length m
 unfolding Turn.restored
-kept-restored zero m′ w l k = k
-kept-restored (suc n) m′ w l k =
-    let a : ℕ = cond (ltb n 3) (4 + n) (13 + n) in
-    kept-restored n (set m′ a (getD w n 0)) w (omega arith) (kept-set a (getD w n 0) (quiet-low a (omega (arith, zero-low n (omega arith)))) k)
+restored-size zero m w = refl
+restored-size (suc n) m w = restored-size n (set m (zeroPlace n) (getD w n 0)) w ∙ simp length-set
 
-pub save-kept : {m : List ℕ} (m′ : List ℕ) (p : ℕ) → (p ≢ 0 → Page p) → Kept m m′ → Kept m (save m′ p)
+-- every other word stays
+pub kept-frame : (n : ℕ) (m : List ℕ) (p : ℕ) (w : List ℕ) (a : ℕ) → ((i : ℕ) → i < n → a ≢ p * 32 + (13 + i)) → getD (Model.kept n m p w) a 0 ≡ getD m a 0
+unfolding Turn.kept
+kept-frame zero m p w a f = refl
+kept-frame (suc n) m p w a f =
+    kept-frame n (set m (p * 32 + (13 + n)) (getD w n 0)) p w a (λ i h. f i (omega arith)) ∙ other m (p * 32 + (13 + n)) (getD w n 0) a (f n (omega arith))
+
+pub restored-frame : (n : ℕ) (m : List ℕ) (w : List ℕ) (a : ℕ) → ((i : ℕ) → i < n → a ≢ zeroPlace i) → getD (Model.restored n m w) a 0 ≡ getD m a 0
+unfolding Turn.restored
+restored-frame zero m w a f = refl
+restored-frame (suc n) m w a f =
+    restored-frame n (set m (zeroPlace n) (getD w n 0)) w a (λ i h. f i (omega arith)) ∙ other m (zeroPlace n) (getD w n 0) a (f n (omega arith))
+
+-- none of them is judged
+save-kept : (m : List ℕ) (p : ℕ) → (p ≢ 0 → Page p) → Kept m (save m p)
 unfolding Turn.save
-save-kept {m} m′ p g k = go (eqb p 0) refl
+save-kept m p g = go (eqb p 0) refl
   where
-    go : (b : Bool) → eqb p 0 ≡ b → Kept m (save m′ p)
-    go true e = rw e k
-    go false e = rw e (kept-kept 19 m′ p (Model.onPage0 m′) (g (eqb-false p 0 e)) (omega arith) k)
+    go : (b : Bool) → eqb p 0 ≡ b → Kept m (save m p)
+    go true e = rw e (kept-refl m)
+    go false e = let pg = g (eqb-false p 0 e) in rw e (record {
+      size = kept-size 19 m p (Model.onPage0 m);
+      fixed = λ a i j. kept-frame 19 m p (Model.onPage0 m) a (λ k l. omega (arith, pg));
+      words = λ q j h i. kept-frame 19 m p (Model.onPage0 m) (q * 32 + j) (λ k l. omega arith);
+      state = λ q h. kept-frame 19 m p (Model.onPage0 m) (q * 32 + 12) (λ k l. omega arith);
+    })
 
-pub load-kept : {m : List ℕ} (m′ : List ℕ) (p : ℕ) → Kept m m′ → Kept m (load m′ p)
+load-kept : (m : List ℕ) (p : ℕ) → Kept m (load m p)
 unfolding Turn.load
-load-kept {m} m′ p k = go (eqb p 0) refl
-  where
-    go : (b : Bool) → eqb p 0 ≡ b → Kept m (load m′ p)
-    go true e = rw e k
-    go false e = rw e (kept-restored 19 m′ (Model.keptOn m′ p) (omega arith) k)
+load-kept m p =
+    either (Kept m) (eqb p 0) (kept-refl m) (record {
+      size = restored-size 19 m (Model.keptOn m p);
+      fixed = λ a i j. restored-frame 19 m (Model.keptOn m p) a (λ k l. omega (arith, zero-low k l));
+      words = λ q j h i. restored-frame 19 m (Model.keptOn m p) (q * 32 + j) (λ k l. omega (arith, h, zero-low k l));
+      state = λ q h. restored-frame 19 m (Model.keptOn m p) (q * 32 + 12) (λ k l. omega (arith, h, zero-low k l));
+    })
 
 -- ---- the choice
 module _ (m : List ℕ) where
@@ -291,25 +313,11 @@ module _ {m : List ℕ} {ps : List ℕ} {L : Lists} {W : View} {hs : List ℕ} {
   unfolding Turn.switch Turn.runs
   switched t f = go (eqb r t) refl
     where
-      same : Best ps W → Best ps (withLow W (W .low))
-      same h = record { ready = h .ready; top = h .top }
-
-      alike : Base m ps L W hs g → Base m ps L (withLow W (W .low)) hs g
-      alike x =
-          let y = x .mem in
-          let rd = y .reads in
-          let fc = x .facts in
-          record {
-            mem = record { size = y .size; holds = y .holds; reads = record { words = rd .words; fixed = rd .fixed; sems = rd .sems } };
-            facts = facts-low (W .low) (fc .runs) (fc .clock) fc;
-            all = x .all;
-          }
-
       go : (x : Bool) → eqb r t ≡ x → Turned (switch m r t)
-      go true e = rw e (record { low = W .low; base = alike b; best = same (best-stays t (sym (eqb-true r t e)) f) })
+      go true e = rw e (record { low = W .low; base = b; best = best-stays t (sym (eqb-true r t e)) f })
       go false e =
           let m2 = load (save m r) t in
-          let k : Kept m m2 = load-kept (save m r) t (save-kept m r (λ n. proc-page s r (running-in n)) (kept-refl m)) in
+          let k : Kept m m2 = kept-on (save-kept m r (λ n. proc-page s r (running-in n))) (load-kept (save m r) t) in
           let b2 : Base m2 ps L W hs g = base-kept k b in
           let w : cond (eqb t 0) 0 (getD m2 (t * 32 + 7) 0) ≡ tag t = tag-is m2 t b2 f in
           rw (e, w) (record {
@@ -325,3 +333,21 @@ module _ {m : List ℕ} {ps : List ℕ} {L : Lists} {W : View} {hs : List ℕ} {
 -- "Who runs, after each call": the invariant then holds whole
 pub who-inv : {m : List ℕ} {ps : List ℕ} {L : Lists} {W : View} (b : Base m ps L W [] 32) → (X : View) × Inv (whoRuns m) ps L X
 who-inv {W = W} b = let t = who-runs b in (withLow W (t .low), record { base = t .base; best = t .best })
+
+-- a step that leaves words 24 and 25 of page 7 leaves who runs
+pub running-same : {m m1 : List ℕ} {ps : List ℕ} {L : Lists} {W : View} {hs hs1 : List ℕ} {g g1 : ℕ} → Base m ps L W hs g → Gave m1 ps hs1 g1 W
+    → getD m1 248 0 ≡ getD m 248 0
+running-same b t = running-at (t .base) ∙ ap (λ (z : ℕ → ℕ). z 248) (t .low) ∙ sym (running-at b)
+
+pub label-in : {m : List ℕ} {ps : List ℕ} {L : Lists} {W : View} {hs : List ℕ} {g : ℕ} → Base m ps L W hs g → (p : ℕ) → 1 ≤ count p ps
+    → Label (getD m (p * 32 + 7) 0)
+label-in b p h = rw (label-at b p h) (b .facts .names .range p h)
+
+-- ---- a well-formed memory where someone runs, who is ready
+pub record Busy (m : List ℕ) : Type 0 where
+  pub base : Base m (lists m 247) (lists m) (view m) [] 32
+  pub runs : 1 ≤ count (getD m 248 0) (lists m 247)
+  pub ready : getD m (getD m 248 0 * 32 + 12) 0 < 64
+
+pub busy : {m : List ℕ} → WellFormed m → getD m 248 0 ≢ 0 → Busy m
+busy w d = let i = invariant w in record { base = i .base; runs = running-in (i .base) d; ready = omega (arith, i .best .ready d) }

@@ -5,7 +5,7 @@ use mathlib.Core.Bool.{Bool, true, false}
 use mathlib.Core.List.{List, [], _∷_, _++_}
 use Prim.Native.Nat.{ℕ, _+_, _*_, _/_, _%_, _≤_, _<_}
 use native.Mathlib.Omega.{arith}
-use lib.ListN.{length, getD, set, getD-replicate, List·getD-eq-default}
+use lib.ListN.{length, getD, getD-replicate, List·getD-eq-default}
 use lib.Dec.{ltb}
 use borrow.Author.Tests.{eq-eqb, ltb-true, ltb-false}
 use Rattle.model.specs.Store.{bytes}
@@ -15,7 +15,7 @@ use Rattle.model.specs.Call as Call
 use Rattle.model.specs.Answer as Answer
 use Rattle.model.specs.Answer.{memoryOf}
 use Rattle.model.specs.Lists.{count, Lists, some}
-use Rattle.model.specs.Bytes.{fresh, started, lists, putToWait}
+use Rattle.model.specs.Bytes.{fresh, started, lists, putToWait, makeNotice}
 use Rattle.laws.specs.Chain.{Chain}
 use Rattle.laws.specs.Queues.{upd, upd-same, upd-other}
 use Rattle.laws.specs.Uses.{proc-page}
@@ -27,8 +27,7 @@ use Rattle.laws.specs.Cells.{chain0}
 use Rattle.laws.specs.Changes.{page-sem}
 use Rattle.laws.specs.Waits.{waiting, wait-base}
 use Rattle.laws.specs.Hands.{in-hand, hand-base, take-free}
-use Rattle.laws.specs.Post.{two}
-use Rattle.laws.specs.Delete.{letter}
+use Rattle.laws.specs.Post.{retold-letter, notice-only, notice-letter}
 use Rattle.laws.specs.Who.{running-in}
 use Rattle.laws.specs.Words.{Small}
 use Rattle.laws.specs.Start.{computed, zeros-size}
@@ -148,7 +147,8 @@ pub example-message : InHandMessage
 example-message =
     let h = example-hand in
     let b = h .base in
-    let m2 = set (set (h .memory) (h .page * 32 + 1) 17) (h .page * 32 + 2) 128 in
+    let m2 = makeNotice (h .memory) (h .page) 1 1 in
+    let o = notice-only b 1 1 in
     record {
       hand = record {
         memory = m2;
@@ -157,9 +157,9 @@ example-message =
         view = retold m2 (h .view) (h .page);
         page = h .page;
         rest = h .rest;
-        base = hand-base (h .page) (in-hand b) (two b 17 128) b;
+        base = hand-base (h .page) (in-hand b) o b;
       };
-      mails = letter b 1 1 (omega arith) (omega arith) (omega arith) (omega arith);
+      mails = retold-letter b o (notice-letter b 1 1 (omega arith) (omega arith) (omega arith) (omega arith));
     }
 
 -- a page in hand while one waits for a page: the running one of the example, put to wait

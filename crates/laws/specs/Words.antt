@@ -1,4 +1,5 @@
--- Memory map: "8,192 words of 8 bits". Every step keeps words below 256, on any memory. Assumes nothing.
+-- Memory map: "8,192 words of 8 bits". Every step keeps words below 256, on any memory. With it what other laws share: either arm of a test, and the walk of
+-- a test of Q1. Assumes nothing.
 use mathlib.Core.Path.{_≡_, refl}
 use mathlib.Core.Logic.{_≢_, _⊎_, inl, inr}
 use mathlib.Core.Bool.{Bool, true, false, cond}
@@ -8,7 +9,7 @@ use native.Mathlib.Omega.{arith}
 use lib.ListN.{length, getD, set}
 use lib.Seq.{getD-set-same, getD-set-other, set-out}
 use lib.Dec.{eqb, ltb}
-use borrow.Author.Tests.{ltb-true, ltb-false}
+use borrow.Author.Tests.{eqb-false, ltb-true, ltb-false}
 use Rattle.model.specs.declared.Registers.{Registers}
 use Rattle.model.specs.Map.{threeFlags}
 use Rattle.model.specs.Address as Address
@@ -193,34 +194,37 @@ pub small-move : {m : List ℕ} → Small m → (p q : ℕ) → q < 256 → Smal
 unfolding Mail.move
 small-move s p q l = small-join (small-leave s (p * 32 + 5) 0 q) (p * 32 + 6) 0 q l
 
-pub record Tried (t : Tested (List ℕ)) : Type 0 where
+-- "Q1 messages tested, the found one too, go to Q2 in order": what the first of Q1, moved, keeps, testing keeps
+pub record Tried (G : List ℕ → Type 0) (t : Tested (List ℕ)) : Type 0 where
   pub found : Bool
   pub memory : List ℕ
   pub is : t ≡ tested found memory
-  pub small : Small memory
+  pub kept : G memory
 
-tried : {m : List ℕ} (c : Bool) → Small m → Tried (tested c m)
-tried {m} c s = record { found = c; memory = m; is = refl; small = s }
+module _ (G : List ℕ → Type 0) (p : ℕ) (moves : (m : List ℕ) → G m → getD m (p * 32 + 5) 0 ≢ 0 → G (Model.move m p (getD m (p * 32 + 5) 0))) where
+  tried : (c : Bool) (m : List ℕ) → G m → Tried G (tested c m)
+  tried c m t = record { found = c; memory = m; is = refl; kept = t }
 
-pub small-test : (k : ℕ) {m : List ℕ} (p n f : ℕ) → Small m → Tried (Model.testQ1 k m p n f)
-unfolding Mail.testQ1
-small-test zero p n f s = tried false s
-small-test (suc k) {m} p n f s = go (eqb (getD m (p * 32 + 5) 0) 0) (Model.matches m n f (getD m (p * 32 + 5) 0)) refl refl
-    (λ m′ t. small-test k {m = m′} p n f t)
-  where
-    x : ℕ
-    x = getD m (p * 32 + 5) 0
+  pub test-kept : (k : ℕ) (m : List ℕ) (n f : ℕ) → G m → Tried G (Model.testQ1 k m p n f)
+  unfolding Mail.testQ1
+  test-kept zero m n f t = tried false m t
+  test-kept (suc k) m n f t =
+      go (eqb (getD m (p * 32 + 5) 0) 0) (Model.matches m n f (getD m (p * 32 + 5) 0)) refl refl (λ m′ u. test-kept k m′ n f u)
+    where
+      go : (c d : Bool) → eqb (getD m (p * 32 + 5) 0) 0 ≡ c → Model.matches m n f (getD m (p * 32 + 5) 0) ≡ d
+          → ((m′ : List ℕ) → G m′ → Tried G (Model.testQ1 k m′ p n f)) → Tried G (Model.testQ1 (suc k) m p n f)
+      go true d e g ih = let q : Model.testQ1 (suc k) m p n f ≡ tested false m = rw (e, Mail.testQ1) in rw q (tried false m t)
+      go false true e g ih =
+          let m1 = Model.move m p (getD m (p * 32 + 5) 0) in
+          let q : Model.testQ1 (suc k) m p n f ≡ tested true (Model.move m p (getD m (p * 32 + 5) 0)) = rw (e, g, Mail.testQ1) in
+          rw q (tried true m1 (moves m t (eqb-false (getD m (p * 32 + 5) 0) 0 e)))
+      go false false e g ih =
+          let m1 = Model.move m p (getD m (p * 32 + 5) 0) in
+          let q : Model.testQ1 (suc k) m p n f ≡ Model.testQ1 k (Model.move m p (getD m (p * 32 + 5) 0)) p n f = rw (e, g, Mail.testQ1) in
+          rw q (ih m1 (moves m t (eqb-false (getD m (p * 32 + 5) 0) 0 e)))
 
-    next : Small (Model.move m p (getD m (p * 32 + 5) 0))
-    next = small-move s p (getD m (p * 32 + 5) 0) (s .at (p * 32 + 5))
-
-    go : (c d : Bool) → eqb (getD m (p * 32 + 5) 0) 0 ≡ c → Model.matches m n f (getD m (p * 32 + 5) 0) ≡ d
-        → ((m′ : List ℕ) → Small m′ → Tried (Model.testQ1 k m′ p n f)) → Tried (Model.testQ1 (suc k) m p n f)
-    go true d e g ih = let q : Model.testQ1 (suc k) m p n f ≡ tested false m = rw (e, Mail.testQ1) in rw q (tried false s)
-    go false true e g ih = let q : Model.testQ1 (suc k) m p n f ≡ tested true (Model.move m p (getD m (p * 32 + 5) 0)) = rw (e, g, Mail.testQ1) in rw q
-        (tried true next)
-    go false false e g ih = let q : Model.testQ1 (suc k) m p n f ≡ Model.testQ1 k (Model.move m p (getD m (p * 32 + 5) 0)) p n f = rw (e, g, Mail.testQ1)
-        in rw q (ih (Model.move m p (getD m (p * 32 + 5) 0)) next)
+pub small-test : (k : ℕ) {m : List ℕ} (p n f : ℕ) → Small m → Tried Small (Model.testQ1 k m p n f)
+small-test k {m} p n f s = test-kept Small p (λ x t d. small-move t p (getD x (p * 32 + 5) 0) (t .at (p * 32 + 5))) k m n f s
 
 pub small-out : {m : List ℕ} → Small m → (q a : ℕ) → Small (Model.copyOut m q a)
 unfolding Mail.copyOut

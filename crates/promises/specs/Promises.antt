@@ -22,7 +22,8 @@ use Rattle.laws.specs.Chain.{Page}
 use Rattle.laws.specs.Uses.{Head, proc-page}
 use Rattle.laws.specs.Places.{InUses}
 use Rattle.laws.specs.Inv.{View, view, Message, Base, Inv}
-use Rattle.laws.specs.Judged.{judge-inv, inv-judge, invariant}
+use Rattle.laws.specs.Accepted.{judge-inv}
+use Rattle.laws.specs.Judged.{inv-judge, invariant}
 use Rattle.laws.specs.Words.{Small}
 use Rattle.laws.specs.Who.{running-in}
 use Rattle.laws.specs.Waits.{Fit}

@@ -1,0 +1,94 @@
+-- Pages: "SME and CRP use the page granted to them, else the first free one", and with none they wait for a page. Q1 and Q2 of every processor stay, and so
+-- does every unprotected word. Assumes nothing.
+use mathlib.Core.Path.{_≡_, refl, _∙_}
+use mathlib.Core.Logic.{_≢_}
+use mathlib.Core.Bool.{Bool, true, false}
+use mathlib.Core.List.{List, [], _∷_}
+use Prim.Native.Nat.{ℕ, _+_, _-_, _*_, _%_, _≤_}
+use native.Mathlib.Omega.{arith}
+use lib.ListN.{length, getD}
+use lib.Dec.{eqb}
+use borrow.Author.Tests.{ne-eqb}
+use Rattle.model.specs.Page as Page
+use Rattle.model.specs.Page.{Taken}
+use Rattle.model.specs.Page.Taken.{took}
+use Rattle.model.specs.Operate as Operate
+use Rattle.model.specs.Answer.{memoryOf}
+use Rattle.model.specs.Bytes.{lists, takePage, takeFree, waitsForPage}
+use Rattle.model.specs.Lists.{count, Lists}
+use Rattle.laws.specs.Chain.{Page, Chain}
+use Rattle.laws.specs.Uses.{Sep}
+use Rattle.laws.specs.Places.{in-free, grant-low, all-pages}
+use Rattle.laws.specs.Inv.{View, Base}
+use Rattle.laws.specs.Judged.{WellFormed}
+use Rattle.laws.specs.Frames.{other}
+use Rattle.laws.specs.Cells.{chain0, leave-frame}
+use Rattle.laws.specs.Changes.{page-sem}
+use Rattle.laws.specs.Stores.{sem-mem}
+use Rattle.laws.specs.Who.{Busy, busy}
+use Rattle.laws.specs.Create.{z}
+use Rattle.laws.specs.Simple.{Open}
+use Rattle.laws.specs.Waits.{page-fit}
+use Rattle.history.specs.Letter.{Same}
+use Rattle.history.specs.Calm.{calm-refl, calm-low, calm-take}
+use Rattle.history.specs.Told.{calm-waits}
+
+unfoldable pub left : Taken (List ℕ) → List ℕ
+left (took q m) = m
+
+module _ {m : List ℕ} {ps : List ℕ} {L : Lists} {W : View} {hs : List ℕ} {g : ℕ} (b : Base m ps L W hs g) (p : ℕ) (h : 1 ≤ count p ps) where
+  s : Sep ps L
+  s = b .facts .sep
+
+  abbrev n : ℕ
+  n = getD m (p * 32 + 7) 0 % 16
+
+  calm-taken : Same ps L m (left (takePage m p))
+  unfolding Page.takePage Page.firstFree left
+  calm-taken = go (eqb (getD m (320 + n) 0) 0) refl (L 244) refl (chain0 s (b .mem) 244 (in-free ps, grant-low 244 (omega arith)) (omega arith))
+    where
+      go : (c : Bool) → eqb (getD m (320 + n) 0) 0 ≡ c → (xs : List ℕ) → L 244 ≡ xs → Chain m 0 244 (L 244) → Same ps L m (left (takePage m p))
+      go false e xs f c = rw e (calm-low s m (320 + n) 0 (omega arith) (omega arith))
+      go true e [] f c = let z : getD m 244 0 ≡ 0 = rw f at c in rw (e, z) (calm-refl m)
+      go true e (q ∷ fs) f c =
+          let z = rw f at c in
+          rw (e, z .0, ne-eqb q 0 (omega arith)) (calm-take s (b .mem) q fs f)
+
+  -- an unprotected word stays
+  free-word : (q : ℕ) (fs : List ℕ) → L 244 ≡ q ∷ fs → (c : ℕ) → Open c → getD (takeFree m q) c 0 ≡ getD m c 0
+  unfolding Page.takeFree
+  free-word q fs e c o =
+      let v = (getD m 245 0 + 255) % 256 in
+      let u = o .below in
+      leave-frame s (sem-mem s (b .mem) 245 v (page-sem ps)) 244 (in-free ps, grant-low 244 (omega arith)) (omega arith) q [] fs e c
+      (o .between 244 (omega arith) (omega arith)) (λ y j. let t = all-pages s 244 y (in-free ps) j in omega arith)
+      ∙ other m 245 v c (o .between 245 (omega arith) (omega arith))
+
+  taken-word : (c : ℕ) → Open c → getD (left (takePage m p)) c 0 ≡ getD m c 0
+  unfolding Page.takePage Page.firstFree left
+  taken-word c o = go (eqb (getD m (320 + n) 0) 0) refl (L 244) refl (chain0 s (b .mem) 244 (in-free ps, grant-low 244 (omega arith)) (omega arith))
+    where
+      go : (x : Bool) → eqb (getD m (320 + n) 0) 0 ≡ x → (xs : List ℕ) → L 244 ≡ xs → Chain m 0 244 (L 244) → getD (left (takePage m p)) c 0 ≡ getD m c 0
+      go false e xs f k = rw e (other m (320 + n) 0 c (o .between (320 + n) (omega arith) (omega arith)))
+      go true e [] f k = let z : getD m 244 0 ≡ 0 = rw f at k in rw (e, z)
+      go true e (q ∷ fs) f k =
+          let z = rw f at k in
+          rw (e, z .0, ne-eqb q 0 (omega arith)) (free-word q fs f c o)
+
+  pub takes-word : (q : ℕ) (m1 : List ℕ) → takePage m p ≡ took q m1 → (c : ℕ) → Open c → getD m1 c 0 ≡ getD m c 0
+  unfolding left
+  takes-word q m1 e c o = let k : left (takePage m p) ≡ m1 = rw e in rw k at (taken-word c o)
+
+  pub calm-takes : (q : ℕ) (m1 : List ℕ) → takePage m p ≡ took q m1 → Same ps L m m1
+  unfolding left
+  calm-takes q m1 e = let k : left (takePage m p) ≡ m1 = rw e in rw k at calm-taken
+
+-- ---- of a well-formed memory where someone runs
+module _ {m : List ℕ} (w : WellFormed m) (d : getD m 248 0 ≢ 0) where
+  open Busy (busy w d) using (base as b, ready)
+
+  -- "with none, they wait in the page queue, LR staying"
+  pub page-waits : lists m 244 ≡ [] → length (lists m (320 + getD m (getD m 248 0 * 32 + 7) 0 % 16)) ≡ 0
+      → Same (lists m 247) (lists m) m (memoryOf (waitsForPage m))
+  unfolding Operate.waitsForPage
+  page-waits f g = calm-waits b 245 0 d (page-sem (lists m 247)) (omega (arith, ready)) (page-fit (b .facts .sep) f g)
