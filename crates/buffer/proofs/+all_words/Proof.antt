@@ -1,11 +1,11 @@
 use borrow.Author.Needs.{needs}
 use Prim.Native.Nat.{ℕ, _<_, _+_}
 use borrow.Fn.PlainCycle.{Measures, is, falls, and}
-use Rattle.console.proofs.orders.all_words.Reads as own
-use Rattle.console.proofs.orders.all_words.Kinds as kinds
-use Rattle.console.proofs.orders.+all_words.Lts-all_words as lts
-use Rattle.console.proofs.orders.+all_words.{statement}
-use Rattle.console.proofs.orders.+all_words.Tie.{close}
+use Rattle.buffer.proofs.all_words.Reads as own
+use Rattle.buffer.proofs.all_words.Kinds as kinds
+use Rattle.buffer.proofs.+all_words.Lts-all_words as lts
+use Rattle.buffer.proofs.+all_words.{statement}
+use Rattle.buffer.proofs.+all_words.Tie.{close}
 
 -- what is left falls
 abbrev μ : Measures 1 kinds.ps ℕ

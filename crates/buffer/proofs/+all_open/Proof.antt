@@ -1,12 +1,12 @@
 use borrow.Author.Needs.{needs}
 use Prim.Native.Nat.{ℕ, _<_, _+_}
 use borrow.Fn.PlainCycle.{Measures, is, falls, and}
-use Rattle.console.proofs.orders.all_open.Reads as own
-use Rattle.console.proofs.orders.all_open.Kinds as kinds
-use Rattle.console.proofs.orders.+all_open.Lts-all_open as lts
-use Rattle.console.proofs.orders.is_open.Reads as is-open-reads
-use Rattle.console.proofs.orders.+all_open.{statement}
-use Rattle.console.proofs.orders.+all_open.Tie.{close}
+use Rattle.buffer.proofs.all_open.Reads as own
+use Rattle.buffer.proofs.all_open.Kinds as kinds
+use Rattle.buffer.proofs.+all_open.Lts-all_open as lts
+use Rattle.buffer.proofs.is_open.Reads as is-open-reads
+use Rattle.buffer.proofs.+all_open.{statement}
+use Rattle.buffer.proofs.+all_open.Tie.{close}
 
 -- what is left falls
 abbrev μ : Measures 0 kinds.ps ℕ

@@ -1,13 +1,13 @@
 use borrow.Author.Needs.{needs}
 use Prim.Native.Nat.{ℕ, _<_, _+_}
 use borrow.Fn.PlainCycle.{Measures, is, falls, and}
-use Rattle.console.proofs.orders.store.Reads as own
-use Rattle.console.proofs.orders.store.Kinds as kinds
-use Rattle.console.proofs.orders.+store.Lts-store as lts
-use Rattle.console.proofs.orders.store_word.Reads as store-word-reads
+use Rattle.buffer.proofs.store.Reads as own
+use Rattle.buffer.proofs.store.Kinds as kinds
+use Rattle.buffer.proofs.+store.Lts-store as lts
+use Rattle.buffer.proofs.store_word.Reads as store-word-reads
 use Rattle.words.proofs.low.Reads as low-reads
-use Rattle.console.proofs.orders.+store.{statement}
-use Rattle.console.proofs.orders.+store.Tie.{close}
+use Rattle.buffer.proofs.+store.{statement}
+use Rattle.buffer.proofs.+store.Tie.{close}
 
 -- what is left falls
 abbrev μ : Measures 2 kinds.ps ℕ

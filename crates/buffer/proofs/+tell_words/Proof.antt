@@ -1,13 +1,13 @@
 use borrow.Author.Needs.{needs}
 use Prim.Native.Nat.{ℕ, _<_, _+_}
 use borrow.Fn.PlainCycle.{Measures, is, falls, and}
-use Rattle.console.proofs.orders.tell_words.Reads as own
-use Rattle.console.proofs.orders.tell_words.Kinds as kinds
-use Rattle.console.proofs.orders.+tell_words.Lts-tell_words as lts
+use Rattle.buffer.proofs.tell_words.Reads as own
+use Rattle.buffer.proofs.tell_words.Kinds as kinds
+use Rattle.buffer.proofs.+tell_words.Lts-tell_words as lts
 use Rattle.print.proofs.text.Reads as text-reads
 use Rattle.print.proofs.word.Reads as word-reads
-use Rattle.console.proofs.orders.+tell_words.{statement}
-use Rattle.console.proofs.orders.+tell_words.Tie.{close}
+use Rattle.buffer.proofs.+tell_words.{statement}
+use Rattle.buffer.proofs.+tell_words.Tie.{close}
 
 -- what is left falls
 abbrev μ : Measures 1 kinds.ps ℕ

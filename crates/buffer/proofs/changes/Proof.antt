@@ -2,8 +2,8 @@ use mathlib.Core.Path.{_≡_}
 use Prim.Native.Nat.{_≤_, _-_}
 use lib.ListN.{length}
 use borrow.Author.Needs.{needs}
-use Rattle.console.proofs.orders.changes.Statement.{statement}
-use Rattle.console.proofs.orders.changes.Tie as tie
+use Rattle.buffer.proofs.changes.Statement.{statement}
+use Rattle.buffer.proofs.changes.Tie as tie
 
 abbrev Inv-loop : tie.InvT-loop
 Inv-loop m old₀ i₀ n₀ t5 t6 old i n = (length m ≡ 8200) × (length old ≡ 8200) × (i ≤ 8200) × (n ≤ i)
