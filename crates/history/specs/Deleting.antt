@@ -10,7 +10,6 @@ use lib.ListN.{length, getD, set}
 use lib.Dec.{eqb, leb}
 use borrow.Author.Tests.{eqb-true, eqb-false, leb-true}
 use Rattle.model.specs.Delete as Delete
-use Rattle.model.specs.Operate as Operate
 use Rattle.model.specs.Answer.{memoryOf}
 use Rattle.model.specs.Bytes as Model
 use Rattle.model.specs.Bytes.{lists, processors, queue, pageOf, giveBack, unlisted, emptied, mailReturned, grantReturned, delete}
@@ -30,6 +29,7 @@ use Rattle.laws.specs.Simple.{named-in}
 use Rattle.laws.specs.Who.{label-at, listed, Busy, busy}
 use Rattle.laws.specs.Delete.{Queue, Drained, drain, tot-short, facts-whole}
 use Rattle.history.specs.Letter.{waitingFor, Same, posts, waits-same, procs-same, held, held-same}
+use Rattle.history.specs.Ways.{dep-both}
 use Rattle.history.specs.Put.{Log, of, putting, notices, depMail}
 use Rattle.history.specs.Calm.{calm-low}
 use Rattle.history.specs.Told.{of-none, calm-done, runs-in, Sent}
@@ -229,13 +229,5 @@ module _ {m : List ℕ} (w : WellFormed m) (d : getD m 248 0 ≢ 0) where
       omega (arith, ready)
 
   pub dep-sent : (n len : ℕ) → Sent m (memoryOf (Model.named m 12 n len)) (depMail m n)
-  unfolding Operate.named Operate.onPage Operate.dep depMail
-  dep-sent n len = go (eqb n 0) (eqb (pageOf m n) 0) (leb 128 (getD m (pageOf m n * 32 + 12) 0)) refl refl refl
-    where
-      go : (x y z : Bool) → eqb n 0 ≡ x → eqb (pageOf m n) 0 ≡ y → leb 128 (getD m (pageOf m n * 32 + 12) 0) ≡ z
-          → Sent m (memoryOf (Model.named m 12 n len)) (depMail m n)
-      go true y z e f i = rw e (fault-sent w d 12)
-      go false true z e f i = rw (e, f) (fault-sent w d 7)
-      go false false false e f i = rw (e, f, i) (fault-sent w d 10)
-      go false false true e f i =
-          rw (e, f, i) (deleted-sent (pageOf m n) (named-in b n (eqb-false (pageOf m n) 0 f)) (others (pageOf m n) i) len)
+  dep-sent n len = dep-both m (λ o e. Sent m (memoryOf o) e) (λ f i j. fault-sent w d f) n len (λ g.
+      deleted-sent (pageOf m n) (named-in b n (g .found)) (others (pageOf m n) (g .stopped)) len)

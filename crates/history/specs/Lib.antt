@@ -3,6 +3,7 @@
 pub mod Order
 pub mod Letter
 pub mod Put
+pub mod Ways
 -- What leaves mail alone: steps, how a call ends, interrupts, the instructions without mail
 pub mod Calm
 pub mod Told

@@ -1,13 +1,10 @@
 -- Instructions: CRP puts and reads nothing; Q1 and Q2 of every processor stay, and the new one has nothing. Assumes nothing.
 use mathlib.Core.Path.{_≡_, refl, sym, ap, _∙_}
 use mathlib.Core.Logic.{_≢_, _⊎_, inl, inr}
-use mathlib.Core.Bool.{Bool, true, false}
 use mathlib.Core.List.{List, [], _∷_, _++_, append-nil}
 use Prim.Native.Nat.{ℕ, _+_, _-_, _*_, _≤_, _<_}
 use native.Mathlib.Omega.{arith}
 use lib.ListN.{length, getD, set}
-use lib.Dec.{eqb}
-use borrow.Author.Tests.{eqb-true, eqb-false, ne-eqb}
 use Rattle.model.specs.Operate as Operate
 use Rattle.model.specs.Answer.{memoryOf}
 use Rattle.model.specs.Bytes as Model
@@ -25,6 +22,7 @@ use Rattle.laws.specs.Frames.{other}
 use Rattle.laws.specs.Hands.{in-hand, hand-base}
 use Rattle.laws.specs.Grants.{Takes, take-page}
 use Rattle.laws.specs.Grants.Takes.{gets, lacks}
+use Rattle.laws.specs.Ways.{Faults, crp-each, crp-page-each}
 use Rattle.laws.specs.Still.{aside-hand, Aside}
 use Rattle.laws.specs.Who.{listed, Busy, busy}
 use Rattle.laws.specs.Create.{made, z, headed-is, only, below, created-base, nobody}
@@ -97,12 +95,18 @@ module _ {m : List ℕ} {ps : List ℕ} {L : Lists} {W : View} {hs : List ℕ} {
 module _ {m : List ℕ} (w : WellFormed m) (d : getD m 248 0 ≢ 0) where
   open Busy (busy w d) using (base as b, runs as hr)
 
+  abbrev Ends : Model.Step → Type 0
+  Ends o = Told m (memoryOf o) nothing
+
+  bad : Faults m Ends
+  bad = record { all = λ f i j. fault-sent w d f .told }
+
   crp-page : (n r v a len : ℕ) → 1 ≤ n → n ≤ 15 → 1 ≤ r → r ≤ 15 → pageOf m n ≡ 0 → Told m (memoryOf (Model.crpPage m n r v a len)) nothing
-  unfolding Operate.crpPage
   crp-page n r v a len n1 n2 r1 r2 free = go (take-page (getD m 248 0) hr b)
     where
       go : Takes m (getD m 248 0) (lists m 247) (lists m) (view m) [] 32 → Told m (memoryOf (Model.crpPage m n r v a len)) nothing
-      go (lacks e f2 g2) = rw e (told-same b (memoryOf (waitsForPage m)) (page-waits w d f2 g2))
+      go (lacks e f2 g2) =
+          crp-page-each m Ends e n r v a len (λ y. told-same b (memoryOf (waitsForPage m)) (page-waits w d f2 g2)) (λ y. absurd (y refl))
       go (gets q m1 e z t k) =
           let c = created-base (t .base) n r v a n1 n2 r1 r2 (rw k (nobody b n free)) in
           let s1 = calm-takes b (getD m 248 0) hr q m1 e in
@@ -118,7 +122,7 @@ module _ {m : List ℕ} (w : WellFormed m) (d : getD m 248 0 ≢ 0) where
           let keep : (p : ℕ) → 1 ≤ count p (lists m 247) → waitingFor (memoryOf (Model.done m2 len)) p ≡ waitingFor m p = λ p h.
           waits-same (c .base) (posts d2) p (rw pc (omega (arith, count-append p (lists m 247) (q ∷ [])))) ∙ waits-same b ps1 p h in
           let qc : 1 ≤ count q (c .procs) = rw pc (count-mid q (lists m 247) []) in
-          rw (e, ne-eqb q 0 z) (record {
+          crp-page-each m Ends e n r v a len (λ y. absurd (z y)) (λ y. record {
             at = λ p h i y f. rw (of-none p, keep p (rw lm at h), append-nil (waitingFor m p));
             born = λ p h i.
                 let pq : p ≡ q = new p q (omega (arith, ap (count p) pr, count-append p (lists m 247) (q ∷ []), ap (count p) lm)) in
@@ -133,14 +137,4 @@ module _ {m : List ℕ} (w : WellFormed m) (d : getD m 248 0 ≢ 0) where
               cases (inr y) = absurd (omega (arith, hit-other p q y))
 
   pub crp-told : (n r v a len : ℕ) → n < 16 → r < 16 → Told m (memoryOf (Model.crp m n r v a len)) nothing
-  unfolding Operate.crp
-  crp-told n r v a len hn hr = go (eqb n 0) (eqb r 0) (eqb (pageOf m n) 0) refl refl refl
-    where
-      go : (x1 x2 x3 : Bool) → eqb n 0 ≡ x1 → eqb r 0 ≡ x2 → eqb (pageOf m n) 0 ≡ x3 → Told m (memoryOf (Model.crp m n r v a len)) nothing
-      go true x2 x3 e1 e2 e3 = rw e1 (fault-sent w d 12 .told)
-      go false true x3 e1 e2 e3 = rw (e1, e2) (fault-sent w d 12 .told)
-      go false false false e1 e2 e3 = rw (e1, e2, e3) (fault-sent w d 9 .told)
-      go false false true e1 e2 e3 =
-          let n1 = eqb-false n 0 e1 in
-          let r1 = eqb-false r 0 e2 in
-          rw (e1, e2, e3) (crp-page n r v a len (omega arith) (omega arith) (omega arith) (omega arith) (eqb-true (pageOf m n) 0 e3))
+  crp-told n r v a len hn hr = crp-each bad n r v a len (λ g. crp-page n r v a len (g .name) (omega arith) (g .priority) (omega arith) (g .unnamed))

@@ -2,15 +2,13 @@
 -- 13; and setting registers. Assumes nothing.
 use mathlib.Core.Path.{_≡_, refl, sym, ap, _∙_}
 use mathlib.Core.Logic.{_≢_, _⊎_, inl, inr}
-use mathlib.Core.Bool.{Bool, true, false}
+use mathlib.Core.Bool.{false}
 use mathlib.Core.List.{List, [], _∷_}
 use Prim.Native.Nat.{ℕ, _+_, _-_, _*_, _/_, _%_, _≤_, _<_}
 use native.Mathlib.Omega.{arith}
 use lib.ListN.{getD, set}
-use lib.Dec.{eqb, ltb, leb}
-use borrow.Author.Tests.{eqb-false, ltb-false}
 use Rattle.model.specs.declared.Registers.{Registers}
-use Rattle.model.specs.Address.{guarded, clear}
+use Rattle.model.specs.Address.{guarded}
 use Rattle.model.specs.Instruction as Instruction
 use Rattle.model.specs.Processor as Processor
 use Rattle.model.specs.Operate as Operate
@@ -23,7 +21,7 @@ use Rattle.laws.specs.Judged.{WellFormed}
 use Rattle.laws.specs.Frames.{other}
 use Rattle.laws.specs.Who.{running-at, Busy, busy}
 use Rattle.laws.specs.Ends.{advance-base}
-use Rattle.laws.specs.Words.{either}
+use Rattle.laws.specs.Ways.{Faults, cvi-each, dvi-each, win-each, st1-each, stp-each, st2-each, thirteen-each, reaches-each}
 use Rattle.laws.specs.Simple.{pick, named-in, clear-open}
 use Rattle.laws.specs.Interrupts.{serve-base, seat}
 use Rattle.laws.specs.Waits.{line-fit}
@@ -55,6 +53,12 @@ module _ {m : List ℕ} (w : WellFormed m) (d : getD m 248 0 ≢ 0) where
   pub fault-sent : (f : ℕ) → Sent m (memoryOf (Model.fault m f)) nothing
   fault-sent f = sent-same b (memoryOf (Model.fault m f)) (fails f)
 
+  abbrev Ends : Model.Step → Type 0
+  Ends o = Calm (memoryOf o)
+
+  bad : Faults m Ends
+  bad = record { all = λ f i j. fails f }
+
   -- then done, then a jump; the same one runs
   pub then-done : (x : List ℕ) (len : ℕ) → Calm x → getD x 248 0 ≡ getD m 248 0 → Calm (memoryOf (Model.done x len))
   then-done x len f e = same-on f (calm-done s x (rw e (runs-in b)) len)
@@ -76,17 +80,10 @@ module _ {m : List ℕ} (w : WellFormed m) (d : getD m 248 0 ≢ 0) where
       other (set m (256 + 2 * c) v) (257 + 2 * c) (a % 256) 248 (omega arith) ∙ other m (256 + 2 * c) v 248 (omega arith)
 
   pub cvi-calm : (c a n : ℕ) → c < 16 → Calm (memoryOf (Model.cvi m c a n))
-  unfolding Operate.cvi
-  cvi-calm c a n l =
-      either (λ (o : Model.Step). Calm (memoryOf o)) (eqb (getD m (256 + 2 * c) 0 / 32) 0)
-      (then-done (setCode m c 2 a) n (calm-code c 2 a l) (code-run c 2 a)) (fails 3)
+  cvi-calm c a n l = cvi-each bad c a n (λ z. then-done (setCode m c 2 a) n (calm-code c 2 a l) (code-run c 2 a))
 
   pub dvi-calm : (c n : ℕ) → c < 16 → Calm (memoryOf (Model.dvi m c n))
-  unfolding Operate.dvi
-  dvi-calm c n l =
-      either (λ (o : Model.Step). Calm (memoryOf o)) (ltb c 2) (fails 4)
-      (either (λ (o : Model.Step). Calm (memoryOf o)) (eqb (getD m (256 + 2 * c) 0 / 32) 0) (fails 1)
-      (then-done (setCode m c 0 0) n (calm-code c 0 0 l) (code-run c 0 0)))
+  dvi-calm c n l = dvi-each bad c n (λ z. then-done (setCode m c 0 0) n (calm-code c 0 0 l) (code-run c 0 0))
 
   pub gin-calm : (len : ℕ) → Calm (memoryOf (Model.gin m len))
   unfolding Operate.gin
@@ -97,20 +94,11 @@ module _ {m : List ℕ} (w : WellFormed m) (d : getD m 248 0 ≢ 0) where
       then-done (serve m k 0) len (calm-serve k 0 (n .name) (omega arith) b) (running-at (t .base) ∙ ap (λ (z : ℕ → ℕ). z 248) (t .low))
 
   pub win-calm : (k c len : ℕ) → c ≤ 255 → Calm (memoryOf (Model.win m k c len))
-  unfolding Operate.win Processor.advance
-  win-calm k c len u = go (eqb k 0) (ltb 54 k) (eqb c 0) refl refl refl
-    where
-      go : (x y z : Bool) → eqb k 0 ≡ x → ltb 54 k ≡ y → eqb c 0 ≡ z → Calm (memoryOf (Model.win m k c len))
-      go true y z e f g = rw e (fails 5)
-      go false true z e f g = rw (e, f) (fails 5)
-      go false false true e f g = rw (e, f, g) (fails 5)
-      go false false false e f g =
-          let k1 = eqb-false k 0 e in
-          let k2 = ltb-false 54 k f in
-          let c1 = eqb-false c 0 g in
-          rw (e, f, g) (same-on (calm-lr s m r ((Model.lr m + len) % 8192) (runs-in b))
-          (calm-waits (advance-base b len) (129 + 2 * k) c d (seat k c (omega arith) k2 (lists m 247)) (omega (arith, ready))
-          (line-fit s k c (omega arith) k2 (omega arith) u)))
+  unfolding Processor.advance
+  win-calm k c len u = win-each bad k c len (λ g.
+      same-on (calm-lr s m r ((Model.lr m + len) % 8192) (runs-in b))
+      (calm-waits (advance-base b len) (129 + 2 * k) c d (seat k c (g .low) (g .high) (lists m 247)) (omega (arith, ready))
+      (line-fit s k c (g .low) (g .high) (g .count) u)))
 
   state-calm : (p v len : ℕ) → 1 ≤ count p (lists m 247) → Calm (memoryOf (Model.done (set m (p * 32 + 12) v) len))
   state-calm p v len h =
@@ -118,28 +106,15 @@ module _ {m : List ℕ} (w : WellFormed m) (d : getD m 248 0 ≢ 0) where
       then-done (set m (p * 32 + 12) v) len (calm-proc s m p 12 v h (omega arith) (omega arith) (omega arith) (omega arith))
       (other m (p * 32 + 12) v 248 (omega arith))
 
-  pub st1-calm : (p len : ℕ) → 1 ≤ count p (lists m 247) → Calm (memoryOf (Model.st1 m p len))
-  unfolding Operate.st1 Processor.start
-  st1-calm p len h = state-calm p (getD m (p * 32 + 12) 0 % 128) len h
-
-  pub stp-calm : (p len : ℕ) → 1 ≤ count p (lists m 247) → Calm (memoryOf (Model.stp m p len))
-  unfolding Operate.stp Processor.stop
-  stp-calm p len h = state-calm p (getD m (p * 32 + 12) 0 % 128 + 128) len h
-
   -- ST1 and STP; DEP is not among them
   pub named-calm : (c n len : ℕ) → (c ≡ 8) ⊎ (c ≡ 9) → Calm (memoryOf (Model.named m c n len))
-  unfolding Operate.named Operate.onPage
-  named-calm c n len o = go (eqb n 0) (eqb (pageOf m n) 0) refl refl o
-    where
-      go : (x y : Bool) → eqb n 0 ≡ x → eqb (pageOf m n) 0 ≡ y → (c ≡ 8) ⊎ (c ≡ 9) → Calm (memoryOf (Model.named m c n len))
-      go true y e f o = rw e (fails 12)
-      go false true e f o = rw (e, f) (fails 7)
-      go false false e f (inl z) = rw (e, f, z) (st1-calm (pageOf m n) len (named-in b n (eqb-false (pageOf m n) 0 f)))
-      go false false e f (inr z) = rw (e, f, z) (stp-calm (pageOf m n) len (named-in b n (eqb-false (pageOf m n) 0 f)))
+  unfolding Processor.start Processor.stop
+  named-calm c n len (inl e) = rw e (st1-each bad n len (λ z. state-calm (pageOf m n) _ len (named-in b n z)))
+  named-calm c n len (inr e) = rw e (stp-each bad n len (λ z. state-calm (pageOf m n) _ len (named-in b n z)))
 
-  st2-found : (p a len : ℕ) → 1 ≤ count p (lists m 247) → Calm (memoryOf (Model.st2Found m p a len))
-  unfolding Operate.st2Found Processor.start Processor.setLr
-  st2-found p a len h =
+  started-calm : (p a len : ℕ) → 1 ≤ count p (lists m 247) → Calm (memoryOf (Model.done (Model.start (Model.setLr m p a) p) len))
+  unfolding Processor.start Processor.setLr
+  started-calm p a len h =
       let g = proc-page s p h in
       let v = getD m (p * 32 + 10) 0 / 32 * 32 + a / 256 % 32 in
       let m1 = set m (p * 32 + 10) v in
@@ -150,18 +125,10 @@ module _ {m : List ℕ} (w : WellFormed m) (d : getD m 248 0 ≢ 0) where
       let c3 : Calm (set m2 (p * 32 + 12) t) = same-on c2 (calm-proc s m2 p 12 t h (omega arith) (omega arith) (omega arith) (omega arith)) in
       let e : getD (set m2 (p * 32 + 12) t) 248 0 ≡ getD m 248 0 = other m2 (p * 32 + 12) t 248 (omega arith)
       ∙ other m1 (p * 32 + 11) (a % 256) 248 (omega arith) ∙ other m (p * 32 + 10) v 248 (omega arith) in
-      either (λ (o : Model.Step). Calm (memoryOf o)) (leb 128 (getD m (p * 32 + 12) 0)) (either (λ (o : Model.Step). Calm (memoryOf o))
-      (eqb (getD m (p * 32 + 12) 0 % 128 / 64) 0)
-      (then-done (set m2 (p * 32 + 12) t) len c3 e) (fails 8)) (fails 8)
+      then-done (set m2 (p * 32 + 12) t) len c3 e
 
   pub st2-calm : (n a len : ℕ) → Calm (memoryOf (Model.st2 m n a len))
-  unfolding Operate.st2
-  st2-calm n a len = go (eqb n 0) (eqb (pageOf m n) 0) refl refl
-    where
-      go : (x y : Bool) → eqb n 0 ≡ x → eqb (pageOf m n) 0 ≡ y → Calm (memoryOf (Model.st2 m n a len))
-      go true y e f = rw e (fails 12)
-      go false true e f = rw (e, f) (fails 7)
-      go false false e f = rw (e, f) (st2-found (pageOf m n) a len (named-in b n (eqb-false (pageOf m n) 0 f)))
+  st2-calm n a len = st2-each bad n a len (λ g. started-calm (pageOf m n) a len (named-in b n (g .found)))
 
   -- ---- code 13: what it writes, and that the same one runs
   abbrev Both : List ℕ → Type 0
@@ -189,28 +156,17 @@ module _ {m : List ℕ} (w : WellFormed m) (d : getD m 248 0 ≢ 0) where
         ),
       ) k
 
-  reaches-calm : (o a len : ℕ) → Calm (memoryOf (Model.reaches m o a len))
-  unfolding Operate.reaches Operate.returnTo
-  reaches-calm o a len = go (eqb o 5) (eqb o 4) (guarded a) refl refl refl
-    where
-      go : (x y z : Bool) → eqb o 5 ≡ x → eqb o 4 ≡ y → guarded a ≡ z → Calm (memoryOf (Model.reaches m o a len))
-      go true y z e f g =
-          let n = (Model.lr m + len) % 8192 in
-          let m1 = set m 5 (n / 256 % 32) in
-          let c1 : Calm m1 = calm-low s m 5 (n / 256 % 32) (omega arith) (omega arith) in
-          let c2 : Calm (set m1 6 (n % 256)) = same-on c1 (calm-low s m1 6 (n % 256) (omega arith) (omega arith)) in
-          rw e (then-jumps (set m1 6 (n % 256)) a c2 (other m1 6 (n % 256) 248 (omega arith) ∙ other m 5 (n / 256 % 32) 248 (omega arith)))
-      go false true z e f g = rw (e, f) (then-jumps m a (calm-refl m) refl)
-      go false false true e f g = rw (e, f, g) (fails 11)
-      go false false false e f g = let t = worked-both o a g in rw (e, f, g) (then-done (Model.worked m o a) len (t .0) (t .1))
+  returns-both : (n : ℕ) → Both (Model.returnTo m n)
+  unfolding Operate.returnTo
+  returns-both n =
+      let m1 = set m 5 (n / 256 % 32) in
+      let c1 : Calm m1 = calm-low s m 5 (n / 256 % 32) (omega arith) (omega arith) in
+      (same-on c1 (calm-low s m1 6 (n % 256) (omega arith) (omega arith)), other m1 6 (n % 256) 248 (omega arith) ∙ other m 5 (n / 256 % 32) 248 (omega arith))
 
   pub thirteen-calm : (x o a len : ℕ) → Calm (memoryOf (Model.thirteen m x o a len))
-  unfolding Operate.thirteen Operate.follows
-  thirteen-calm x o a len =
-      let P : Model.Step → Type 0 = λ (o : Model.Step). Calm (memoryOf o) in
-      let e = Model.indexed m (x % 8) a in
-      either (λ (o : Model.Step). Calm (memoryOf o)) (ltb 5 o) (fails 12) (either (λ (o : Model.Step). Calm (memoryOf o)) (eqb (x / 8) 0) (reaches-calm o e len)
-      (either (λ (o : Model.Step). Calm (memoryOf o)) (clear 2 e) (reaches-calm o (Model.addressAt m e) len) (fails 11)))
+  thirteen-calm x o a len = thirteen-each bad x o a len (λ e. let v = returns-both ((Model.lr m + len) % 8192) in
+      reaches-each bad o e len (then-jumps _ e (v .0) (v .1)) (then-jumps m e (calm-refl m) refl) (λ g.
+      let t = worked-both o e g in then-done (Model.worked m o e) len (t .0) (t .1)))
 
   -- ---- setting registers
   pub registers-calm : (x : Registers) → Calm (setRegistersOf m r x)

@@ -1,13 +1,11 @@
 -- Instructions: RME reads the first match in Q2; of any sender and flag it is the oldest that waits. Assumes nothing.
-use mathlib.Core.Path.{_≡_, refl, sym, ap, _∙_}
+use mathlib.Core.Path.{_≡_, sym, ap, _∙_}
 use mathlib.Core.Logic.{_≢_, _⊎_, inl, inr}
-use mathlib.Core.Bool.{Bool, true, false}
+use mathlib.Core.Bool.{true}
 use mathlib.Core.List.{List, [], _∷_, _++_, append-assoc, append-nil, map}
 use Prim.Native.Nat.{ℕ, _+_, _-_, _*_, _%_, _≤_}
 use native.Mathlib.Omega.{arith}
 use lib.ListN.{getD}
-use lib.Dec.{eqb}
-use borrow.Author.Tests.{eqb-false}
 use Rattle.model.specs.Address.{clear}
 use Rattle.model.specs.Operate as Operate
 use Rattle.model.specs.Answer.{memoryOf}
@@ -27,6 +25,7 @@ use Rattle.laws.specs.Mails.{mail-queue, out-kept, clear-at, out-far}
 use Rattle.history.specs.Order.{only, Fails, overtakes-none}
 use Rattle.history.specs.Letter.{Letter, mailOf, key, asked, one-key, map-append, waitingFor, waits-by, Same, posts, Texted, waits-through}
 use Rattle.history.specs.Letter.{waits-same, procs-same, mail-same, mails-same, texts-same}
+use Rattle.history.specs.Ways.{rme-both}
 use Rattle.history.specs.Put.{of, reading, rmeMail}
 use Rattle.history.specs.Calm.{ours-low, ours-fits, calm-give}
 use Rattle.history.specs.Told.{Told, of-none, of-here, of-other, calm-done, runs-in}
@@ -133,17 +132,10 @@ module _ {m : List ℕ} (w : WellFormed m) (d : getD m 248 0 ≢ 0) where
       cases m3 m2 x p h k l s3 sx o mq away (inr n) = rw (of-other p r (mailOf m q) n, of-none p, append-nil (waitingFor m p), s3, away n, sx)
 
   pub rme-told : (n f a len : ℕ) → Told m (memoryOf (Model.rme m n f a len)) (rmeMail m n f a)
-  unfolding Operate.rme rmeMail
-  rme-told n f a len = go (eqb (Model.inQ2 m n f) 0) (clear (3 + getD m (Model.inQ2 m n f * 32 + 2) 0 % 128) a) refl refl
+  rme-told n f a len = rme-both m (λ o e. Told m (memoryOf o) e) (λ f i j. fault-sent w d f .told) n f a len (λ g.
+      let t : Found m n f (Model.inQ2 m n f) (queue m (r * 32 + 6)) = found m n f (queue m (r * 32 + 6)) (g .found) in
+      received-told n f (Model.inQ2 m n f) a len
+      (record { before = t .before; behind = t .behind; is = sym q6 ∙ t .is; match = t .match; none = t .none }) (g .target))
     where
       q6 : queue m (r * 32 + 6) ≡ lists m (r * 32 + 6)
       q6 = mail-queue b r 6 hr (omega arith) (omega arith)
-
-      go : (x y : Bool) → eqb (Model.inQ2 m n f) 0 ≡ x → clear (3 + getD m (Model.inQ2 m n f * 32 + 2) 0 % 128) a ≡ y
-          → Told m (memoryOf (Model.rme m n f a len)) (rmeMail m n f a)
-      go true y e c = rw e (fault-sent w d 6 .told)
-      go false false e c = rw (e, c) (fault-sent w d 11 .told)
-      go false true e c =
-          let t : Found m n f (Model.inQ2 m n f) (queue m (r * 32 + 6)) = found m n f (queue m (r * 32 + 6)) (eqb-false (Model.inQ2 m n f) 0 e) in
-          rw (e, c) (received-told n f (Model.inQ2 m n f) a len
-          (record { before = t .before; behind = t .behind; is = sym q6 ∙ t .is; match = t .match; none = t .none }) c)

@@ -7,9 +7,9 @@ use mathlib.Core.List.{List, [], _∷_, _++_, append-nil}
 use Prim.Native.Nat.{ℕ, _+_, _-_, _*_, _/_, _%_, _≤_, _<_}
 use native.Mathlib.Omega.{arith}
 use lib.ListN.{getD, set}
-use lib.Dec.{eqb, ltb}
-use borrow.Author.Tests.{eqb-false, ne-eqb, ltb-false}
-use Rattle.model.specs.Address.{guarded, clear}
+use lib.Dec.{eqb}
+use borrow.Author.Tests.{eqb-false}
+use Rattle.model.specs.Address.{clear}
 use Rattle.model.specs.Mail as Mail
 use Rattle.model.specs.Page.Taken.{took}
 use Rattle.model.specs.Operate as Operate
@@ -35,7 +35,8 @@ use Rattle.laws.specs.Simple.{named-in, Open, clear-open, named-same}
 use Rattle.history.specs.Order.{only}
 use Rattle.history.specs.Letter.{Letter, mailOf, words, key, waitingFor, Same, posts, posts-then, agrees, waits-same, procs-same, words-moved, held}
 use Rattle.history.specs.Letter.{held-same}
-use Rattle.history.specs.Put.{of, nothing, putting, noticeFrom, posting, hasPage, smeMail}
+use Rattle.history.specs.Ways.{sme-both, sent-both}
+use Rattle.history.specs.Put.{Mailed, of, nothing, putting, noticeFrom, posting, hasPage, smeMail}
 use Rattle.history.specs.Calm.{calm-only}
 use Rattle.history.specs.Told.{Told, Stands, of-none, of-here, of-other, calm-done, runs-in, Sent, sent-same}
 use Rattle.history.specs.Quiet.{fault-sent}
@@ -142,6 +143,9 @@ module _ {m : List ℕ} (w : WellFormed m) (d : getD m 248 0 ≢ 0) where
   abbrev r : ℕ
   r = getD m 248 0
 
+  abbrev Ends : Model.Step → Mailed → Type 0
+  Ends o e = Sent m (memoryOf o) e
+
   -- page q is taken
   module _ (q : ℕ) (m1 : List ℕ) (e : takePage m r ≡ took q m1) (t : Gave m1 (lists m 247) (q ∷ []) 32 (view m)) (k : t .view .label ≡ view m .label) where
     s1 : Same (lists m 247) (lists m) m m1
@@ -193,28 +197,14 @@ module _ {m : List ℕ} (w : WellFormed m) (d : getD m 248 0 ≢ 0) where
 
   to-sent : (n f a len : ℕ) → 1 ≤ n → n ≤ 15 → 1 ≤ f → f ≤ 7 → getD m a 0 ≤ 29 → clear (getD m a 0) ((a + 1) % 8192) ≡ true
       → Sent m (memoryOf (Model.sent m n f a (getD m a 0) len)) (cond (hasPage (takePage m (running m))) (putting (posting m n f a ∷ [])) nothing)
-  unfolding Operate.sent hasPage
   to-sent n f a len n1 n2 f1 f2 l2 c = go (take-page r hr b)
     where
       go : Takes m r (lists m 247) (lists m) (view m) [] 32
           → Sent m (memoryOf (Model.sent m n f a (getD m a 0) len)) (cond (hasPage (takePage m (running m))) (putting (posting m n f a ∷ [])) nothing)
-      go (gets q m1 e z t k) = rw (e, ne-eqb q 0 z) (posted-sent q m1 e t k n f a len n1 n2 f1 f2 l2 c)
-      go (lacks e f3 g3) = rw e (sent-same b (memoryOf (waitsForPage m)) (page-waits w d f3 g3))
+      go (gets q m1 e z t k) =
+          sent-both m Ends e n f a _ len _ (λ y. absurd (z y)) (λ y. posted-sent q m1 e t k n f a len n1 n2 f1 f2 l2 c)
+      go (lacks e f3 g3) = sent-both m Ends e n f a _ len _ (λ y. sent-same b (memoryOf (waitsForPage m)) (page-waits w d f3 g3)) (λ y. absurd (y refl))
 
   pub sme-sent : (n f a len : ℕ) → n < 16 → f < 8 → Sent m (memoryOf (Model.sme m n f a len)) (smeMail m n f a)
-  unfolding Operate.sme Operate.smeText smeMail
-  sme-sent n f a len hn hf =
-      go (eqb n 0) (eqb f 0) (guarded a) (ltb 29 (getD m a 0)) (clear (getD m a 0) ((a + 1) % 8192)) refl refl refl refl refl
-    where
-      go : (x1 x2 x3 x4 x5 : Bool) → eqb n 0 ≡ x1 → eqb f 0 ≡ x2 → guarded a ≡ x3 → ltb 29 (getD m a 0) ≡ x4 → clear (getD m a 0) ((a + 1) % 8192) ≡ x5
-          → Sent m (memoryOf (Model.sme m n f a len)) (smeMail m n f a)
-      go true x2 x3 x4 x5 e1 e2 e3 e4 e5 = rw e1 (fault-sent w d 12)
-      go false true x3 x4 x5 e1 e2 e3 e4 e5 = rw (e1, e2) (fault-sent w d 12)
-      go false false true x4 x5 e1 e2 e3 e4 e5 = rw (e1, e2, e3) (fault-sent w d 11)
-      go false false false true x5 e1 e2 e3 e4 e5 = rw (e1, e2, e3, e4) (fault-sent w d 12)
-      go false false false false false e1 e2 e3 e4 e5 = rw (e1, e2, e3, e4, e5) (fault-sent w d 11)
-      go false false false false true e1 e2 e3 e4 e5 =
-          let n1 = eqb-false n 0 e1 in
-          let f1 = eqb-false f 0 e2 in
-          let l1 = ltb-false 29 (getD m a 0) e4 in
-          rw (e1, e2, e3, e4, e5) (to-sent n f a len (omega arith) (omega arith) (omega arith) (omega arith) (omega arith) e5)
+  sme-sent n f a len hn hf = sme-both m Ends (λ f i j. fault-sent w d f) n f a len (λ g.
+      to-sent n f a len (g .name) (omega arith) (g .flag) (omega arith) (g .length) (g .text))

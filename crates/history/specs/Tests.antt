@@ -6,12 +6,9 @@ use mathlib.Core.List.{List, [], _∷_, _++_, append-nil, map}
 use Prim.Native.Nat.{ℕ, _+_, _-_, _*_, _≤_, _<_}
 use native.Mathlib.Omega.{arith}
 use lib.ListN.{getD}
-use lib.Dec.{eqb}
-use borrow.Author.Tests.{eqb-true, eqb-false}
 use Rattle.model.specs.Queue as Queue
 use Rattle.model.specs.Queue.{first}
 use Rattle.model.specs.Mail as Mail
-use Rattle.model.specs.Operate as Operate
 use Rattle.model.specs.Answer.{memoryOf}
 use Rattle.model.specs.Bytes as Model
 use Rattle.model.specs.Bytes.{lists, queue, move, matches, testQ1}
@@ -22,7 +19,8 @@ use Rattle.laws.specs.Judged.{WellFormed}
 use Rattle.laws.specs.Changes.{own-sem}
 use Rattle.laws.specs.Who.{listed, Busy, busy}
 use Rattle.laws.specs.Mails.{mail-queue, wnm-fit, first-mail}
-use Rattle.laws.specs.Words.{either, Tried, test-kept}
+use Rattle.laws.specs.Ways.{wnm-each, tme-each}
+use Rattle.laws.specs.Words.{Tried, test-kept}
 use Rattle.history.specs.Order.{only, Fails}
 use Rattle.history.specs.Letter.{mailOf, key, asked, asked-page, waitingFor, Same, posts, waits-same, procs-same}
 use Rattle.history.specs.Put.{nothing}
@@ -92,44 +90,34 @@ module _ {m : List ℕ} (w : WellFormed m) (d : getD m 248 0 ≢ 0) where
   r = getD m 248 0
 
   pub wnm-told : (n f len : ℕ) → f < 8 → Told m (memoryOf (Model.wnm m n f len)) nothing
-  unfolding Operate.wnm Mail.matches
-  wnm-told n f len hf = go (eqb (Model.inQ1 m n f) 0) refl
+  unfolding Mail.matches
+  wnm-told n f len hf =
+      wnm-each m (λ o. Told m (memoryOf o) nothing) n f len
+      (λ z. told-same b (memoryOf (Model.waits m (r * 32 + 3) (n * 16 + f))) (calm-waits b (r * 32 + 3) (n * 16 + f) d (own-sem (b .facts .sep) r hr)
+      (omega (arith, ready)) (wnm-fit w d n f hf z)))
+      (λ z.
+      let q = Model.inQ1 m n f in
+      let t : Found m n f q (queue m (r * 32 + 5)) = found m n f (queue m (r * 32 + 5)) z in
+      let i = sym q5 ∙ t .is in
+      let b1 = move-lists b r q (t .before) (t .behind) hr i in
+      let m1 = move m r q in
+      told-order b b1 (memoryOf (Model.done m1 len)) (calm-done (b1 .facts .sep) m1 (runs-in b1) len) (λ p h k l. cases t i p h k l (hit-or p r)))
     where
       q5 : queue m (r * 32 + 5) ≡ lists m (r * 32 + 5)
       q5 = mail-queue b r 5 hr (omega arith) (omega arith)
 
-      go : (c : Bool) → eqb (Model.inQ1 m n f) 0 ≡ c → Told m (memoryOf (Model.wnm m n f len)) nothing
-      go true e =
-          rw e (told-same b (memoryOf (Model.waits m (r * 32 + 3) (n * 16 + f))) (calm-waits b (r * 32 + 3) (n * 16 + f) d (own-sem (b .facts .sep) r hr)
-          (omega (arith, ready)) (wnm-fit w d n f hf (eqb-true (Model.inQ1 m n f) 0 e))))
-      go false e =
-          let q = Model.inQ1 m n f in
-          let t : Found m n f q (queue m (r * 32 + 5)) = found m n f (queue m (r * 32 + 5)) (eqb-false (Model.inQ1 m n f) 0 e) in
-          let i = sym q5 ∙ t .is in
-          let b1 = move-lists b r q (t .before) (t .behind) hr i in
-          let m1 = move m r q in
-          rw e (told-order b b1 (memoryOf (Model.done m1 len)) (calm-done (b1 .facts .sep) m1 (runs-in b1) len) (λ p h k l. cases t i p h k l (hit-or p r)))
-        where
-          cases : (t : Found m n f (Model.inQ1 m n f) (queue m (r * 32 + 5))) → lists m (r * 32 + 5) ≡ t .before ++ Model.inQ1 m n f ∷ t .behind → (p : ℕ)
-              → 1 ≤ count p (lists m 247) → (k l : ℕ) → (p ≡ r) ⊎ (p ≢ r)
-              → only (key k l) (waitingFor (move m r (Model.inQ1 m n f)) p) ≡ only (key k l) (waitingFor m p)
-          cases t i p h k l (inl z) = rw z (moved-order b r (Model.inQ1 m n f) (t .before) (t .behind) hr i n f (t .match) (t .none) k l)
-          cases t i p h k l (inr z) = ap (only (key k l)) (moved-away b r (Model.inQ1 m n f) (t .before) (t .behind) hr i p h z)
+      cases : (t : Found m n f (Model.inQ1 m n f) (queue m (r * 32 + 5))) → lists m (r * 32 + 5) ≡ t .before ++ Model.inQ1 m n f ∷ t .behind → (p : ℕ)
+          → 1 ≤ count p (lists m 247) → (k l : ℕ) → (p ≡ r) ⊎ (p ≢ r)
+          → only (key k l) (waitingFor (move m r (Model.inQ1 m n f)) p) ≡ only (key k l) (waitingFor m p)
+      cases t i p h k l (inl z) = rw z (moved-order b r (Model.inQ1 m n f) (t .before) (t .behind) hr i n f (t .match) (t .none) k l)
+      cases t i p h k l (inr z) = ap (only (key k l)) (moved-away b r (Model.inQ1 m n f) (t .before) (t .behind) hr i p h z)
 
-  tests-told : (n f a len : ℕ) → Told m (memoryOf (Model.tmeQ1 m n f a len)) nothing
-  unfolding Operate.tmeQ1
-  tests-told n f a len =
+  pub tme-told : (n f a len : ℕ) → Told m (memoryOf (Model.tme m n f a len)) nothing
+  tme-told n f a len =
       let t = test-keeps r n f hr b in
       let c = t .kept .1 in
       let x = t .memory in
-      rw (t .is) (either (λ (o : Model.Step). Told m (memoryOf o) nothing) (t .found)
+      tme-each m (λ o. Told m (memoryOf o) nothing) n f a len (t .is)
       (told-order b c (memoryOf (Model.jumps x a)) (calm-jumps (c .facts .sep) x (runs-in c) a) (λ p h k l. ap (only (key k l)) (t .kept .2 p h)))
-      (told-order b c (memoryOf (Model.done x len)) (calm-done (c .facts .sep) x (runs-in c) len) (λ p h k l. ap (only (key k l)) (t .kept .2 p h))))
-
-  pub tme-told : (n f a len : ℕ) → Told m (memoryOf (Model.tme m n f a len)) nothing
-  unfolding Operate.tme
-  tme-told n f a len = go (eqb (Model.inQ2 m n f) 0) refl
-    where
-      go : (c : Bool) → eqb (Model.inQ2 m n f) 0 ≡ c → Told m (memoryOf (Model.tme m n f a len)) nothing
-      go true e = rw e (tests-told n f a len)
-      go false e = rw e (told-same b (memoryOf (Model.jumps m a)) (calm-jumps (b .facts .sep) m (runs-in b) a))
+      (told-order b c (memoryOf (Model.done x len)) (calm-done (c .facts .sep) x (runs-in c) len) (λ p h k l. ap (only (key k l)) (t .kept .2 p h)))
+      (told-same b (memoryOf (Model.jumps m a)) (calm-jumps (b .facts .sep) m (runs-in b) a))

@@ -2,14 +2,12 @@
 -- finds it; if another runs now, those of page 0 are kept on its page. Assumes nothing.
 use mathlib.Core.Path.{_≡_, refl, sym, ap, _∙_}
 use mathlib.Core.Logic.{_≢_}
-use mathlib.Core.Bool.{Bool, true, false}
+use mathlib.Core.Bool.{true}
 use mathlib.Core.List.{List, [], _∷_, _++_}
 use Prim.Native.Nat.{ℕ, zero, suc, _+_, _-_, _*_, _/_, _%_, _≤_, _<_}
 use native.Mathlib.Omega.{arith}
 use lib.ListN.{length, getD, set, length-set}
 use lib.Seq.{getD-set-same}
-use lib.Dec.{eqb}
-use borrow.Author.Tests.{eqb-false}
 use Rattle.model.specs.Map.{headWords}
 use Rattle.model.specs.Address.{wrapped, clear}
 use Rattle.model.specs.Mail as Mail
@@ -36,6 +34,7 @@ use Rattle.laws.specs.Who.{running-at, Busy, busy}
 use Rattle.laws.specs.Mails.{mail-queue, out-kept, clear-at}
 use Rattle.laws.specs.Simple.{Open, clear-open}
 use Rattle.history.specs.Letter.{Letter, mailOf, words, letter-sized}
+use Rattle.history.specs.Ways.{rme-both}
 use Rattle.history.specs.Put.{Log, Mailed, nothing, reading, rmeMail}
 use Rattle.history.specs.Tests.{Found, found}
 use Rattle.history.specs.Copied.{copy-at, words-at}
@@ -245,19 +244,12 @@ module _ {m : List ℕ} (w : WellFormed m) (d : getD m 248 0 ≢ 0) where
             rw run2 at t ∙ received-open ((a + i) % 8192) o ∙ out-at m q a (b .mem .size) pq la sized cl i h
 
   pub rme-written : (n f a len : ℕ) → a < 8192 → Written m (memoryOf (Model.rme m n f a len)) (rmeMail m n f a)
-  unfolding Operate.rme rmeMail
-  rme-written n f a len la = go (eqb (Model.inQ2 m n f) 0) (clear (3 + getD m (Model.inQ2 m n f * 32 + 2) 0 % 128) a) refl refl
+  rme-written n f a len la = rme-both m (λ o e. Written m (memoryOf o) e) (λ f i j. written-none m _) n f a len (λ g.
+      let t : Found m n f (Model.inQ2 m n f) (queue m (r * 32 + 6)) = found m n f (queue m (r * 32 + 6)) (g .found) in
+      received-written (Model.inQ2 m n f) a (t .before) (t .behind) (sym q6 ∙ t .is) la (g .target) len)
     where
       q6 : queue m (r * 32 + 6) ≡ lists m (r * 32 + 6)
       q6 = mail-queue b r 6 hr (omega arith) (omega arith)
-
-      go : (u v : Bool) → eqb (Model.inQ2 m n f) 0 ≡ u → clear (3 + getD m (Model.inQ2 m n f * 32 + 2) 0 % 128) a ≡ v
-          → Written m (memoryOf (Model.rme m n f a len)) (rmeMail m n f a)
-      go true v e c = rw e (written-none m (memoryOf (Model.fault m 6)))
-      go false false e c = rw (e, c) (written-none m (memoryOf (Model.fault m 11)))
-      go false true e c =
-          let t : Found m n f (Model.inQ2 m n f) (queue m (r * 32 + 6)) = found m n f (queue m (r * 32 + 6)) (eqb-false (Model.inQ2 m n f) 0 e) in
-          rw (e, c) (received-written (Model.inQ2 m n f) a (t .before) (t .behind) (sym q6 ∙ t .is) la c len)
 
 -- ---- the address that RME names, direct or by EXI, is below 8,192 where words have 8 bits
 pub direct-address : (m : List ℕ) → Small m → (n c : ℕ) → c ≡ 6 → direct m n (shapeFor c) .address < 8192

@@ -14,6 +14,7 @@ use Rattle.model.specs.Lists.{count, Lists, sum, some, linkOf, uses, queues, is
 use Rattle.model.specs.Judge as Judge
 use Rattle.laws.specs.Count.{hit-self, hit-or, zero-or}
 use Rattle.laws.specs.Rules.{means, sound}
+use Rattle.laws.specs.Sentences.{sentences}
 use Rattle.laws.specs.Chain.{Page, Pages, chain-walk}
 use Rattle.laws.specs.Heads.{one, one-page, page-one, sum-pos, range1-at, Seat, seat-of}
 use Rattle.laws.specs.Heads.Seat.{line, page, own}
@@ -108,16 +109,17 @@ unfolding Judge.page Judge.list Judge.listed Judge.once Judge.usedOnce Judge.lab
 judge-inv m size e =
     let L = lists m in
     let ps = L 247 in
-    let t = sound (Judge.wellFormed bytes m ps L) e in
-    let o = once m ps L (t .0) (t .1 .0) in
-    let sp : Sep ps L = record { procs = refl; most = λ z. omega (arith, o z); waits = only m ps L (t .0) (t .1 .1 .1 .0) } in
+    let both = sentences (Judge.clock bytes m ps L) m ps L (sound (Judge.wellFormed bytes m ps L) e) in
+    let t = both .0 in
+    let o = once m ps L (t .listed) (t .usedOnce) in
+    let sp : Sep ps L = record { procs = refl; most = λ z. omega (arith, o z); waits = only m ps L (t .listed) (t .waitingBits) } in
     record {
       base = record {
         mem = record {
           size = size;
           holds = record {
             rep = λ a h.
-                let q = t .0 a (h .0) in
+                let q = t .listed a (h .0) in
                 let w = lists-walk m a (h .1) in
                 rw w (chain-walk 21 m (linkOf a) a (omega (arith, q .0, ap length w)) (rw w at (pages-of (L a) (q .1))));
             grant = λ k h. lists-some m (320 + k) (grant-is k h);
@@ -131,36 +133,36 @@ judge-inv m size e =
         facts = record {
           sep = sp;
           names = record {
-            differ = λ p h. t .1 .1 .0 p h .0;
-            range = λ p h. let q = t .1 .1 .0 p h in record { name = q .1 .0 .0; low = q .1 .1 .0; high = q .1 .1 .1 };
+            differ = λ p h. t .names p h .0;
+            range = λ p h. let q = t .names p h in record { name = q .1 .0 .0; low = q .1 .1 .0; high = q .1 .1 .1 };
           };
           seats = record {
-            bit = λ p h. t .1 .1 .1 .0 .0 p h;
-            zeros = t .1 .1 .1 .1 .1 .1 .1 .1 .1 .1 .1 .1 .1 .1 .0;
-            served = λ k i p h. t .1 .1 .1 .1 .0 .0 k i p h;
-            asking = λ p h. t .1 .1 .1 .1 .0 .1 .0 p h;
-            quiet = λ p h z. t .1 .1 .1 .1 .0 .1 .1 p h z;
+            bit = λ p h. t .waitingBits .0 p h;
+            zeros = t .zeros .0;
+            served = λ k i p h. t .reasons .0 k i p h;
+            asking = λ p h. t .reasons .1 .0 p h;
+            quiet = λ p h z. t .reasons .1 .1 p h z;
           };
-          own = λ p h x i. let q = t .1 .1 .1 .1 .1 .0 p h x i in record { owner = q .0; flag = q .1 .0; none = q .1 .1 };
-          sems = λ s h. sems m L (t .1 .1 .1 .1 .1 .1 .0 .0) (proc-page sp) (t .1 .1 .1 .1 .1 .1 .0 .1 .0) (t .1 .1 .1 .1 .1 .1 .0 .1 .1) s (seat-of ps s h);
-          granted = record { bare = λ p h. t .1 .1 .1 .1 .1 .1 .1 .0 p h; known = λ k h d n. t .1 .1 .1 .1 .1 .1 .1 .1 .0 k h n };
-          mail = λ p w h i j q c. of-rule (mail m ps L (t .1 .1 .1 .1 .1 .1 .1 .1 .1 .0) p w h i j q c);
+          own = λ p h x i. let q = t .messageWaits p h x i in record { owner = q .0; flag = q .1 .0; none = q .1 .1 };
+          sems = λ s h. sems m L (t .semaphores .0) (proc-page sp) (t .semaphores .1 .0) (t .semaphores .1 .1) s (seat-of ps s h);
+          granted = record { bare = λ p h. t .pageWaits p h; known = λ k h d n. t .granted k h n };
+          mail = λ p w h i j q c. of-rule (mail m ps L (t .messages) p w h i j q c);
           runs = record {
-            idle = t .1 .1 .1 .1 .1 .1 .1 .1 .1 .1 .0 .0;
-            listed = λ n. t .1 .1 .1 .1 .1 .1 .1 .1 .1 .1 .0 .1 .0 n .0;
-            tag = λ n. t .1 .1 .1 .1 .1 .1 .1 .1 .1 .1 .0 .1 .0 n .1 .0;
+            idle = t .running .0;
+            listed = λ n. t .running .1 .0 n .0;
+            tag = λ n. t .running .1 .0 n .1 .0;
           };
-          codes = let r = t .1 .1 .1 .1 .1 .1 .1 .1 .1 .1 .1 .0 in record { kinds = r .0; zero = r .1 .0; one = r .1 .1 .0; last = r .1 .1 .1 };
-          clock = let r = t .1 .1 .1 .1 .1 .1 .1 .1 .1 .1 .1 .1 .0 in record {
+          codes = let r = t .codes in record { kinds = r .0; zero = r .1 .0; one = r .1 .1 .0; last = r .1 .1 .1 };
+          clock = let r = both .1 in record {
             c0 = r .0 .0;
             c1 = r .0 .1 .0;
             c2 = r .0 .1 .1 .0;
             c3 = r .0 .1 .1 .1;
             divider = r .1 .0;
             line = r .1 .1;
-            nought = t .1 .1 .1 .1 .1 .1 .1 .1 .1 .1 .1 .1 .1 .1 .1;
+            nought = t .zeros .1;
           };
-          faults = let r = t .1 .1 .1 .1 .1 .1 .1 .1 .1 .1 .1 .1 .1 .0 in record {
+          faults = let r = t .faults in record {
             range = r .0;
             used = λ i h l. let q = r .1 i h .0 l in record { name = q .0; fault = q .1 };
             unused = λ i h l. r .1 i h .1 l;
@@ -168,5 +170,5 @@ judge-inv m size e =
         };
         all = λ z. omega (arith, o z);
       };
-      best = record { ready = λ n. t .1 .1 .1 .1 .1 .1 .1 .1 .1 .1 .0 .1 .0 n .1 .1; top = t .1 .1 .1 .1 .1 .1 .1 .1 .1 .1 .0 .1 .1 };
+      best = record { ready = λ n. t .running .1 .0 n .1 .1; top = t .running .1 .1 };
     }

@@ -1,14 +1,12 @@
 -- Instructions: CRP leaves a well-formed memory. Assumes nothing.
 use mathlib.Core.Path.{_≡_, refl, sym, ap, _∙_}
 use mathlib.Core.Logic.{_≢_}
-use mathlib.Core.Bool.{Bool, true, false}
 use mathlib.Core.List.{List, [], _∷_}
 use Prim.Native.Nat.{ℕ, _+_, _-_, _*_, _/_, _%_, _≤_, _<_}
 use native.Mathlib.Omega.{arith}
 use lib.ListN.{length, getD, set, length-set}
 use lib.Seq.{getD-set-same}
-use lib.Dec.{eqb}
-use borrow.Author.Tests.{eqb-true, eqb-false, ne-eqb}
+use borrow.Author.Tests.{eqb-false}
 use Rattle.model.specs.Processor as Processor
 use Rattle.model.specs.Operate as Operate
 use Rattle.model.specs.Bytes as Model
@@ -29,7 +27,8 @@ use Rattle.laws.specs.Grow.{grow-base}
 use Rattle.laws.specs.Start.{zeroed-size, zeroed-in}
 use Rattle.laws.specs.Who.{listed, Busy, busy}
 use Rattle.laws.specs.Ends.{Fine, done-fine}
-use Rattle.laws.specs.Simple.{fails}
+use Rattle.laws.specs.Ways.{crp-each, crp-page-each}
+use Rattle.laws.specs.Simple.{bad}
 use Rattle.laws.specs.Mails.{first-none, waits-for-page}
 
 -- ---- a name that nobody bears
@@ -161,24 +160,13 @@ module _ {m : List ℕ} (w : WellFormed m) (d : getD m 248 0 ≢ 0) where
   open Busy (busy w d) using (base as b, runs as hr)
 
   crp-page : (n r v a len : ℕ) → 1 ≤ n → n ≤ 15 → 1 ≤ r → r ≤ 15 → pageOf m n ≡ 0 → Fine (Model.crpPage m n r v a len)
-  unfolding Operate.crpPage
   crp-page n r v a len n1 n2 r1 r2 free = go (take-page (getD m 248 0) hr b)
     where
       go : Takes m (getD m 248 0) (lists m 247) (lists m) (view m) [] 32 → Fine (Model.crpPage m n r v a len)
       go (gets q m1 e z t k) =
           let c = created-base (t .base) n r v a n1 n2 r1 r2 (rw k (nobody b n free)) in
-          rw (e, ne-eqb q 0 z) (done-fine (c .base) len)
-      go (lacks e f2 g2) = rw e (waits-for-page w d f2 g2)
+          crp-page-each m Fine e n r v a len (λ y. absurd (z y)) (λ y. done-fine (c .base) len)
+      go (lacks e f2 g2) = crp-page-each m Fine e n r v a len (λ y. waits-for-page w d f2 g2) (λ y. absurd (y refl))
 
   pub crp-fine : (n r v a len : ℕ) → n < 16 → r < 16 → Fine (Model.crp m n r v a len)
-  unfolding Operate.crp
-  crp-fine n r v a len hn hr = go (eqb n 0) (eqb r 0) (eqb (pageOf m n) 0) refl refl refl
-    where
-      go : (x1 x2 x3 : Bool) → eqb n 0 ≡ x1 → eqb r 0 ≡ x2 → eqb (pageOf m n) 0 ≡ x3 → Fine (Model.crp m n r v a len)
-      go true x2 x3 e1 e2 e3 = rw e1 (fails w d 12 (omega arith) (omega arith))
-      go false true x3 e1 e2 e3 = rw (e1, e2) (fails w d 12 (omega arith) (omega arith))
-      go false false false e1 e2 e3 = rw (e1, e2, e3) (fails w d 9 (omega arith) (omega arith))
-      go false false true e1 e2 e3 =
-          let n1 = eqb-false n 0 e1 in
-          let r1 = eqb-false r 0 e2 in
-          rw (e1, e2, e3) (crp-page n r v a len (omega arith) (omega arith) (omega arith) (omega arith) (eqb-true (pageOf m n) 0 e3))
+  crp-fine n r v a len hn hr = crp-each (bad w d) n r v a len (λ g. crp-page n r v a len (g .name) (omega arith) (g .priority) (omega arith) (g .unnamed))

@@ -7,10 +7,9 @@ use mathlib.Core.List.{List, [], _∷_, _++_, append-assoc}
 use Prim.Native.Nat.{ℕ, zero, suc, _+_, _-_, _*_, _/_, _%_, _≤_, _<_}
 use native.Mathlib.Omega.{arith}
 use lib.ListN.{length, getD, set}
-use lib.Dec.{eqb, leb}
+use lib.Dec.{eqb}
 use borrow.Author.Tests.{eqb-true, eqb-false, eq-eqb, ne-eqb, leb-true}
 use Rattle.model.specs.Delete as Delete
-use Rattle.model.specs.Operate as Operate
 use Rattle.model.specs.Bytes as Model
 use Rattle.model.specs.Bytes.{lists, leave, giveBack, deliver, makeNotice, pageOf, returned, emptied, mailReturned, grantReturned, delete}
 use Rattle.model.specs.Lists.{count, Lists, some}
@@ -30,8 +29,9 @@ use Rattle.laws.specs.Grants.{Any, any-of, give-back, some-is}
 use Rattle.laws.specs.Post.{retold-letter, notice-only, notice-letter, notice-base}
 use Rattle.laws.specs.Still.{give-still, deliver-still}
 use Rattle.laws.specs.Leave.{Letters, Bag, unlisted-bag}
-use Rattle.laws.specs.Ends.{Fine, done-fine}
-use Rattle.laws.specs.Simple.{named-in, fails, st1-fine, stp-fine}
+use Rattle.laws.specs.Ends.{Fine, start-base, stop-base, done-fine}
+use Rattle.laws.specs.Ways.{named-each}
+use Rattle.laws.specs.Simple.{named-in, bad}
 use Rattle.laws.specs.Stores.{only-word}
 
 -- ---- one message returned: the words of the pages that stay in hand stay
@@ -283,24 +283,10 @@ delete-base {m} {W = W} p hp d b =
 module _ {m : List ℕ} (w : WellFormed m) (d : getD m 248 0 ≢ 0) where
   open Busy (busy w d) using (base as b, ready)
 
-  dep-fine : (p len : ℕ) → 1 ≤ count p (lists m 247) → Fine (Model.dep m p len)
-  unfolding Operate.dep
-  dep-fine p len h = go (leb 128 (getD m (p * 32 + 12) 0)) refl
-    where
-      go : (x : Bool) → leb 128 (getD m (p * 32 + 12) 0) ≡ x → Fine (Model.dep m p len)
-      go false e = rw e (fails w d 10 (omega arith) (omega arith))
-      go true e =
-          let l = leb-true 128 (getD m (p * 32 + 12) 0) e in
-          let n : getD m 248 0 ≢ p = λ q. (let c = ap (λ (y : ℕ). getD m (y * 32 + 12) 0) q in omega (arith, ready)) in
-          rw e (done-fine (delete-base p h n b .base) len)
-
   pub named-fine : (c n len : ℕ) → Fine (Model.named m c n len)
-  unfolding Operate.named Operate.onPage
-  named-fine c n len = go (eqb n 0) (eqb (pageOf m n) 0) (eqb c 8) (eqb c 9) refl refl refl refl
-    where
-      go : (x y z t : Bool) → eqb n 0 ≡ x → eqb (pageOf m n) 0 ≡ y → eqb c 8 ≡ z → eqb c 9 ≡ t → Fine (Model.named m c n len)
-      go true y z t e f j k = rw e (fails w d 12 (omega arith) (omega arith))
-      go false true z t e f j k = rw (e, f) (fails w d 7 (omega arith) (omega arith))
-      go false false true t e f j k = rw (e, f, j) (st1-fine w d (pageOf m n) len (named-in b n (eqb-false (pageOf m n) 0 f)))
-      go false false false true e f j k = rw (e, f, j, k) (stp-fine w d (pageOf m n) len (named-in b n (eqb-false (pageOf m n) 0 f)))
-      go false false false false e f j k = rw (e, f, j, k) (dep-fine (pageOf m n) len (named-in b n (eqb-false (pageOf m n) 0 f)))
+  named-fine c n len =
+      let p = pageOf m n in
+      named-each (bad w d) c n len (λ z. done-fine (start-base b p (named-in b n z)) len) (λ z. done-fine (stop-base b p (named-in b n z)) len) (λ g.
+      let l = leb-true 128 (getD m (pageOf m n * 32 + 12) 0) (g .stopped) in
+      let d : getD m 248 0 ≢ pageOf m n = λ q. (let c = ap (λ (y : ℕ). getD m (y * 32 + 12) 0) q in omega (arith, ready)) in
+      done-fine (delete-base (pageOf m n) (named-in b n (g .found)) d b .base) len)

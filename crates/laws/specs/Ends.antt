@@ -9,6 +9,7 @@ use native.Mathlib.Omega.{arith}
 use lib.ListN.{getD, set}
 use lib.Dec.{ltb}
 use borrow.Author.Tests.{ltb-true}
+use Rattle.model.specs.Map.{lastFault}
 use Rattle.model.specs.Fault as Fault
 use Rattle.model.specs.Answer as Answer
 use Rattle.model.specs.Answer.{memoryOf}
@@ -96,7 +97,7 @@ entered-base {m} {ps} {L} {W} {hs} {g} e t b = go (ltb (W .next) 32) refl
         )
     go false h = (W, rw (b .mem .reads .fixed .next, h) b)
 
-name-entry : (w f : ℕ) → Label w → 1 ≤ f → f ≤ 12 → Entry (w % 16 * 16 + f)
+name-entry : (w f : ℕ) → Label w → 1 ≤ f → f ≤ lastFault → Entry (w % 16 * 16 + f)
 name-entry w f l i j = record { name = (omega arith, omega arith); fault = (omega arith, omega arith) }
 
 -- ---- LR; page 0 has no LR, and where nobody runs nothing that is judged changes
@@ -134,7 +135,7 @@ module _ {m : List ℕ} {ps : List ℕ} {L : Lists} {W : View} (b : Base m ps L 
   unfolding Answer.jumps Answer.memoryOf
   jumps-fine a = well-formed (who-inv (lr-base b a) .1)
 
-  pub fault-fine : (f : ℕ) → W .low 248 ≢ 0 → 1 ≤ f → f ≤ 12 → Fine (fault m f)
+  pub fault-fine : (f : ℕ) → W .low 248 ≢ 0 → 1 ≤ f → f ≤ lastFault → Fine (fault m f)
   unfolding Fault.fault Answer.memoryOf
   fault-fine f n i j =
       let r = W .low 248 in

@@ -8,7 +8,7 @@ use Prim.Native.Nat.{ℕ, zero, suc, _+_, _-_, _*_, _/_, _%_, _≤_, _<_}
 use native.Mathlib.Omega.{arith}
 use lib.ListN.{length, getD, set}
 use lib.Dec.{eqb, ltb}
-use borrow.Author.Tests.{eqb-false, ne-eqb, ltb-false}
+use borrow.Author.Tests.{eqb-false, ne-eqb}
 use Rattle.model.specs.Interrupt as Interrupt
 use Rattle.model.specs.Operate as Operate
 use Rattle.model.specs.Bytes as Model
@@ -31,7 +31,8 @@ use Rattle.laws.specs.Wake.{wake-base, woken, woken-proc, seat-head, not
 use Rattle.laws.specs.Grants.{Gave}
 use Rattle.laws.specs.Who.{who-inv, Busy, busy}
 use Rattle.laws.specs.Ends.{Fine, done-fine, waits-fine, advance-base}
-use Rattle.laws.specs.Simple.{fails}
+use Rattle.laws.specs.Ways.{win-each}
+use Rattle.laws.specs.Simple.{bad}
 use Rattle.laws.specs.Waits.{line-fit}
 
 -- ---- a link along a chain
@@ -355,16 +356,6 @@ module _ {m : List ℕ} (w : WellFormed m) (d : getD m 248 0 ≢ 0) where
       done-fine (serve-base (getD m (getD m 248 0 * 32 + 7) 0 % 16) 0 (n .name) (omega arith) b .base) len
 
   pub win-fine : (k c len : ℕ) → c ≤ 255 → Fine (Model.win m k c len)
-  unfolding Operate.win
-  win-fine k c len u = go (eqb k 0) (ltb 54 k) (eqb c 0) refl refl refl
-    where
-      go : (x y z : Bool) → eqb k 0 ≡ x → ltb 54 k ≡ y → eqb c 0 ≡ z → Fine (Model.win m k c len)
-      go true y z e f g = rw e (fails w d 5 (omega arith) (omega arith))
-      go false true z e f g = rw (e, f) (fails w d 5 (omega arith) (omega arith))
-      go false false true e f g = rw (e, f, g) (fails w d 5 (omega arith) (omega arith))
-      go false false false e f g =
-          let k1 = eqb-false k 0 e in
-          let k2 = ltb-false 54 k f in
-          let c1 = eqb-false c 0 g in
-          rw (e, f, g) (waits-fine (advance-base b len) (129 + 2 * k) c d (seat k c (omega arith) k2 (lists m 247)) (omega (arith, ready))
-          (line-fit (b .facts .sep) k c (omega arith) k2 (omega arith) u))
+  win-fine k c len u = win-each (bad w d) k c len (λ g.
+      waits-fine (advance-base b len) (129 + 2 * k) c d (seat k c (g .low) (g .high) (lists m 247)) (omega (arith, ready))
+      (line-fit (b .facts .sep) k c (g .low) (g .high) (g .count) u))

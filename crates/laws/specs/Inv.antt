@@ -8,7 +8,7 @@ use Prim.Native.Nat.{ℕ, suc, _+_, _-_, _*_, _/_, _%_, _≤_, _<_}
 use lib.ListN.{length, getD}
 use lib.Dec.{eqb}
 use borrow.Author.Tests.{ne-eqb}
-use Rattle.model.specs.Map.{less}
+use Rattle.model.specs.Map.{less, lastFault}
 use Rattle.model.specs.Mail.{fits}
 use Rattle.model.specs.Lists.{count, Lists, sum, each-of, some, uses, queues}
 use Rattle.laws.specs.Chain.{Page}
@@ -148,7 +148,7 @@ pub record Clock (l : ℕ → ℕ) : Type 0 where
 -- "page 9 in range with names 1-15, faults 1-12, unused zero"
 pub record Entry (w : ℕ) : Type 0 where
   pub name : (1 ≤ w / 16) × (w / 16 ≤ 15)
-  pub fault : (1 ≤ w % 16) × (w % 16 ≤ 12)
+  pub fault : (1 ≤ w % 16) × (w % 16 ≤ lastFault)
 
 pub record Faults (n : ℕ) (e : ℕ → ℕ) : Type 0 where
   pub range : (1 ≤ n) × (n ≤ 32)

@@ -11,6 +11,7 @@ use Rattle.model.specs.Bytes.{lists, judged}
 use Rattle.model.specs.Lists.{count, Lists, sum, each-of, linkOf, uses, queues, isGrant}
 use Rattle.model.specs.Judge as Judge
 use Rattle.laws.specs.Count.{hit-self}
+use Rattle.laws.specs.Sentences.{together}
 use Rattle.laws.specs.Rules.{means, complete}
 use Rattle.laws.specs.Chain.{walk-chain}
 use Rattle.laws.specs.Heads.{page-one, sum-ext, range1-of}
@@ -167,53 +168,26 @@ module _ {m : List ℕ} {ps : List ℕ} {L : Lists} {W : View} (inv : Inv m ps L
       Judge.faults Judge.zeroBits Judge.zeros Judge.wellFormed
   passes =
       let f = facts-here i in
-      let u = f .sep in (
-        (λ a h. (list-short u a h, λ x j. listed a h x j)),
-        (
-          (λ z h. let r = range1-of 20 236 z h in omega (arith, u .most z, sums i z, i .all z, page-one z (r .0, omega arith))),
-          (
-            (λ p h. (f .names .differ p h, let l = f .names .range p h in ((l .name, omega arith), (l .low, l .high)))),
-            (
-              (f .seats .bit, λ z h. u .waits z),
-              (
-                (f .seats .served, (f .seats .asking, f .seats .quiet)),
-                (
-                  (λ p h x j. let t = f .own p h x j in (t .owner, (t .flag, t .none))),
-                  (
-                    (line-sem, (own-sem, f .sems 245 (omega (arith, asking-once u .here)) ∙ page-sem)),
-                    (
-                      f .granted .bare,
-                      (
-                        (λ k h n. f .granted .known k h (omega arith) n),
-                        (
-                          (λ p h. (
-                            λ q j. as-rule (f .mail p 5 h (omega arith) (omega arith) q j),
-                            λ q j. as-rule (f .mail p 6 h (omega arith)
-                                (omega arith) q j),
-                          )),
-                          (
-                            (f .runs .idle, ((λ n. (f .runs .listed n, (f .runs .tag n, best-here .ready n))), best-here .top)),
-                            (
-                              (f .codes .kinds, (f .codes .zero, (f .codes .one, f .codes .last))),
-                              (
-                                ((f .clock .c0, (f .clock .c1, (f .clock .c2, f .clock .c3))), (f .clock .divider, f .clock .line)),
-                                (
-                                  (f .faults .range, λ k h. ((λ l. let t = f .faults .used k h l in (t .name, t .fault)), f .faults .unused k h)),
-                                  (f .seats .zeros, f .clock .nought),
-                                ),
-                              ),
-                            ),
-                          ),
-                        ),
-                      ),
-                    ),
-                  ),
-                ),
-              ),
-            ),
-          ),
-        ),
-      )
+      let u = f .sep in
+      together (Judge.clock bytes m ps (lists m)) m ps (lists m) (record {
+        listed = λ a h. (list-short u a h, λ x j. listed a h x j);
+        usedOnce = λ z h. let r = range1-of 20 236 z h in omega (arith, u .most z, sums i z, i .all z, page-one z (r .0, omega arith));
+        names = λ p h. (f .names .differ p h, let l = f .names .range p h in ((l .name, omega arith), (l .low, l .high)));
+        waitingBits = (f .seats .bit, λ z h. u .waits z);
+        reasons = (f .seats .served, (f .seats .asking, f .seats .quiet));
+        messageWaits = λ p h x j. let t = f .own p h x j in (t .owner, (t .flag, t .none));
+        semaphores = (line-sem, (own-sem, f .sems 245 (omega (arith, asking-once u .here)) ∙ page-sem));
+        pageWaits = f .granted .bare;
+        granted = λ k h n. f .granted .known k h (omega arith) n;
+        messages = λ p h. (
+          λ q j. as-rule (f .mail p 5 h (omega arith) (omega arith) q j),
+          λ q j. as-rule (f .mail p 6 h (omega arith) (omega arith) q j),
+        );
+        running = (f .runs .idle, ((λ n. (f .runs .listed n, (f .runs .tag n, best-here .ready n))), best-here .top));
+        codes = (f .codes .kinds, (f .codes .zero, (f .codes .one, f .codes .last)));
+        faults = (f .faults .range, λ k h. ((λ l. let t = f .faults .used k h l in (t .name, t .fault)), f .faults .unused k h));
+        zeros = (f .seats .zeros, f .clock .nought);
+      }) ((f .clock .c0, (f .clock .c1, (f .clock .c2, f .clock .c3))), (f .clock .divider, f .clock .line))
     where
       listed : (a : ℕ) → Among ps a → (x : ℕ) → 1 ≤ count x (lists m a) → (236 ≤ x) × (x ≤ 255)
       listed a h x j = let r = all-pages (facts-here i .sep) a x h j in (r .0, omega arith)

@@ -4,8 +4,11 @@ pub mod Count
 pub mod Chain
 pub mod Queues
 pub mod Rules
+pub mod Sentences
 -- Words of 8 bits, on any memory
 pub mod Words
+-- The tests of each instruction, and its ways out
+pub mod Ways
 -- Which cells head a list, and that no page has two uses
 pub mod Heads
 pub mod Uses

@@ -6,8 +6,8 @@ use mathlib.Core.List.{List, [], _∷_, _++_}
 use Prim.Native.Nat.{ℕ, zero, suc, _+_, _-_, _*_, _/_, _%_, _≤_, _<_}
 use native.Mathlib.Omega.{arith}
 use lib.ListN.{length, getD, set, length-set}
-use lib.Dec.{eqb, ltb}
-use borrow.Author.Tests.{eqb-true, eqb-false, ne-eqb, ltb-false}
+use lib.Dec.{eqb}
+use borrow.Author.Tests.{eqb-false}
 use Rattle.model.specs.Address as Address
 use Rattle.model.specs.Address.{guarded, clear}
 use Rattle.model.specs.Queue as Queue
@@ -16,7 +16,7 @@ use Rattle.model.specs.Mail as Mail
 use Rattle.model.specs.Mail.{fits}
 use Rattle.model.specs.Operate as Operate
 use Rattle.model.specs.Bytes as Model
-use Rattle.model.specs.Bytes.{Step, lists, queue, pageOf, matches, move, testQ1, copy, copyOut}
+use Rattle.model.specs.Bytes.{lists, queue, pageOf, matches, move, testQ1, copy, copyOut}
 use Rattle.model.specs.Lists.{count, Lists}
 use Rattle.laws.specs.Count.{hit-self, hit-other, hit-or}
 use Rattle.laws.specs.Chain.{Page, Chain, walk-chain, split-at-page}
@@ -34,9 +34,10 @@ use Rattle.laws.specs.Grants.Takes.{gets, lacks}
 use Rattle.laws.specs.Post.{notice-base, message-base}
 use Rattle.laws.specs.Who.{Busy, busy, running-same, label-in}
 use Rattle.laws.specs.Ends.{Fine, done-fine, jumps-fine, waits-fine}
-use Rattle.laws.specs.Simple.{first-in, named-in, fails, Open, clear-open}
+use Rattle.laws.specs.Ways.{sme-each, sent-each, wnm-each, rme-each, tme-each}
+use Rattle.laws.specs.Simple.{first-in, named-in, bad, Open, clear-open}
 use Rattle.laws.specs.Waits.{Fit, page-fit}
-use Rattle.laws.specs.Words.{Tried, test-kept, either}
+use Rattle.laws.specs.Words.{Tried, test-kept}
 
 -- ---- a search along a list
 pub first-none : (f : ℕ → Bool) (xs : List ℕ) → ((x : ℕ) → 1 ≤ count x xs → x ≢ 0) → first f xs ≡ 0 → (x : ℕ) → 1 ≤ count x xs → f x ≡ false
@@ -171,30 +172,15 @@ module _ {m : List ℕ} (w : WellFormed m) (d : getD m 248 0 ≢ 0) where
           (eqb-false (pageOf m1 n) 0 e)) .base) len)
 
   sent-fine : (n f a l len : ℕ) → 1 ≤ n → n ≤ 15 → 1 ≤ f → f ≤ 7 → l ≤ 29 → Fine (Model.sent m n f a l len)
-  unfolding Operate.sent
   sent-fine n f a l len n1 n2 f1 f2 l2 = go (take-page r hr b)
     where
       go : Takes m r (lists m 247) (lists m) (view m) [] 32 → Fine (Model.sent m n f a l len)
-      go (gets q m1 e z t k) = rw (e, ne-eqb q 0 z) (posted-fine n f a l len q m1 n1 n2 f1 f2 l2 t)
-      go (lacks e f2 g2) = rw e (waits-for-page f2 g2)
+      go (gets q m1 e z t k) = sent-each m Fine e n f a l len (λ y. absurd (z y)) (λ y. posted-fine n f a l len q m1 n1 n2 f1 f2 l2 t)
+      go (lacks e f2 g2) = sent-each m Fine e n f a l len (λ y. waits-for-page f2 g2) (λ y. absurd (y refl))
 
   pub sme-fine : (n f a len : ℕ) → n < 16 → f < 8 → Fine (Model.sme m n f a len)
-  unfolding Operate.sme Operate.smeText
   sme-fine n f a len hn hf =
-      go (eqb n 0) (eqb f 0) (guarded a) (ltb 29 (getD m a 0)) (clear (getD m a 0) ((a + 1) % 8192)) refl refl refl refl refl
-    where
-      go : (x1 x2 x3 x4 x5 : Bool) → eqb n 0 ≡ x1 → eqb f 0 ≡ x2 → guarded a ≡ x3 → ltb 29 (getD m a 0) ≡ x4 → clear (getD m a 0) ((a + 1) % 8192) ≡ x5
-          → Fine (Model.sme m n f a len)
-      go true x2 x3 x4 x5 e1 e2 e3 e4 e5 = rw e1 (fails w d 12 (omega arith) (omega arith))
-      go false true x3 x4 x5 e1 e2 e3 e4 e5 = rw (e1, e2) (fails w d 12 (omega arith) (omega arith))
-      go false false true x4 x5 e1 e2 e3 e4 e5 = rw (e1, e2, e3) (fails w d 11 (omega arith) (omega arith))
-      go false false false true x5 e1 e2 e3 e4 e5 = rw (e1, e2, e3, e4) (fails w d 12 (omega arith) (omega arith))
-      go false false false false false e1 e2 e3 e4 e5 = rw (e1, e2, e3, e4, e5) (fails w d 11 (omega arith) (omega arith))
-      go false false false false true e1 e2 e3 e4 e5 =
-          let n1 = eqb-false n 0 e1 in
-          let f1 = eqb-false f 0 e2 in
-          let l1 = ltb-false 29 (getD m a 0) e4 in
-          rw (e1, e2, e3, e4, e5) (sent-fine n f a (getD m a 0) len (omega arith) (omega arith) (omega arith) (omega arith) (omega arith))
+      sme-each (bad w d) n f a len (λ g. sent-fine n f a (getD m a 0) len (g .name) (omega arith) (g .flag) (omega arith) (g .length))
 
   -- what a search in Q1 or Q2 of the running one gives
   found-in : (k n f : ℕ) → 5 ≤ k → k ≤ 6 → first (matches m n f) (queue m (r * 32 + k)) ≢ 0
@@ -226,15 +212,9 @@ module _ {m : List ℕ} (w : WellFormed m) (d : getD m 248 0 ≢ 0) where
           rw t (record { owner = refl; flag = omega arith; none = λ q h. rw (c1, c2) (none z q h) })
 
   pub wnm-fine : (n f len : ℕ) → f < 8 → Fine (Model.wnm m n f len)
-  unfolding Operate.wnm
-  wnm-fine n f len hf = go (eqb (Model.inQ1 m n f) 0) refl
-    where
-      go : (c : Bool) → eqb (Model.inQ1 m n f) 0 ≡ c → Fine (Model.wnm m n f len)
-      go true e =
-          rw e (waits-fine b (r * 32 + 3) (n * 16 + f) d (own-sem (b .facts .sep) r hr) idle (wnm-fit n f hf (eqb-true (Model.inQ1 m n f) 0 e)))
-      go false e =
-          let z = eqb-false (Model.inQ1 m n f) 0 e in
-          rw e (done-fine (move-base r (Model.inQ1 m n f) hr (found-in 5 n f (omega arith) (omega arith) z) b .1) len)
+  wnm-fine n f len hf =
+      wnm-each m Fine n f len (λ z. waits-fine b (r * 32 + 3) (n * 16 + f) d (own-sem (b .facts .sep) r hr) idle (wnm-fit n f hf z))
+      (λ z. done-fine (move-base r (Model.inQ1 m n f) hr (found-in 5 n f (omega arith) (omega arith) z) b .1) len)
 
   received-fine : (q a len : ℕ) → 1 ≤ count q (lists m (r * 32 + 6)) → clear (3 + getD m (q * 32 + 2) 0 % 128) a ≡ true
       → Fine (Model.done (Model.received m q a) len)
@@ -245,26 +225,10 @@ module _ {m : List ℕ} (w : WellFormed m) (d : getD m 248 0 ≢ 0) where
       done-fine (give-back (take-mail b1 r 6 q (t .0) (t .1) hr (omega arith) (omega arith) (t .2)) .base) len
 
   pub rme-fine : (n f a len : ℕ) → Fine (Model.rme m n f a len)
-  unfolding Operate.rme
   rme-fine n f a len =
-      go (eqb (Model.inQ2 m n f) 0) (clear (3 + getD m (Model.inQ2 m n f * 32 + 2) 0 % 128) a) refl refl
-    where
-      go : (x y : Bool) → eqb (Model.inQ2 m n f) 0 ≡ x → clear (3 + getD m (Model.inQ2 m n f * 32 + 2) 0 % 128) a ≡ y → Fine (Model.rme m n f a len)
-      go true y e c = rw e (fails w d 6 (omega arith) (omega arith))
-      go false false e c = rw (e, c) (fails w d 11 (omega arith) (omega arith))
-      go false true e c =
-          rw (e, c) (received-fine (Model.inQ2 m n f) a len (found-in 6 n f (omega arith) (omega arith) (eqb-false (Model.inQ2 m n f) 0 e)) c)
-
-  tested-fine : (n f a len : ℕ) → Fine (Model.tmeQ1 m n f a len)
-  unfolding Operate.tmeQ1
-  tested-fine n f a len =
-      let t = test-base r n f hr b in
-      rw (t .is) (either (λ (o : Step). Fine o) (t .found) (jumps-fine (t .kept .1) a) (done-fine (t .kept .1) len))
+      rme-each (bad w d) n f a len (λ g. received-fine (Model.inQ2 m n f) a len (found-in 6 n f (omega arith) (omega arith) (g .found)) (g .target))
 
   pub tme-fine : (n f a len : ℕ) → Fine (Model.tme m n f a len)
-  unfolding Operate.tme
-  tme-fine n f a len = go (eqb (Model.inQ2 m n f) 0) refl
-    where
-      go : (c : Bool) → eqb (Model.inQ2 m n f) 0 ≡ c → Fine (Model.tme m n f a len)
-      go true e = rw e (tested-fine n f a len)
-      go false e = rw e (jumps-fine b a)
+  tme-fine n f a len =
+      let t = test-base r n f hr b in
+      tme-each m Fine n f a len (t .is) (jumps-fine (t .kept .1) a) (done-fine (t .kept .1) len) (jumps-fine b a)

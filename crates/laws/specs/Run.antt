@@ -75,7 +75,7 @@ pointed-bound m s c e = record {
 -- ---- of a well-formed memory where someone runs
 pub fetched-fine : {m : List ℕ} → WellFormed m → getD m 248 0 ≢ 0 → Small m → (n : ℕ) → Fine (fetched m n)
 unfolding Answer.memoryOf
-fetched-fine {m} w d s = fetched-each {B = Bound} {P = Fine} (record {
+fetched-fine {m} w d s = fetched-each {B = Bound} Fine (record {
   direct = direct-bound m s;
   pointed = pointed-bound m s;
   fault = fails w d;
@@ -83,14 +83,16 @@ fetched-fine {m} w d s = fetched-each {B = Bound} {P = Fine} (record {
   refused = w;
   cvi = λ x len b. cvi-fine w d (x .field) (x .address) len (b .field);
   dvi = λ x len b. dvi-fine w d (x .field) len (b .field);
-  gin = gin-fine w d;
+  gin = λ x len b. gin-fine w d len;
   win = λ x len b. win-fine w d (x .interrupt) (x .count) len (b .count refl);
   sme = λ x len b. sme-fine w d (x .field) (x .second) (x .address) len (b .field) (b .send refl);
   wnm = λ x len b. wnm-fine w d (x .field) (x .second) len (b .wait refl);
-  rme = rme-fine w d;
-  tme = tme-fine w d;
-  named = named-fine w d;
-  st2 = st2-fine w d;
+  rme = λ x len b. rme-fine w d (x .field) (x .second) (x .address) len;
+  tme = λ x len b. tme-fine w d (x .field) (x .second) (x .address) len;
+  st1 = λ x len b. named-fine w d 8 (x .field) len;
+  stp = λ x len b. named-fine w d 9 (x .field) len;
+  st2 = λ x len b. st2-fine w d (x .field) (x .address) len;
   crp = λ x len b. crp-fine w d (x .field) (x .second) (x .w) (x .address) len (b .field) (b .create refl);
-  thirteen = thirteen-fine w d;
+  dep = λ x len b. named-fine w d 12 (x .field) len;
+  thirteen = λ x len b. thirteen-fine w d (x .field) (x .second) (x .address) len;
 })

@@ -8,9 +8,9 @@ use Prim.Native.Nat.{ℕ, zero, suc, _+_, _-_, _*_, _/_, _%_, _≤_, _<_}
 use native.Mathlib.Omega.{arith}
 use lib.ListN.{getD, set}
 use lib.Dec.{eqb, ltb, leb}
-use borrow.Author.Tests.{eqb-true, eqb-false, ltb-true, ltb-false, leb-false}
+use borrow.Author.Tests.{eqb-true, ltb-true, ltb-false, leb-false}
 use Rattle.model.specs.declared.Registers.{Registers}
-use Rattle.model.specs.Map.{threeFlags}
+use Rattle.model.specs.Map.{threeFlags, lastFault}
 use Rattle.model.specs.Address as Address
 use Rattle.model.specs.Address.{guarded}
 use Rattle.model.specs.Queue as Queue
@@ -19,7 +19,7 @@ use Rattle.model.specs.Processor as Processor
 use Rattle.model.specs.Instruction as Instruction
 use Rattle.model.specs.Operate as Operate
 use Rattle.model.specs.Bytes as Model
-use Rattle.model.specs.Bytes.{lists, pageOf, isNamed, setCode, setRegistersOf}
+use Rattle.model.specs.Bytes.{pageOf, isNamed, setCode, setRegistersOf}
 use Rattle.model.specs.Lists.{count, Lists}
 use Rattle.laws.specs.Count.{hit-self, hit-or}
 use Rattle.laws.specs.Uses.{proc-page}
@@ -30,7 +30,8 @@ use Rattle.laws.specs.Views.{put1, put1-same, put1-other, withCode}
 use Rattle.laws.specs.Stores.{code-mem}
 use Rattle.laws.specs.Changes.{facts-code}
 use Rattle.laws.specs.Who.{listed, Busy, busy}
-use Rattle.laws.specs.Ends.{Fine, stop-base, start-base, state-base, lr-kept, quiet-run, run-page, done-fine, jumps-fine, fault-fine}
+use Rattle.laws.specs.Ways.{Faults, cvi-each, dvi-each, st2-each, thirteen-each, reaches-each}
+use Rattle.laws.specs.Ends.{Fine, start-base, state-base, lr-kept, quiet-run, run-page, done-fine, jumps-fine, fault-fine}
 
 -- ---- one of a list of things, by its number
 abbrev pub Each : {A : Type 0} → (A → Type 0) → ℕ → ℕ → List A → Type 0
@@ -158,60 +159,31 @@ code-base {W = W} c k a l u o b = record {
 module _ {m : List ℕ} (w : WellFormed m) (d : getD m 248 0 ≢ 0) where
   open Busy (busy w d) using (base as b, runs as hr, ready)
 
-  pub fails : (f : ℕ) → 1 ≤ f → f ≤ 12 → Fine (Model.fault m f)
+  pub fails : (f : ℕ) → 1 ≤ f → f ≤ lastFault → Fine (Model.fault m f)
   fails f h j = fault-fine b f d h j
+
+  pub bad : Faults m Fine
+  bad = record { all = fails }
 
   -- what is quiet may change before the end
   pub kept-done : {m′ : List ℕ} (n : ℕ) → Kept m m′ → Fine (Model.done m′ n)
   kept-done n k = done-fine (base-kept k b) n
 
   pub cvi-fine : (c a n : ℕ) → c < 16 → Fine (Model.cvi m c a n)
-  unfolding Operate.cvi
-  cvi-fine c a n l = go (eqb (getD m (256 + 2 * c) 0 / 32) 0) refl
-    where
-      go : (x : Bool) → eqb (getD m (256 + 2 * c) 0 / 32) 0 ≡ x → Fine (Model.cvi m c a n)
-      go false e = rw e (fails 3 (omega arith) (omega arith))
-      go true e =
-          let z = eqb-true (getD m (256 + 2 * c) 0 / 32) 0 e in
-          let k = b .facts .codes in
-          let n0 : c ≢ 0 = λ q. (let t = ap (λ (y : ℕ). getD m (256 + 2 * y) 0 / 32) q in omega (arith, k .zero)) in
-          let n1 : c ≢ 1 = λ q. (let t = ap (λ (y : ℕ). getD m (256 + 2 * y) 0 / 32) q in omega (arith, k .one)) in
-          rw e (done-fine (code-base c 2 a (omega arith) l (inr refl) b) n)
+  cvi-fine c a n l = cvi-each bad c a n (λ z.
+      let k = b .facts .codes in
+      let n0 : c ≢ 0 = λ q. (let t = ap (λ (y : ℕ). getD m (256 + 2 * y) 0 / 32) q in omega (arith, k .zero)) in
+      let n1 : c ≢ 1 = λ q. (let t = ap (λ (y : ℕ). getD m (256 + 2 * y) 0 / 32) q in omega (arith, k .one)) in
+      done-fine (code-base c 2 a (omega arith) l (inr refl) b) n)
 
   pub dvi-fine : (c n : ℕ) → c < 16 → Fine (Model.dvi m c n)
-  unfolding Operate.dvi
-  dvi-fine c n l = go (ltb c 2) (eqb (getD m (256 + 2 * c) 0 / 32) 0) refl refl
-    where
-      go : (x y : Bool) → ltb c 2 ≡ x → eqb (getD m (256 + 2 * c) 0 / 32) 0 ≡ y → Fine (Model.dvi m c n)
-      go true y e f = rw e (fails 4 (omega arith) (omega arith))
-      go false true e f = rw (e, f) (fails 1 (omega arith) (omega arith))
-      go false false e f = let h = ltb-false c 2 e in rw (e, f) (done-fine (code-base c 0 0 (omega arith) l (inl refl) b) n)
-
-  pub st1-fine : (p n : ℕ) → 1 ≤ count p (lists m 247) → Fine (Model.st1 m p n)
-  unfolding Operate.st1
-  st1-fine p n h = done-fine (start-base b p h) n
-
-  pub stp-fine : (p n : ℕ) → 1 ≤ count p (lists m 247) → Fine (Model.stp m p n)
-  unfolding Operate.stp
-  stp-fine p n h = done-fine (stop-base b p h) n
-
-  st2-found : (p a n : ℕ) → 1 ≤ count p (lists m 247) → Fine (Model.st2Found m p a n)
-  unfolding Operate.st2Found
-  st2-found p a n h = go (leb 128 (getD m (p * 32 + 12) 0)) (eqb (getD m (p * 32 + 12) 0 % 128 / 64) 0) refl refl
-    where
-      go : (x y : Bool) → leb 128 (getD m (p * 32 + 12) 0) ≡ x → eqb (getD m (p * 32 + 12) 0 % 128 / 64) 0 ≡ y → Fine (Model.st2Found m p a n)
-      go false y e f = rw e (fails 8 (omega arith) (omega arith))
-      go true false e f = rw (e, f) (fails 8 (omega arith) (omega arith))
-      go true true e f = rw (e, f) (done-fine (start-base (base-kept (lr-kept m p a (λ z. proc-page (b .facts .sep) p h)) b) p h) n)
+  dvi-fine c n l = dvi-each bad c n (λ h. done-fine (code-base c 0 0 h l (inl refl) b) n)
 
   pub st2-fine : (n a len : ℕ) → Fine (Model.st2 m n a len)
-  unfolding Operate.st2
-  st2-fine n a len = go (eqb n 0) (eqb (pageOf m n) 0) refl refl
-    where
-      go : (x y : Bool) → eqb n 0 ≡ x → eqb (pageOf m n) 0 ≡ y → Fine (Model.st2 m n a len)
-      go true y e f = rw e (fails 12 (omega arith) (omega arith))
-      go false true e f = rw (e, f) (fails 7 (omega arith) (omega arith))
-      go false false e f = rw (e, f) (st2-found (pageOf m n) a len (named-in b n (eqb-false (pageOf m n) 0 f)))
+  st2-fine n a len = st2-each bad n a len (λ g.
+      let p = pageOf m n in
+      let h = named-in b n (g .found) in
+      done-fine (start-base (base-kept (lr-kept m p a (λ z. proc-page (b .facts .sep) p h)) b) p h) len)
 
   -- ---- code 13
   reg : (k v : ℕ) (m′ : List ℕ) → 8 ≤ k → k < 12 → Kept m m′ → Kept m (set m′ (getD m 248 0 * 32 + k) v)
@@ -230,33 +202,13 @@ module _ {m : List ℕ} (w : WellFormed m) (d : getD m 248 0 ≢ 0) where
         ),
       ) k
 
-  reaches-fine : (o a n : ℕ) → Fine (Model.reaches m o a n)
-  unfolding Operate.reaches Operate.returnTo
-  reaches-fine o a n = go (eqb o 5) (eqb o 4) (guarded a) refl refl refl
-    where
-      go : (x y z : Bool) → eqb o 5 ≡ x → eqb o 4 ≡ y → guarded a ≡ z → Fine (Model.reaches m o a n)
-      go true y z e f g =
-          rw e (jumps-fine (base-kept (kept-set 6 _ (quiet-low 6 (omega arith)) (kept-set 5 _ (quiet-low 5 (omega arith)) (kept-refl m))) b) a)
-      go false true z e f g = rw (e, f) (jumps-fine b a)
-      go false false true e f g = rw (e, f, g) (fails 11 (omega arith) (omega arith))
-      go false false false e f g = rw (e, f, g) (kept-done n (worked-kept o a g))
-
-  follows-fine : (x o a n : ℕ) → Fine (Model.follows m x o a n)
-  unfolding Operate.follows
-  follows-fine x o a n = go (eqb x 0) (Address.clear 2 a) refl refl
-    where
-      go : (y z : Bool) → eqb x 0 ≡ y → Address.clear 2 a ≡ z → Fine (Model.follows m x o a n)
-      go true z e f = rw e (reaches-fine o a n)
-      go false false e f = rw (e, f) (fails 11 (omega arith) (omega arith))
-      go false true e f = rw (e, f) (reaches-fine o (Model.addressAt m a) n)
+  returns-kept : (n : ℕ) → Kept m (Model.returnTo m n)
+  unfolding Operate.returnTo
+  returns-kept n = kept-set 6 _ (quiet-low 6 (omega arith)) (kept-set 5 _ (quiet-low 5 (omega arith)) (kept-refl m))
 
   pub thirteen-fine : (x o a n : ℕ) → Fine (Model.thirteen m x o a n)
-  unfolding Operate.thirteen
-  thirteen-fine x o a n = go (ltb 5 o) refl
-    where
-      go : (y : Bool) → ltb 5 o ≡ y → Fine (Model.thirteen m x o a n)
-      go true e = rw e (fails 12 (omega arith) (omega arith))
-      go false e = rw e (follows-fine (x / 8) o (Model.indexed m (x % 8) a) n)
+  thirteen-fine x o a n = thirteen-each bad x o a n (λ e.
+      reaches-each bad o e n (jumps-fine (base-kept (returns-kept _) b) e) (jumps-fine b e) (λ g. kept-done n (worked-kept o e g)))
 
   -- ---- setting registers: the running one stays ready
   low-bits : (u x : ℕ) → u % 64 / 16 ≡ 0 → ((u / 16 * 16 + x % 16) % 128 / 64 ≡ u % 128 / 64) × ((u / 16 * 16 + x % 16) % 64 / 16 ≡ 0)

@@ -10,7 +10,7 @@ use lib.ListN.{length, getD, set, length-set, length-replicate}
 use lib.Seq.{getD-set-same, getD-set-other}
 use Rattle.model.specs.Store.{Store, bytes, trees, tget, tput, tzero, getT, putT, sizeT}
 use Rattle.model.specs.Same.{trees-is-bytes}
-use Rattle.model.specs.Rule.{Rule, both, holds, all, every}
+use Rattle.model.specs.Rule.{Rule, most, holds, all, every}
 use Rattle.model.specs.Address as Address
 use Rattle.model.specs.Queue as Queue
 use Rattle.model.specs.Processor as Processor
@@ -22,28 +22,16 @@ use Rattle.model.specs.Fresh as Fresh
 use Rattle.model.specs.Bytes.{lists, zeroed, cleared, firstProcessor, chained, allBuiltIn, started}
 use Rattle.laws.specs.Count.{hit-or}
 use Rattle.laws.specs.Rules.{sound, complete}
+use Rattle.laws.specs.Sentences.{rules, sentences, together}
 use Rattle.laws.specs.Judged.{WellFormed}
 use Rattle.laws.specs.Frames.{Kept, kept-keeps}
 
--- the judge's rules but the clock's
+-- the judge's rules, but for the clock's
+abbrev other : Rule
+other = most 0 0
+
 rest : (S : Store) → S .M → Rule
-rest S m =
-    let L = Lists.lists S m in
-    let ps = L 247 in
-    both (Judge.listed S m ps L)
-    (both (Judge.usedOnce S m ps L)
-    (both (Judge.names S m ps L)
-    (both (Judge.waitingBits S m ps L)
-    (both (Judge.reasons S m ps L)
-    (both (Judge.messageWaits S m ps L)
-    (both (Judge.semaphores S m ps L)
-    (both (Judge.pageWaits S m ps L)
-    (both (Judge.granted S m ps L)
-    (both (Judge.messages S m ps L)
-    (both (Judge.running S m ps L)
-    (both (Judge.codes S m ps L)
-    (both (Judge.faults S m ps L)
-    (Judge.zeros S m ps L)))))))))))))
+rest S m = rules S other m (Lists.lists S m 247) (Lists.lists S m)
 
 -- what is computed, with the line and the divider open
 pub record Computed (line divider : ℕ) (S : Store) : Type 0 where
@@ -98,55 +86,13 @@ zeros-fresh line divider h =
     let c = computed line divider in
     let m = started (bytes .zeros) line divider in
     let L = lists m in
-    let t = sound (rest bytes m) (c .rules) in
+    let t = sentences other m (L 247) L (sound (rest bytes m) (c .rules)) .0 in
     record {
       size = c .size;
-      accepted = complete (Judge.wellFormed bytes m (L 247) L) (
-        t .0,
-        (
-          t .1 .0,
-          (
-            t .1 .1 .0,
-            (
-              t .1 .1 .1 .0,
-              (
-                t .1 .1 .1 .1 .0,
-                (
-                  t .1 .1 .1 .1 .1 .0,
-                  (
-                    t .1 .1 .1 .1 .1 .1 .0,
-                    (
-                      t .1 .1 .1 .1 .1 .1 .1 .0,
-                      (
-                        t .1 .1 .1 .1 .1 .1 .1 .1 .0,
-                        (
-                          t .1 .1 .1 .1 .1 .1 .1 .1 .1 .0,
-                          (
-                            t .1 .1 .1 .1 .1 .1 .1 .1 .1 .1 .0,
-                            (
-                              t .1 .1 .1 .1 .1 .1 .1 .1 .1 .1 .1 .0,
-                              (
-                                (
-                                  (omega (arith, c .at240, c .at251), (omega (arith, c .at241), (omega (arith, c .at242), omega (arith, c .at243)))),
-                                  ((omega (arith, c .at251), omega (arith, c .at251)), (omega (arith, c .at239), omega (arith, c .at239))),
-                                ),
-                                (
-                                  t .1 .1 .1 .1 .1 .1 .1 .1 .1 .1 .1 .1 .0,
-                                  t .1 .1 .1 .1 .1 .1 .1 .1 .1 .1 .1 .1 .1,
-                                ),
-                              ),
-                            ),
-                          ),
-                        ),
-                      ),
-                    ),
-                  ),
-                ),
-              ),
-            ),
-          ),
-        ),
-      );
+      accepted = complete (Judge.wellFormed bytes m (L 247) L) (together (Judge.clock bytes m (L 247) L) m (L 247) L t (
+        (omega (arith, c .at240, c .at251), (omega (arith, c .at241), (omega (arith, c .at242), omega (arith, c .at243)))),
+        ((omega (arith, c .at251), omega (arith, c .at251)), (omega (arith, c .at239), omega (arith, c .at239))),
+      ));
     }
 
 -- ---- two memories that hold the same where the judge looks
