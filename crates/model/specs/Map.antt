@@ -186,67 +186,67 @@ abbrev pub interrupts : ℕ
 interrupts = 54
 
 abbrev pub semaphoreOf : ℕ → ℕ
-semaphoreOf k = 129 + 2 * k
+semaphoreOf k = place 4 1 + 2 * k
 
 abbrev pub headerOf : ℕ → ℕ
-headerOf k = 130 + 2 * k
+headerOf k = place 4 2 + 2 * k
 
 -- the same of interrupt i + 1, for counting from 0
 abbrev pub semaphoreAfter : ℕ → ℕ
-semaphoreAfter i = 131 + 2 * i
+semaphoreAfter i = place 4 3 + 2 * i
 
 abbrev pub headerAfter : ℕ → ℕ
-headerAfter i = 132 + 2 * i
+headerAfter i = place 4 4 + 2 * i
 
 -- ---- "On page 7: 15 clock line, 16-19 counters C0-C3"
 abbrev pub clockLine : ℕ
-clockLine = 239
+clockLine = place 7 15
 
 abbrev pub c0 : ℕ
-c0 = 240
+c0 = place 7 16
 
 abbrev pub c1 : ℕ
-c1 = 241
+c1 = place 7 17
 
 abbrev pub c2 : ℕ
-c2 = 242
+c2 = place 7 18
 
 abbrev pub c3 : ℕ
-c3 = 243
+c3 = place 7 19
 
 -- "20 free list, 21 its semaphore, 22 queue waiting for a page"
 abbrev pub freeList : ℕ
-freeList = 244
+freeList = place 7 20
 
 abbrev pub freeSemaphore : ℕ
-freeSemaphore = 245
+freeSemaphore = place 7 21
 
 abbrev pub pageQueue : ℕ
-pageQueue = 246
+pageQueue = place 7 22
 
 -- "23 processor list, 24 running page (0: idle), 25 running priority and name (0: idle)"
 abbrev pub processorList : ℕ
-processorList = 247
+processorList = place 7 23
 
 abbrev pub runningPage : ℕ
-runningPage = 248
+runningPage = place 7 24
 
 abbrev pub runningLabel : ℕ
-runningLabel = 249
+runningLabel = place 7 25
 
 -- "26 zero, 27 divider"
 abbrev pub zeroWord : ℕ
-zeroWord = 250
+zeroWord = place 7 26
 
 abbrev pub divider : ℕ
-divider = 251
+divider = place 7 27
 
 -- ---- "Page 8: code c at words 2c, 2c+1"; a code has four bits; the last has no instruction of its own
 abbrev pub codeWord : ℕ → ℕ
-codeWord c = 256 + 2 * c
+codeWord c = place 8 0 + 2 * c
 
 abbrev pub codeLow : ℕ → ℕ
-codeLow c = 257 + 2 * c
+codeLow c = place 8 1 + 2 * c
 
 abbrev pub allCodes : ℕ
 allCodes = 16
@@ -256,13 +256,13 @@ builtInCodes = 15
 
 -- ---- "Page 9: word 0 is the first unused word, 1-32"; entry i, counting from 1, and entry i + 1
 abbrev pub firstUnused : ℕ
-firstUnused = 288
+firstUnused = place 9 0
 
 abbrev pub entryAt : ℕ → ℕ
-entryAt i = 288 + i
+entryAt i = place 9 0 + i
 
 abbrev pub entryAfter : ℕ → ℕ
-entryAfter i = 289 + i
+entryAfter i = place 9 1 + i
 
 abbrev pub entries : ℕ
 entries = 31
@@ -272,13 +272,13 @@ entriesFull = 32
 
 -- ---- "Page 10, word k: page granted to processor k, or 0"
 abbrev pub grants : ℕ
-grants = 320
+grants = place 10 0
 
 abbrev pub grantsEnd : ℕ
-grantsEnd = 352
+grantsEnd = place 11 0
 
 abbrev pub grantFor : ℕ → ℕ
-grantFor k = 320 + k
+grantFor k = place 10 0 + k
 
 -- ---- "Pages 236-255: the control pages"
 abbrev pub firstControl : ℕ
