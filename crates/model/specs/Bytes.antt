@@ -38,8 +38,17 @@ Memory = bytes .M
 abbrev pub Step : Type 0
 Step = Answer.Step bytes
 
+abbrev pub refusal : Memory → ℕ
+refusal = Call.refusal bytes
+
+abbrev pub head : {A : Type 0} → Memory → (ℕ → A) → Outcome A Memory → Outcome A Memory
+head = Call.head bytes
+
 abbrev pub fresh : Memory → ℕ → ℕ → Step
 fresh = Call.fresh bytes
+
+abbrev pub instructionJudged : Memory → Step
+instructionJudged = Call.instructionJudged bytes
 
 abbrev pub instruction : Memory → Step
 instruction = Call.instruction bytes
@@ -49,6 +58,9 @@ interruptJudged = Call.interruptJudged bytes
 
 abbrev pub interrupt : Memory → ℕ → ℕ → Step
 interrupt = Call.interrupt bytes
+
+abbrev pub readJudged : Memory → Outcome Held Memory
+readJudged = Call.readJudged bytes
 
 abbrev pub readRegisters : Memory → Outcome Held Memory
 readRegisters = Call.readRegisters bytes
@@ -218,11 +230,14 @@ gin = Operate.gin bytes
 abbrev pub win : Memory → ℕ → ℕ → ℕ → Step
 win = Operate.win bytes
 
-abbrev pub posted : Memory → ℕ → ℕ → ℕ → ℕ → ℕ → Memory
-posted = Operate.posted bytes
-
 abbrev pub waitsForPage : Memory → Step
 waitsForPage = Operate.waitsForPage bytes
+
+abbrev pub withPage : Memory → (ℕ → Memory → Memory) → ℕ → Step
+withPage = Operate.withPage bytes
+
+abbrev pub posted : Memory → ℕ → ℕ → ℕ → ℕ → ℕ → Memory
+posted = Operate.posted bytes
 
 abbrev pub sent : Memory → ℕ → ℕ → ℕ → ℕ → ℕ → Step
 sent = Operate.sent bytes

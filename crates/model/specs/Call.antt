@@ -4,7 +4,7 @@ use Prim.Native.Nat.{ℕ}
 use mathlib.Core.Bool.{Bool, true, false, cond}
 use lib.Dec.{eqb, ltb}
 use Rattle.model.specs.declared.Registers.{Registers}
-use Rattle.model.specs.declared.Answer.the-variants.{Done}
+use Rattle.model.specs.declared.Answer.the-variants.{Done, Refused}
 use Rattle.model.specs.declared.Held.{Held}
 use Rattle.model.specs.declared.Held.the-variants as Held
 use Rattle.model.specs.declared.Verdict.{Verdict}
@@ -29,6 +29,17 @@ unfoldable pub isClass : ℕ → ℕ → Bool
 isClass k c = cond (ltb lastClass c) false (cond (ltb k firstClassed) (eqb c 0) true)
 
 module _ (S : Store) where
+  -- ---- "20 length not 8,192; 21 not well-formed (not for fresh)": what refuses a call before anything else is looked at; 0: nothing
+  unfoldable pub refusal : S .M → ℕ
+  refusal m =
+      unless (eqb (S .size m) memorySize) wrongLength
+      (unless (judged S m) illFormed
+      0)
+
+  -- the head of every call but fresh: refused with that number, by its own answer, else it goes on
+  unfoldable pub head : {A : Type 0} → S .M → (ℕ → A) → Outcome A (S .M) → Outcome A (S .M)
+  head m refuses goes = cond (eqb (refusal m) 0) goes (gives (refuses (refusal m)) m)
+
   -- ---- "fresh start": 20, then 26
   unfoldable pub fresh : S .M → ℕ → ℕ → Step S
   fresh m line d =
@@ -37,12 +48,13 @@ module _ (S : Store) where
       (gives Done (started S m line d)))
 
   -- ---- "one virtual instruction by the running processor": 20, 21, 22, then from the word at LR on
+  unfoldable pub instructionJudged : S .M → Step S
+  instructionJudged m =
+      cond (eqb (running S m) 0) (refused S m idle)
+      (fetched S m (lr S m))
+
   unfoldable pub instruction : S .M → Step S
-  instruction m =
-      unless (eqb (S .size m) memorySize) (refused S m wrongLength)
-      (unless (judged S m) (refused S m illFormed)
-      (cond (eqb (running S m) 0) (refused S m idle)
-      (fetched S m (lr S m))))
+  instruction m = head m Refused (instructionJudged m)
 
   -- ---- "delivery of an interrupt": 20, 21, 24, 25
   unfoldable pub interruptJudged : S .M → ℕ → ℕ → Step S
@@ -52,18 +64,16 @@ module _ (S : Store) where
       (gives Done (whoRuns S (delivered S m k c))))
 
   unfoldable pub interrupt : S .M → ℕ → ℕ → Step S
-  interrupt m k c =
-      unless (eqb (S .size m) memorySize) (refused S m wrongLength)
-      (unless (judged S m) (refused S m illFormed)
-      (interruptJudged m k c))
+  interrupt m k c = head m Refused (interruptJudged m k c)
 
   -- ---- "reading .. the running processor's registers": 20, 21, 22
+  unfoldable pub readJudged : S .M → Outcome Held (S .M)
+  readJudged m =
+      cond (eqb (running S m) 0) (gives (Held.Refused idle) m)
+      (gives (Held.Has (registersOf S m (running S m))) m)
+
   unfoldable pub readRegisters : S .M → Outcome Held (S .M)
-  readRegisters m =
-      unless (eqb (S .size m) memorySize) (gives (Held.Refused wrongLength) m)
-      (unless (judged S m) (gives (Held.Refused illFormed) m)
-      (cond (eqb (running S m) 0) (gives (Held.Refused idle) m)
-      (gives (Held.Has (registersOf S m (running S m))) m)))
+  readRegisters m = head m Held.Refused (readJudged m)
 
   -- ---- "setting the running processor's registers": 20, 21, 22, 26
   unfoldable pub setJudged : S .M → Registers → Step S
@@ -73,14 +83,8 @@ module _ (S : Store) where
       (gives Done (setRegistersOf S m (running S m) r)))
 
   unfoldable pub setRegisters : S .M → Registers → Step S
-  setRegisters m r =
-      unless (eqb (S .size m) memorySize) (refused S m wrongLength)
-      (unless (judged S m) (refused S m illFormed)
-      (setJudged m r))
+  setRegisters m r = head m Refused (setJudged m r)
 
   -- ---- "a judge of well-formed memory": 20, 21
   unfoldable pub judge : S .M → Outcome Verdict (S .M)
-  judge m =
-      unless (eqb (S .size m) memorySize) (gives (Verdict.Refused wrongLength) m)
-      (unless (judged S m) (gives (Verdict.Refused illFormed) m)
-      (gives Verdict.WellFormed m))
+  judge m = head m Verdict.Refused (gives Verdict.WellFormed m)

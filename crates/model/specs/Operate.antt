@@ -50,6 +50,17 @@ module _ (S : Store) where
       (cond (eqb c 0) (fault S m badWait)
       (waits S (advance S m len) (semaphoreOf k) c)))
 
+  -- ---- SME and CRP: "with none, they wait in the page queue, LR staying"
+  unfoldable pub waitsForPage : S .M → Step S
+  waitsForPage m = waits S m freeSemaphore 0
+
+  -- "SME and CRP use the page granted to them, else the first free one": what is done with page q in hand is `goes q`
+  unfoldable pub withPage : S .M → (ℕ → S .M → S .M) → ℕ → Step S
+  withPage m goes len = to (takePage S m (running S m))
+    where
+      to : Taken (S .M) → Step S
+      to (took q m₁) = cond (eqb q 0) (waitsForPage m₁) (done S (goes q m₁) len)
+
   -- ---- SME: "text length at A, text from A+1, to processor NI"; "If NI doesn't exist, a notice with NI as sender and the same flag, no text
   -- written, joins the sender's own Q1." Page q is in hand, l is the length
   unfoldable pub posted : S .M → ℕ → ℕ → ℕ → ℕ → ℕ → S .M
@@ -57,16 +68,9 @@ module _ (S : Store) where
       cond (eqb (pageOf S m n) 0) (deliver S (makeNotice S m q n f) (running S m) q)
       (deliver S (writeMessage S m q f (wrapped a 1) l) (pageOf S m n) q)
 
-  -- "with none, they wait in the page queue, LR staying"
-  unfoldable pub waitsForPage : S .M → Step S
-  waitsForPage m = waits S m freeSemaphore 0
-
   -- "wait for a page last"
   unfoldable pub sent : S .M → ℕ → ℕ → ℕ → ℕ → ℕ → Step S
-  sent m n f a l len = to (takePage S m (running S m))
-    where
-      to : Taken (S .M) → Step S
-      to (took q m₁) = cond (eqb q 0) (waitsForPage m₁) (done S (posted m₁ q n f a l) len)
+  sent m n f a l len = withPage m (λ q m₁. posted m₁ q n f a l) len
 
   -- "SME 11 at A, 12, 11 at text"
   unfoldable pub smeText : S .M → ℕ → ℕ → ℕ → ℕ → Step S
@@ -161,10 +165,7 @@ module _ (S : Store) where
   created m q n b w a = join S (headed (zeroed S pageSize m (place q link)) q n b w a) processorList listLink q
 
   unfoldable pub crpPage : S .M → ℕ → ℕ → ℕ → ℕ → ℕ → Step S
-  crpPage m n b w a len = to (takePage S m (running S m))
-    where
-      to : Taken (S .M) → Step S
-      to (took q m₁) = cond (eqb q 0) (waitsForPage m₁) (done S (created m₁ q n b w a) len)
+  crpPage m n b w a len = withPage m (λ q m₁. created m₁ q n b w a) len
 
   unfoldable pub crp : S .M → ℕ → ℕ → ℕ → ℕ → ℕ → Step S
   crp m n b w a len =
