@@ -86,12 +86,12 @@ module _ (S : Store) where
 
 at-trees : Seen trees
 unfolding writes
-    Call.fresh Call.instruction Address.guarded Address.clear Address.copy Address.zeroed Queue.first Queue.walk Queue.cellOf Queue.join
+    Call.refusal Call.head Call.fresh Call.instructionJudged Call.instruction Address.guarded Address.clear Address.copy Address.zeroed Queue.first Queue.walk Queue.cellOf Queue.join
     Queue.leave Processor.isNamed Processor.setLr Processor.advance
     Processor.setFlagsLr Processor.setRegistersOf Processor.handBack Instruction.directCounted Instruction.directCreating
     Instruction.direct Operate.cvi
     Operate.dvi Operate.gin
-    Operate.win Operate.posted Operate.waitsForPage Operate.sent Operate.smeText Operate.sme Operate.wnm Operate.received Operate.rme
+    Operate.win Operate.posted Operate.waitsForPage Operate.withPage Operate.sent Operate.smeText Operate.sme Operate.wnm Operate.received Operate.rme
     Wait.enqueue Wait.unqueue Wait.putToWait Wait.wake
     Page.takeFree Page.firstFree Page.takePage Page.freePage Page.grantPage Page.giveBack Mail.asks Mail.fits Mail.matches Mail.awaits
     Mail.heard Mail.deliver Mail.writeMessage Mail.makeNotice Mail.move Mail.copyOut

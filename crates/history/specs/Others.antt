@@ -20,7 +20,7 @@ use Rattle.model.specs.Bytes.{lists, fresh, interrupt, readRegisters, setRegist
 use Rattle.laws.specs.Uses.{Sep, proc-page}
 use Rattle.laws.specs.Inv.{view, Base}
 use Rattle.laws.specs.Judged.{invariant}
-use Rattle.laws.specs.Calls.{Sound, well, Host, outer-of, guarded-low, guarded-high, read-same, judge-same}
+use Rattle.laws.specs.Calls.{Sound, well, Host, outer-of, guarded-low, guarded-high, unrefused, read-same, judge-same}
 use Rattle.history.specs.Letter.{Ours, Same}
 use Rattle.history.specs.Letter.Ours.{mail, first, next}
 use Rattle.history.specs.Put.{nothing}
@@ -44,25 +44,25 @@ module _ {m : List ℕ} (h : Sound m) where
   stays-told = calm-told m (calm-refl m)
 
   pub interrupt-told : (k c : ℕ) → Told m (memoryOf (interrupt m k c)) nothing
-  unfolding Call.interrupt Call.interruptJudged Answer.memoryOf
+  unfolding Call.head Call.interrupt Call.interruptJudged Answer.memoryOf
   interrupt-told k c = go (isOuter k) (isClass k c) refl refl
     where
       go : (x y : Bool) → isOuter k ≡ x → isClass k c ≡ y → Told m (memoryOf (interrupt m k c)) nothing
-      go false y e f = rw (size-is, h .accepted, e) stays-told
-      go true false e f = rw (size-is, h .accepted, e, f) stays-told
+      go false y e f = rw (unrefused h, e) stays-told
+      go true false e f = rw (unrefused h, e, f) stays-told
       go true true e f =
           let a = outer-of k e in
-          rw (size-is, h .accepted, e, f) (calm-told (whoRuns (delivered m k c)) (calm-interrupt k c (omega (arith, a)) (omega (arith, a)) b))
+          rw (unrefused h, e, f) (calm-told (whoRuns (delivered m k c)) (calm-interrupt k c (omega (arith, a)) (omega (arith, a)) b))
 
   pub set-told : (r : Registers) → Told m (memoryOf (setRegisters m r)) nothing
-  unfolding Call.setRegisters Call.setJudged Answer.memoryOf
+  unfolding Call.head Call.setRegisters Call.setJudged Answer.memoryOf
   set-told r = go (eqb (getD m 248 0) 0) (inRange r) refl refl
     where
       go : (x y : Bool) → eqb (getD m 248 0) 0 ≡ x → inRange r ≡ y → Told m (memoryOf (setRegisters m r)) nothing
-      go true y e f = rw (size-is, h .accepted, e) stays-told
-      go false false e f = rw (size-is, h .accepted, e, f) stays-told
+      go true y e f = rw (unrefused h, e) stays-told
+      go false false e f = rw (unrefused h, e, f) stays-told
       go false true e f =
-          rw (size-is, h .accepted, e, f) (calm-told (setRegistersOf m (getD m 248 0) r) (registers-calm (well h) (eqb-false (getD m 248 0) 0 e) r))
+          rw (unrefused h, e, f) (calm-told (setRegistersOf m (getD m 248 0) r) (registers-calm (well h) (eqb-false (getD m 248 0) 0 e) r))
 
   pub read-told : Told m (memoryOf (readRegisters m)) nothing
   read-told = rw (read-same h) stays-told

@@ -4,15 +4,15 @@ use Prim.Native.Nat.{ℕ, zero, suc, _+_, _-_}
 use mathlib.Core.Bool.{Bool, true, false, cond}
 use mathlib.Core.List.{List, [], _∷_, _++_}
 use lib.Dec.{eqb, ltb}
-use lib.ListN.{length, getD}
+use lib.ListN.{getD}
 use Rattle.model.specs.declared.Arguments.{Arguments}
-use Rattle.model.specs.Map.{memorySize, place, longest, headWords, q1, q2}
+use Rattle.model.specs.Map.{place, longest, headWords, q1, q2}
 use Rattle.model.specs.Address.{unless, wrapped, guarded, clear}
 use Rattle.model.specs.Page.{Taken}
 use Rattle.model.specs.Page.Taken.{took}
 use Rattle.model.specs.Instruction.{firstWord, lengthFor, shapeFor, builtIn}
 use Rattle.model.specs.Bytes.{at, queue, running, name, pageOf, takePage, inQ2, lengthOf, sender, flag, isNotice, stopped, kind, isForeign, argumentFault}
-use Rattle.model.specs.Bytes.{pointed, direct, indexed, codeAt, judged, lr}
+use Rattle.model.specs.Bytes.{pointed, direct, indexed, codeAt, refusal, lr}
 use Rattle.history.specs.Letter.{Letter, words, mailOf}
 
 -- messages, each with the page of a processor
@@ -117,10 +117,9 @@ fetchedMail m n =
 -- ---- the call
 unfoldable pub mailed : List ℕ → Mailed
 mailed m =
-    unless (eqb (length m) memorySize) nothing
-    (unless (judged m) nothing
+    unless (eqb (refusal m) 0) nothing
     (cond (eqb (running m) 0) nothing
-    (fetchedMail m (lr m))))
+    (fetchedMail m (lr m)))
 
 abbrev pub puts : List ℕ → Log
 puts m = mailed m .puts

@@ -12,17 +12,19 @@ use Rattle.model.specs.declared.Registers.{Registers}
 use Rattle.model.specs.Address as Address
 use Rattle.model.specs.Address.{guarded}
 use Rattle.model.specs.Answer as Answer
-use Rattle.model.specs.Answer.{memoryOf}
+use Rattle.model.specs.Answer.{Outcome, memoryOf}
+use Rattle.model.specs.Answer.Outcome.{gives}
 use Rattle.model.specs.Fresh as Fresh
 use Rattle.model.specs.Fresh.{startable}
 use Rattle.model.specs.Call as Call
 use Rattle.model.specs.Call.{isOuter, isClass}
 use Rattle.model.specs.Processor.{inRange}
+use Rattle.model.specs.Bytes as Model
 use Rattle.model.specs.Bytes.{fresh, instruction, interrupt, readRegisters, setRegisters, judge, judged, lr}
 use Rattle.laws.specs.Judged.{WellFormed}
 use Rattle.laws.specs.Frames.{Kept, kept-keeps}
 use Rattle.laws.specs.Start.{Args, started-well}
-use Rattle.laws.specs.Words.{Small, small-started, small-delivered, small-turn, small-registers}
+use Rattle.laws.specs.Words.{either, Small, small-started, small-delivered, small-turn, small-registers}
 use Rattle.laws.specs.Simple.{registers-well}
 use Rattle.laws.specs.Interrupts.{delivered-well}
 use Rattle.laws.specs.Run.{fetched-fine}
@@ -81,10 +83,21 @@ class-of k c h = go (ltb 31 c) refl
     go true e = let d = rw e at h in let z : _≡_ {A = ℕ} 0 1 = cc in absurd (omega arith)
     go false e = let a = ltb-false 31 c e in omega arith
 
+-- ---- the head of a call: a refusal, on the memory as it was, or what the call does
+pub head-each : {A : Type 0} (P : Outcome A (List ℕ) → Type 0) (m : List ℕ) (refuses : ℕ → A) (o : Outcome A (List ℕ)) → ((k : ℕ) → P (gives (refuses k) m)) → P o
+    → P (Model.head m refuses o)
+unfolding Call.head
+head-each P m refuses o h k = either P (eqb (Model.refusal m) 0) k (h (Model.refusal m))
+
 -- ---- the calls
 module _ {m : List ℕ} (h : Sound m) where
   size-is : eqb (length m) 8192 ≡ true
   size-is = eq-eqb (length m) 8192 (h .size)
+
+  -- nothing refuses it from the start
+  pub unrefused : Model.refusal m ≡ 0
+  unfolding Call.refusal
+  unrefused = rw (size-is, h .accepted)
 
   pub fresh-sound : (line d : ℕ) → Sound (memoryOf (fresh m line d))
   unfolding Call.fresh Answer.memoryOf
@@ -95,49 +108,49 @@ module _ {m : List ℕ} (h : Sound m) where
       go false e = rw (size-is, e) h
 
   pub instruction-sound : Sound (memoryOf (instruction m))
-  unfolding Call.instruction Answer.memoryOf
+  unfolding Call.head Call.instruction Call.instructionJudged Answer.memoryOf
   instruction-sound = go (eqb (getD m 248 0) 0) refl
     where
       go : (c : Bool) → eqb (getD m 248 0) 0 ≡ c → Sound (memoryOf (instruction m))
-      go true e = rw (size-is, h .accepted, e) h
+      go true e = rw (unrefused, e) h
       go false e =
           let n = eqb-false (getD m 248 0) 0 e in
-          rw (size-is, h .accepted, e) (sound (fetched-fine (well h) n (h .small) (lr m)) (fetched-tiny (h .small) (lr m)))
+          rw (unrefused, e) (sound (fetched-fine (well h) n (h .small) (lr m)) (fetched-tiny (h .small) (lr m)))
 
   pub interrupt-sound : (k c : ℕ) → Sound (memoryOf (interrupt m k c))
-  unfolding Call.interrupt Call.interruptJudged Answer.memoryOf
+  unfolding Call.head Call.interrupt Call.interruptJudged Answer.memoryOf
   interrupt-sound k c = go (isOuter k) (isClass k c) refl refl
     where
       go : (x y : Bool) → isOuter k ≡ x → isClass k c ≡ y → Sound (memoryOf (interrupt m k c))
-      go false y e f = rw (size-is, h .accepted, e) h
-      go true false e f = rw (size-is, h .accepted, e, f) h
+      go false y e f = rw (unrefused, e) h
+      go true false e f = rw (unrefused, e, f) h
       go true true e f =
           let a = outer-of k e in
-          rw (size-is, h .accepted, e, f)
+          rw (unrefused, e, f)
           (sound (delivered-well k c (omega (arith, a)) (omega (arith, a)) (well h)) (small-turn (small-delivered (h .small) k c
           (omega (arith, class-of k c f)))))
 
   pub set-sound : (r : Registers) → Sound (memoryOf (setRegisters m r))
-  unfolding Call.setRegisters Call.setJudged Answer.memoryOf
+  unfolding Call.head Call.setRegisters Call.setJudged Answer.memoryOf
   set-sound r = go (eqb (getD m 248 0) 0) (inRange r) refl refl
     where
       go : (x y : Bool) → eqb (getD m 248 0) 0 ≡ x → inRange r ≡ y → Sound (memoryOf (setRegisters m r))
-      go true y e f = rw (size-is, h .accepted, e) h
-      go false false e f = rw (size-is, h .accepted, e, f) h
+      go true y e f = rw (unrefused, e) h
+      go false false e f = rw (unrefused, e, f) h
       go false true e f =
-          rw (size-is, h .accepted, e, f) (sound (registers-well (well h) (eqb-false (getD m 248 0) 0 e) r) (small-registers (h .small) (getD m 248 0) r))
+          rw (unrefused, e, f) (sound (registers-well (well h) (eqb-false (getD m 248 0) 0 e) r) (small-registers (h .small) (getD m 248 0) r))
 
   pub read-same : memoryOf (readRegisters m) ≡ m
-  unfolding Call.readRegisters Answer.memoryOf
+  unfolding Call.head Call.readRegisters Call.readJudged Answer.memoryOf
   read-same = go (eqb (getD m 248 0) 0) refl
     where
       go : (c : Bool) → eqb (getD m 248 0) 0 ≡ c → memoryOf (readRegisters m) ≡ m
-      go true e = rw (size-is, h .accepted, e)
-      go false e = rw (size-is, h .accepted, e)
+      go true e = rw (unrefused, e)
+      go false e = rw (unrefused, e)
 
   pub judge-same : memoryOf (judge m) ≡ m
-  unfolding Call.judge Answer.memoryOf
-  judge-same = rw (size-is, h .accepted)
+  unfolding Call.head Call.judge Answer.memoryOf
+  judge-same = rw unrefused
 
 -- ---- the host: page 0, and what is not protected
 pub record Host (m m′ : List ℕ) : Type 0 where

@@ -29,7 +29,7 @@ use Rattle.model.specs.Bytes.{Step, fresh, instruction, interrupt, readRegister
 use Rattle.laws.specs.Words.{either}
 use Rattle.laws.specs.Kinds.{Kind, fetched-kind}
 use Rattle.laws.specs.Kinds.Kind.{done, waits, handed, faulted, refused}
-use Rattle.laws.specs.Calls.{Sound}
+use Rattle.laws.specs.Calls.{Sound, head-each, unrefused}
 
 -- ---- a refusal with number k leaves the memory m
 abbrev pub Kept : List ℕ → ℕ → Step → Type 0
@@ -64,10 +64,10 @@ kind-kept m k o (faulted f i j e) q = absurd (no (rw e at q))
 kind-kept m k o (refused j l e) q = rw e
 
 pub instruction-kept : (m : List ℕ) (k : ℕ) → Kept m k (instruction m)
-unfolding Call.instruction
+unfolding Call.instruction Call.instructionJudged
 instruction-kept m k =
-    either (Kept m k) (eqb (length m) 8192) (either (Kept m k) (judged m) (either (Kept m k) (eqb (getD m 248 0) 0) (same m k 22)
-    (kind-kept m k (Model.fetched m (lr m)) (fetched-kind m (lr m)))) (same m k 21)) (same m k 20)
+    head-each (Kept m k) m Refused _ (same m k) (either (Kept m k) (eqb (getD m 248 0) 0) (same m k 22)
+    (kind-kept m k (Model.fetched m (lr m)) (fetched-kind m (lr m))))
 
 pub fresh-kept : (m : List ℕ) (line d k : ℕ) → Kept m k (fresh m line d)
 unfolding Call.fresh
@@ -77,14 +77,14 @@ fresh-kept m line d k =
 pub interrupt-kept : (m : List ℕ) (n c k : ℕ) → Kept m k (interrupt m n c)
 unfolding Call.interrupt Call.interruptJudged
 interrupt-kept m n c k =
-    either (Kept m k) (eqb (length m) 8192) (either (Kept m k) (judged m) (either (Kept m k) (isOuter n) (either (Kept m k) (isClass n c)
-    (changed m (Model.whoRuns (Model.delivered m n c)) k) (same m k 25)) (same m k 24)) (same m k 21)) (same m k 20)
+    head-each (Kept m k) m Refused _ (same m k) (either (Kept m k) (isOuter n) (either (Kept m k) (isClass n c)
+    (changed m (Model.whoRuns (Model.delivered m n c)) k) (same m k 25)) (same m k 24))
 
 pub set-kept : (m : List ℕ) (r : Registers) (k : ℕ) → Kept m k (setRegisters m r)
 unfolding Call.setRegisters Call.setJudged
 set-kept m r k =
-    either (Kept m k) (eqb (length m) 8192) (either (Kept m k) (judged m) (either (Kept m k) (eqb (getD m 248 0) 0) (same m k 22)
-    (either (Kept m k) (inRange r) (changed m (Model.setRegistersOf m (getD m 248 0) r) k) (same m k 26))) (same m k 21)) (same m k 20)
+    head-each (Kept m k) m Refused _ (same m k) (either (Kept m k) (eqb (getD m 248 0) 0) (same m k 22)
+    (either (Kept m k) (inRange r) (changed m (Model.setRegistersOf m (getD m 248 0) r) k) (same m k 26)))
 
 -- ---- an instruction that faults is the one step, on the memory as it was
 abbrev pub Faulted : List ℕ → ℕ → ℕ → Step → Type 0
@@ -121,23 +121,23 @@ kind-fault m f n o (refused j l e) q = absurd (no (rw e at q))
     no q = let z : _≡_ {A = ℕ} 0 1 = cc in omega arith
 
 pub instruction-faults : (m : List ℕ) (f n : ℕ) → Faulted m f n (instruction m)
-unfolding Call.instruction
+unfolding Call.instruction Call.instructionJudged
 instruction-faults m f n =
-    either (Faulted m f n) (eqb (length m) 8192) (either (Faulted m f n) (judged m) (either (Faulted m f n) (eqb (getD m 248 0) 0) (not-fault m f n 22)
-    (kind-fault m f n (Model.fetched m (lr m)) (fetched-kind m (lr m)))) (not-fault m f n 21)) (not-fault m f n 20)
+    head-each (Faulted m f n) m Refused _ (not-fault m f n) (either (Faulted m f n) (eqb (getD m 248 0) 0) (not-fault m f n 22)
+    (kind-fault m f n (Model.fetched m (lr m)) (fetched-kind m (lr m))))
 
 -- reading and judging never write
 pub read-kept : (m : List ℕ) → memoryOf (readRegisters m) ≡ m
-unfolding Call.readRegisters Answer.memoryOf
+unfolding Call.readRegisters Call.readJudged Answer.memoryOf
 read-kept m =
     let P : Answer.Outcome Held (List ℕ) → Type 0 = λ o. memoryOf o ≡ m in
-    either P (eqb (length m) 8192) (either P (judged m) (either P (eqb (getD m 248 0) 0) refl refl) refl) refl
+    head-each P m Held.Refused _ (λ k. refl) (either P (eqb (getD m 248 0) 0) refl refl)
 
 pub judge-kept : (m : List ℕ) → memoryOf (judge m) ≡ m
 unfolding Call.judge Answer.memoryOf
 judge-kept m =
     let P : Answer.Outcome Verdict (List ℕ) → Type 0 = λ o. memoryOf o ≡ m in
-    either P (eqb (length m) 8192) (either P (judged m) refl refl) refl
+    head-each P m Verdict.Refused _ (λ k. refl) refl
 
 -- ---- a well-formed memory is not refused with 21
 abbrev pub Never : Step → Type 0
@@ -182,9 +182,9 @@ module _ {m : List ℕ} (h : Sound m) where
   size-is = eq-eqb (length m) 8192 (h .size)
 
   pub instruction-never : Never (instruction m)
-  unfolding Call.instruction
+  unfolding Call.head Call.instruction Call.instructionJudged
   instruction-never =
-      rw (size-is, h .accepted) (either Never (eqb (getD m 248 0) 0) (other-number m 22 (omega arith)) (kind-never m (Model.fetched m (lr m))
+      rw (unrefused h) (either Never (eqb (getD m 248 0) 0) (other-number m 22 (omega arith)) (kind-never m (Model.fetched m (lr m))
       (fetched-kind m (lr m))))
 
   pub fresh-never : (line d : ℕ) → Never (fresh m line d)
@@ -192,23 +192,23 @@ module _ {m : List ℕ} (h : Sound m) where
   fresh-never line d = rw size-is (either Never (startable line d) (a-done (Model.started m line d)) (other-number m 26 (omega arith)))
 
   pub interrupt-never : (n c : ℕ) → Never (interrupt m n c)
-  unfolding Call.interrupt Call.interruptJudged
+  unfolding Call.head Call.interrupt Call.interruptJudged
   interrupt-never n c =
-      rw (size-is, h .accepted) (either Never (isOuter n) (either Never (isClass n c) (a-done (Model.whoRuns (Model.delivered m n c))) (other-number m 25
+      rw (unrefused h) (either Never (isOuter n) (either Never (isClass n c) (a-done (Model.whoRuns (Model.delivered m n c))) (other-number m 25
       (omega arith)))
       (other-number m 24 (omega arith)))
 
   pub set-never : (r : Registers) → Never (setRegisters m r)
-  unfolding Call.setRegisters Call.setJudged
+  unfolding Call.head Call.setRegisters Call.setJudged
   set-never r =
-      rw (size-is, h .accepted) (either Never (eqb (getD m 248 0) 0) (other-number m 22 (omega arith))
+      rw (unrefused h) (either Never (eqb (getD m 248 0) 0) (other-number m 22 (omega arith))
       (either Never (inRange r) (a-done (Model.setRegistersOf m (getD m 248 0) r)) (other-number m 26 (omega arith))))
 
   pub read-never : answerOf (readRegisters m) ≢ Held.Refused 21
-  unfolding Call.readRegisters Answer.answerOf
+  unfolding Call.head Call.readRegisters Call.readJudged Answer.answerOf
   read-never =
       let P : Answer.Outcome Held (List ℕ) → Type 0 = λ o. answerOf o ≢ Held.Refused 21 in
-      rw (size-is, h .accepted) (either P (eqb (getD m 248 0) 0) idle has)
+      rw (unrefused h) (either P (eqb (getD m 248 0) 0) idle has)
     where
       idle : Held.Refused 22 ≢ Held.Refused 21
       idle e = let z : _≡_ {A = ℕ} 22 21 = cc in omega arith
@@ -217,5 +217,5 @@ module _ {m : List ℕ} (h : Sound m) where
       has e = let z : _≡_ {A = ℕ} 0 1 = cc in omega arith
 
   pub judge-accepts : answerOf (judge m) ≡ Verdict.WellFormed
-  unfolding Call.judge Answer.answerOf
-  judge-accepts = rw (size-is, h .accepted)
+  unfolding Call.head Call.judge Answer.answerOf
+  judge-accepts = rw (unrefused h)
