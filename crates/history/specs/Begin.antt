@@ -6,6 +6,7 @@ use mathlib.Core.List.{List, [], _∷_}
 use Prim.Native.Nat.{ℕ, _≤_}
 use native.Mathlib.Omega.{arith}
 use lib.ListN.{length}
+use Rattle.model.specs.Map.{firstControl, memorySize, processorList}
 use Rattle.model.specs.Store.{Store, bytes, trees, tget, tput, tzero, getT, putT, sizeT}
 use Rattle.model.specs.Same.{trees-is-bytes}
 use Rattle.model.specs.Address as Address
@@ -30,7 +31,7 @@ use Rattle.history.specs.Letter.{waitingFor}
 
 -- what is computed, from zeros, with the line and the divider open
 record Empty (line divider : ℕ) (S : Store) : Type 0 where
-  procs : Queue.processors S (Fresh.started S (S .zeros) line divider) ≡ 236 ∷ []
+  procs : Queue.processors S (Fresh.started S (S .zeros) line divider) ≡ firstControl ∷ []
   first : Queue.queue S (Fresh.started S (S .zeros) line divider) 7557 ≡ []
   second : Queue.queue S (Fresh.started S (S .zeros) line divider) 7558 ≡ []
 
@@ -42,35 +43,35 @@ at-trees line divider = record { procs = refl; first = refl; second = refl }
 computed : (line divider : ℕ) → Empty line divider bytes
 computed line divider = subst (λ (S : Store). Empty line divider S) trees-is-bytes (at-trees line divider)
 
-module _ (m : List ℕ) (line d : ℕ) (l : length m ≡ 8192) (a : Args line d) where
+module _ (m : List ℕ) (line d : ℕ) (l : length m ≡ memorySize) (a : Args line d) where
   abbrev m0 : List ℕ
   m0 = started (bytes .zeros) line d
 
-  b0 : Base m0 (lists m0 247) (lists m0) (view m0) [] 32
+  b0 : Base m0 (lists m0 processorList) (lists m0) (view m0) [] 32
   b0 = invariant (zeros-fresh line d a) .base
 
-  b1 : Base (started m line d) (lists m0 247) (lists m0) (view m0) [] 32
+  b1 : Base (started m line d) (lists m0 processorList) (lists m0) (view m0) [] 32
   b1 = base-kept (agree-kept (agree-started (bytes .zeros) m line d zeros-size l)) b0
 
-  one : lists m0 247 ≡ 236 ∷ []
+  one : lists m0 processorList ≡ firstControl ∷ []
   one = sym (listed b0) ∙ computed line d .procs
 
-  is-one : (p : ℕ) → 1 ≤ count p (236 ∷ []) → p ≡ 236
-  is-one p h = go (hit-or p 236)
+  is-one : (p : ℕ) → 1 ≤ count p (firstControl ∷ []) → p ≡ firstControl
+  is-one p h = go (hit-or p firstControl)
     where
-      go : (p ≡ 236) ⊎ (p ≢ 236) → p ≡ 236
+      go : (p ≡ firstControl) ⊎ (p ≢ firstControl) → p ≡ firstControl
       go (inl e) = e
-      go (inr n) = absurd (omega (arith, hit-other p 236 n))
+      go (inr n) = absurd (omega (arith, hit-other p firstControl n))
 
   started-empty : (p : ℕ) → 1 ≤ count p (processors (started m line d)) → waitingFor (started m line d) p ≡ []
   unfolding waitingFor
   started-empty p h =
       let e = is-one p (rw (listed b1, one) at h) in
-      let i : 1 ≤ count 236 (lists m0 247) = rw (listed b1, e) at h in
-      let f5 = mail-queue b1 236 5 i (omega arith) (omega arith) ∙ sym (mail-queue b0 236 5 i (omega arith) (omega arith)) ∙ computed line d .first in
-      let f6 = mail-queue b1 236 6 i (omega arith) (omega arith) ∙ sym (mail-queue b0 236 6 i (omega arith) (omega arith)) ∙ computed line d .second in
+      let i : 1 ≤ count firstControl (lists m0 processorList) = rw (listed b1, e) at h in
+      let f5 = mail-queue b1 firstControl 5 i (omega arith) (omega arith) ∙ sym (mail-queue b0 firstControl 5 i (omega arith) (omega arith)) ∙ computed line d .first in
+      let f6 = mail-queue b1 firstControl 6 i (omega arith) (omega arith) ∙ sym (mail-queue b0 firstControl 6 i (omega arith) (omega arith)) ∙ computed line d .second in
       rw (e, f5, f6)
 
-pub fresh-empty : (m : List ℕ) (line d : ℕ) → length m ≡ 8192 → startable line d ≡ true → (p : ℕ) → 1 ≤ count p (processors (memoryOf (fresh m line d)))
+pub fresh-empty : (m : List ℕ) (line d : ℕ) → length m ≡ memorySize → startable line d ≡ true → (p : ℕ) → 1 ≤ count p (processors (memoryOf (fresh m line d)))
     → waitingFor (memoryOf (fresh m line d)) p ≡ []
 fresh-empty m line d l s p = rw (fresh-is m line d l s) (started-empty m line d l (args-of line d s) p)

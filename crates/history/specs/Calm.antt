@@ -8,6 +8,9 @@ use native.Mathlib.Omega.{arith}
 use lib.ListN.{getD, set}
 use lib.Dec.{ltb}
 use borrow.Author.Tests.{ltb-true, ltb-false}
+use Rattle.model.specs.Map.{freeList, freeSemaphore, grantFor, guardedLast, highLr, link, memorySize, pageQueue, place, processorList, reason, runningLabel}
+use Rattle.model.specs.Map.{runningPage, state}
+use Rattle.model.specs.Bytes.{running, store, word}
 use Rattle.model.specs.Map.{zeroPlace}
 use Rattle.model.specs.Wait as Wait
 use Rattle.model.specs.Page as Page
@@ -37,44 +40,44 @@ use Rattle.history.specs.Letter.Ours.{mail, first, next}
 
 -- ---- where these words do not stand
 module _ {ps : List ℕ} {L : Lists} (s : Sep ps L) {c : ℕ} where
-  pub mine-high : Mine ps L c → (7552 ≤ c) × (c < 8192)
+  pub mine-high : Mine ps L c → (guardedLast ≤ c) × (c < memorySize)
   mine-high (head p w h u v e) = let g = proc-page s p h in (omega arith, omega arith)
   mine-high (page p w x j h u v i l e) = let g = q-free s p w x u v h i in (omega arith, omega arith)
 
   -- a processor's words but 5 and 6
-  pub mine-proc : Mine ps L c → (q j : ℕ) → 1 ≤ count q ps → j < 32 → j ≢ 5 → j ≢ 6 → c ≢ q * 32 + j
+  pub mine-proc : Mine ps L c → (q j : ℕ) → 1 ≤ count q ps → j < 32 → j ≢ 5 → j ≢ 6 → c ≢ place q j
   mine-proc (head p w h u v e) q j i l n5 n6 = omega arith
   mine-proc (page p w x k h u v i l e) q j iq lj n5 n6 =
       let g = q-free s p w x u v h i in
       let d : x ≢ q = λ z. omega (arith, ap (λ (y : ℕ). count y ps) z, g .1) in
       omega arith
 
-  pub ours-proc : Ours ps L c → (q j : ℕ) → 1 ≤ count q ps → j < 32 → j ≢ 1 → j ≢ 5 → j ≢ 6 → c ≢ q * 32 + j
+  pub ours-proc : Ours ps L c → (q j : ℕ) → 1 ≤ count q ps → j < 32 → j ≢ 1 → j ≢ 5 → j ≢ 6 → c ≢ place q j
   ours-proc (mail h) q j i l n1 n5 n6 = mine-proc h q j i l n5 n6
   ours-proc (first e) q j i l n1 n5 n6 = let t = proc-page s q i in omega arith
   ours-proc (next z h e) q j i l n1 n5 n6 = omega arith
 
   -- what is low, but the header of the processor list
-  pub ours-low : Ours ps L c → (b : ℕ) → b < 7552 → b ≢ 247 → c ≢ b
+  pub ours-low : Ours ps L c → (b : ℕ) → b < guardedLast → b ≢ processorList → c ≢ b
   ours-low (mail h) b l n = let t = mine-high h in omega arith
   ours-low (first e) b l n = omega arith
   ours-low (next z h e) b l n = let t = proc-page s z h in omega arith
 
-  pub ours-fits : Ours ps L c → c < 8192
+  pub ours-fits : Ours ps L c → c < memorySize
   ours-fits (mail h) = mine-high h .1
   ours-fits (first e) = omega arith
   ours-fits (next z h e) = let t = proc-page s z h in omega arith
 
   -- a page in hand
-  pub mine-hand : Mine ps L c → (q j : ℕ) → Aside ps L q → j < 32 → c ≢ q * 32 + j
+  pub mine-hand : Mine ps L c → (q j : ℕ) → Aside ps L q → j < 32 → c ≢ place q j
   mine-hand (head p w h u v e) q j o l =
       let d : p ≢ q = λ z. omega (arith, ap (λ (y : ℕ). count y ps) z, o .out) in
       omega arith
   mine-hand (page p w x k h u v i lk e) q j o l =
-      let d : x ≢ q = count-ne x q (L (p * 32 + w)) (o .free (p * 32 + w) (in-q ps p w u v h)) i in
+      let d : x ≢ q = count-ne x q (L (place p w)) (o .free (place p w) (in-q ps p w u v h)) i in
       omega arith
 
-  pub ours-hand : Ours ps L c → (q j : ℕ) → Aside ps L q → j < 32 → c ≢ q * 32 + j
+  pub ours-hand : Ours ps L c → (q j : ℕ) → Aside ps L q → j < 32 → c ≢ place q j
   ours-hand (mail h) q j o l = mine-hand h q j o l
   ours-hand (first e) q j o l = let t = o .page in omega arith
   ours-hand (next z h e) q j o l =
@@ -93,24 +96,24 @@ module _ {ps : List ℕ} {L : Lists} (s : Sep ps L) {c : ℕ} where
           let d4 = ours-proc m p 4 u (omega arith) (omega arith) (omega arith) (omega arith) in
           (omega arith, omega arith)
 
-  pub ours-wait : Ours ps L c → (a z : ℕ) → 1 ≤ count (a + 1) (queues ps) → 1 ≤ count z (L (a + 1)) → c ≢ z * 32 + 0
+  pub ours-wait : Ours ps L c → (a z : ℕ) → 1 ≤ count (a + 1) (queues ps) → 1 ≤ count z (L (a + 1)) → c ≢ place z link
   ours-wait m a z h i = ours-proc m z 0 (wait-page s (a + 1) z h i) (omega arith) (omega arith) (omega arith) (omega arith)
 
   -- the links of the free pages
-  mine-free : Mine ps L c → (z : ℕ) → 1 ≤ count z (L 244) → c ≢ z * 32 + 0
+  mine-free : Mine ps L c → (z : ℕ) → 1 ≤ count z (L freeList) → c ≢ place z link
   mine-free (head p w h u v e) z i = omega arith
   mine-free (page p w x j h u v ix l e) z i =
       let pg = proc-page s p h in
       let d : x ≢ z = λ y. omega (
         arith,
-        sum-two x L 244 (p * 32 + w) (uses ps) (omega arith) (omega (arith, free-once s .here)) (omega (arith, q-once s p w u v h .here)),
+        sum-two x L freeList (place p w) (uses ps) (omega arith) (omega (arith, free-once s .here)) (omega (arith, q-once s p w u v h .here)),
         s .most x,
         one-le x,
-        ap (λ (k : ℕ). count k (L 244)) y,
+        ap (λ (k : ℕ). count k (L freeList)) y,
       ) in
       omega arith
 
-  pub ours-free : Ours ps L c → (z : ℕ) → 1 ≤ count z (L 244) → c ≢ z * 32 + 0
+  pub ours-free : Ours ps L c → (z : ℕ) → 1 ≤ count z (L freeList) → c ≢ place z link
   ours-free (mail h) z i = mine-free h z i
   ours-free (first e) z i = omega arith
   ours-free (next y h e) z i = omega arith
@@ -123,11 +126,11 @@ pub calm-refl : {ps : List ℕ} {L : Lists} (m : List ℕ) → Same ps L m m
 calm-refl m = record { at = λ c h. refl }
 
 module _ {ps : List ℕ} {L : Lists} (s : Sep ps L) where
-  pub calm-low : (m : List ℕ) (b v : ℕ) → b < 7552 → b ≢ 247 → Same ps L m (set m b v)
+  pub calm-low : (m : List ℕ) (b v : ℕ) → b < guardedLast → b ≢ processorList → Same ps L m (set m b v)
   calm-low m b v l n = calm-set m b v (λ c h. ours-low s h b l n)
 
-  pub calm-proc : (m : List ℕ) (q j v : ℕ) → 1 ≤ count q ps → j < 32 → j ≢ 1 → j ≢ 5 → j ≢ 6 → Same ps L m (set m (q * 32 + j) v)
-  calm-proc m q j v i l n1 n5 n6 = calm-set m (q * 32 + j) v (λ c h. ours-proc s h q j i l n1 n5 n6)
+  pub calm-proc : (m : List ℕ) (q j v : ℕ) → 1 ≤ count q ps → j < 32 → j ≢ 1 → j ≢ 5 → j ≢ 6 → Same ps L m (store m q j v)
+  calm-proc m q j v i l n1 n5 n6 = calm-set m (place q j) v (λ c h. ours-proc s h q j i l n1 n5 n6)
 
   pub calm-only : (m m′ : List ℕ) (q : ℕ) → Aside ps L q → Only q m m′ → Same ps L m m′
   calm-only m m′ q o t = record { at = λ c h. go c h (ltb c (q * 32)) refl (ltb c (q * 32 + 32)) refl }
@@ -141,24 +144,24 @@ module _ {ps : List ℕ} {L : Lists} (s : Sep ps L) where
       go c h false e false f = t .above c (ltb-false c (q * 32 + 32) f)
 
   -- words of the control page r or of page 0
-  pub calm-run : (m : List ℕ) (r j v : ℕ) → (r ≢ 0 → 1 ≤ count r ps) → 8 ≤ j → j < 32 → Same ps L m (set m (r * 32 + j) v)
+  pub calm-run : (m : List ℕ) (r j v : ℕ) → (r ≢ 0 → 1 ≤ count r ps) → 8 ≤ j → j < 32 → Same ps L m (store m r j v)
   calm-run m r j v g l u = go (hit-or r 0)
     where
-      go : (r ≡ 0) ⊎ (r ≢ 0) → Same ps L m (set m (r * 32 + j) v)
-      go (inl e) = calm-low m (r * 32 + j) v (omega arith) (omega arith)
+      go : (r ≡ 0) ⊎ (r ≢ 0) → Same ps L m (store m r j v)
+      go (inl e) = calm-low m (place r j) v (omega arith) (omega arith)
       go (inr d) = calm-proc m r j v (g d) u (omega arith) (omega arith) (omega arith)
 
   pub calm-lr : (m : List ℕ) (r a : ℕ) → (r ≢ 0 → 1 ≤ count r ps) → Same ps L m (setLr m r a)
   unfolding Processor.setLr
   calm-lr m r a g =
-      let v = getD m (r * 32 + 10) 0 / 32 * 32 + a / 256 % 32 in
-      same-on (calm-run m r 10 v g (omega arith) (omega arith)) (calm-run (set m (r * 32 + 10) v) r 11 (a % 256) g (omega arith) (omega arith))
+      let v = word m r highLr / 32 * 32 + a / 256 % 32 in
+      same-on (calm-run m r 10 v g (omega arith) (omega arith)) (calm-run (store m r highLr v) r 11 (a % 256) g (omega arith) (omega arith))
 
   -- who runs
   pub ours-unmoved : {c : ℕ} → Ours ps L c → (r : ℕ) → (r ≢ 0 → 1 ≤ count r ps) → Unmoved r c
   ours-unmoved {c} h r g = record {
-    page = ours-low s h 248 (omega arith) (omega arith);
-    label = ours-low s h 249 (omega arith) (omega arith);
+    page = ours-low s h runningPage (omega arith) (omega arith);
+    label = ours-low s h runningLabel (omega arith) (omega arith);
     zero = λ i l. (let z = zero-low i l in ours-low s h (zeroPlace i) (omega arith) (omega arith));
     kept = λ i l. kept i l (hit-or r 0);
   }
@@ -167,8 +170,8 @@ module _ {ps : List ℕ} {L : Lists} (s : Sep ps L) where
       kept i l (inl e) = ours-low s h (r * 32 + (13 + i)) (omega arith) (omega arith)
       kept i l (inr d) = ours-proc s h r (13 + i) (g d) (omega arith) (omega arith) (omega arith) (omega arith)
 
-  pub calm-turn : (m : List ℕ) → (getD m 248 0 ≢ 0 → 1 ≤ count (getD m 248 0) ps) → Same ps L m (whoRuns m)
-  calm-turn m g = record { at = λ c h. turn-frame m c (ours-unmoved h (getD m 248 0) g) }
+  pub calm-turn : (m : List ℕ) → (running m ≢ 0 → 1 ≤ count (running m) ps) → Same ps L m (whoRuns m)
+  calm-turn m g = record { at = λ c h. turn-frame m c (ours-unmoved h (running m) g) }
 
 -- ---- wait queues
 module _ {m : List ℕ} {ps : List ℕ} {L : Lists} {W : View} (s : Sep ps L) (x : Mem m ps L W) where
@@ -180,16 +183,16 @@ module _ {m : List ℕ} {ps : List ℕ} {L : Lists} {W : View} (s : Sep ps L) (x
         (ours-proc s i p 12 hp (omega arith) (omega arith) (omega arith) (omega arith));
   }
 
-  pub calm-wait : (a p w : ℕ) → 1 ≤ count (a + 1) (queues ps) → 1 ≤ count p ps → ((c : ℕ) → Head ps c → c ≢ 247 → count p (L c) ≡ 0)
+  pub calm-wait : (a p w : ℕ) → 1 ≤ count (a + 1) (queues ps) → 1 ≤ count p ps → ((c : ℕ) → Head ps c → c ≢ processorList → count p (L c) ≡ 0)
       → Same ps L m (putToWait m a p w)
   unfolding Wait.putToWait Wait.enqueue
   calm-wait a p w h hp new =
       let pg = proc-page s p hp in
-      let v1 = getD m (p * 32 + 12) 0 / 128 * 128 + 64 + getD m (p * 32 + 12) 0 % 64 in
+      let v1 = word m p state / 128 * 128 + 64 + word m p state % 64 in
       let x1 = state-mem s x p v1 pg in
-      let m1 = set m (p * 32 + 12) v1 in
+      let m1 = store m p state v1 in
       let x2 = reason-mem s x1 p w pg in
-      let m2 = set m1 (p * 32 + 2) w in
+      let m2 = store m1 p reason w in
       let v3 = (getD m2 a 0 + 255) % 256 in
       let x3 = sem-mem s x2 a v3 h in
       let m3 = set m2 a v3 in
@@ -203,19 +206,19 @@ module _ {m : List ℕ} {ps : List ℕ} {L : Lists} {W : View} (s : Sep ps L) (x
       })
 
   -- the first free page
-  pub calm-take : (q : ℕ) (fs : List ℕ) → L 244 ≡ q ∷ fs → Same ps L m (takeFree m q)
+  pub calm-take : (q : ℕ) (fs : List ℕ) → L freeList ≡ q ∷ fs → Same ps L m (takeFree m q)
   unfolding Page.takeFree
   calm-take q fs e =
-      let v = (getD m 245 0 + 255) % 256 in
-      let m1 = set m 245 v in
-      let x1 = sem-mem s x 245 v (page-sem ps) in
-      let c1 : Same ps L m m1 = calm-low s m 245 v (omega arith) (omega arith) in
+      let v = (getD m freeSemaphore 0 + 255) % 256 in
+      let m1 = set m freeSemaphore v in
+      let x1 = sem-mem s x freeSemaphore v (page-sem ps) in
+      let c1 : Same ps L m m1 = calm-low s m freeSemaphore v (omega arith) (omega arith) in
       same-on c1 (record {
         at = λ c i.
-            leave-frame s x1 244 (
+            leave-frame s x1 freeList (
               in-free ps,
-              grant-low 244 (omega arith),
-            ) (omega arith) q [] fs e c (ours-low s i 244 (omega arith) (omega arith)) (λ z j. ours-free s i z j);
+              grant-low freeList (omega arith),
+            ) (omega arith) q [] fs e c (ours-low s i freeList (omega arith) (omega arith)) (λ z j. ours-free s i z j);
       })
 
 -- ---- a page given back
@@ -223,11 +226,11 @@ pub calm-give : {m : List ℕ} {ps : List ℕ} {L : Lists} {W : View} {hs : List
 calm-give {q = q} b = let s = b .facts .sep in record {
   at = λ c i. give-frame b c (record {
     low = λ a u v. ours-low s i a (omega arith) (omega arith);
-    grant = λ k u. ours-low s i (320 + k) (omega arith) (omega arith);
+    grant = λ k u. ours-low s i (grantFor k) (omega arith) (omega arith);
     hand = ours-hand s i q 0 (aside-hand b q (in-hand b)) (omega arith);
     free = λ z j. ours-free s i z j;
     waiter = λ p j.
-        let hp = wait-page s 246 p (omega arith) j in (
+        let hp = wait-page s pageQueue p (omega arith) j in (
           ours-proc s i p 0 hp (omega arith) (omega arith) (omega arith) (omega arith),
           ours-proc s i p 2 hp (omega arith) (omega arith) (omega arith) (omega arith),
           ours-proc s i p 12 hp (omega arith) (omega arith) (omega arith) (omega arith),

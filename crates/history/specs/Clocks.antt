@@ -5,6 +5,8 @@ use Prim.Native.Nat.{ℕ, zero, suc, _+_, _-_, _*_, _%_, _≤_}
 use native.Mathlib.Omega.{arith}
 use lib.ListN.{length, getD, set}
 use lib.Dec.{eqb, ltb}
+use Rattle.model.specs.Map.{c0, c3, interrupts, place, reason, semaphoreOf}
+use Rattle.model.specs.Bytes.{word}
 use Rattle.model.specs.Interrupt as Interrupt
 use Rattle.model.specs.Bytes as Model
 use Rattle.model.specs.Bytes.{struck, servedFrom, serve, delivered, whoRuns}
@@ -22,9 +24,9 @@ use Rattle.history.specs.Letter.{Agree, Same, same-then, same-on, posts,
 use Rattle.history.specs.Calm.{calm-refl, calm-low, calm-proc, calm-turn, calm-wake}
 use Rattle.history.specs.Told.{runs-in}
 
-module _ (k c : ℕ) (k1 : 1 ≤ k) (k2 : k ≤ 54) where
+module _ (k c : ℕ) (k1 : 1 ≤ k) (k2 : k ≤ interrupts) where
   abbrev a : ℕ
-  a = 129 + 2 * k
+  a = semaphoreOf k
 
   calm-struck : {m : List ℕ} {ps : List ℕ} {L : Lists} {W : View} {hs : List ℕ} {g : ℕ} (p : ℕ) (xs ys : List ℕ) → Base m ps L W hs g → L (a + 1) ≡ xs ++ p ∷ ys
       → Same ps L m (struck m k c p)
@@ -34,10 +36,10 @@ module _ (k c : ℕ) (k1 : 1 ≤ k) (k2 : k ≤ 54) where
       let hp = wait-page s (a + 1) p (seat k c k1 k2 ps) (rw e (count-mid p xs ys)) in
       let w : Same ps L m (Model.wake m a p) = calm-wake s (b .mem) a p xs ys (seat k c k1 k2 ps) hp e in
       let A = Model.wake m a p in
-      either (Same ps L m) (eqb (getD m (p * 32 + 2) 0) 1)
+      either (Same ps L m) (eqb (word m p reason) 1)
       (either (Same ps L m) (ltb k 48) w (either (Same ps L m) (ltb 50 k) w
       (same-on w (calm-proc s (Model.wake m a p) p 8 c hp (omega arith) (omega arith) (omega arith) (omega arith)))))
-      (calm-proc s m p 2 ((getD m (p * 32 + 2) 0 + 255) % 256) hp (omega arith) (omega arith) (omega arith) (omega arith))
+      (calm-proc s m p 2 ((word m p reason + 255) % 256) hp (omega arith) (omega arith) (omega arith) (omega arith))
 
   abbrev Goal : List ℕ → ℕ → List ℕ → List ℕ → ℕ → Type 0
   Goal ys n ps hs g = (L : Lists) (W : View) (m : List ℕ) (xs : List ℕ) → Base m ps L W hs g → L (a + 1) ≡ xs ++ ys
@@ -59,7 +61,7 @@ module _ (k c : ℕ) (k1 : 1 ≤ k) (k2 : k ≤ 54) where
       let s = b .facts .sep in
       let st = seat k c k1 k2 ps in
       let ch = chain0 s (b .mem) (a + 1) (seat-head s a st) (λ d. not-procs s a st (sym d)) in
-      let at1 : 129 + 2 * k + 1 ≡ 130 + 2 * k = omega arith in
+      let at1 : semaphoreOf k + 1 ≡ 130 + 2 * k = omega arith in
       rw (← at1, chain-head m (a + 1) (L (a + 1)) ch) (calm-from (L (a + 1)) 20 ps hs g (list-short s (a + 1) (in-queues ps (a + 1) st)) L W m [] b refl)
 
 -- from m on, Q1 and Q2 are as they were
@@ -77,17 +79,17 @@ flows-on t {K} {X} b2 f = record {
 }
 
 -- an interrupt, then who runs
-pub calm-interrupt : {m : List ℕ} {ps : List ℕ} {L : Lists} {W : View} {hs : List ℕ} {g : ℕ} (k c : ℕ) → 1 ≤ k → k ≤ 54 → Base m ps L W hs g
+pub calm-interrupt : {m : List ℕ} {ps : List ℕ} {L : Lists} {W : View} {hs : List ℕ} {g : ℕ} (k c : ℕ) → 1 ≤ k → k ≤ interrupts → Base m ps L W hs g
     → Same ps L m (whoRuns (delivered m k c))
 calm-interrupt {m} {ps} {L} {W} {hs} {g} k c i j b =
     let t = delivered-kept (λ x. Flows m ps L x hs g) (λ x t. t .now) sets serves m k c served in
     same-then (t .agree) (t .same) (calm-turn (t .now .base .facts .sep) (delivered m k c) (runs-in (t .now .base)))
   where
-    sets : (x : List ℕ) (t : Flows m ps L x hs g) (c v : ℕ) → 240 ≤ c → c ≤ 243 → Clock (put1 (t .now .view .low) c v) → Flows m ps L (set x c v) hs g
+    sets : (x : List ℕ) (t : Flows m ps L x hs g) (c v : ℕ) → c0 ≤ c → c ≤ c3 → Clock (put1 (t .now .view .low) c v) → Flows m ps L (set x c v) hs g
     sets x t c v l u h =
         flows-on t (counter-base (t .now .base) c v l u h) (calm-low (t .now .base .facts .sep) x c v (omega arith) (omega arith))
 
-    serves : (x : List ℕ) → Flows m ps L x hs g → (k : ℕ) → 1 ≤ k → k ≤ 54 → Flows m ps L (serve x k 0) hs g
+    serves : (x : List ℕ) → Flows m ps L x hs g → (k : ℕ) → 1 ≤ k → k ≤ interrupts → Flows m ps L (serve x k 0) hs g
     serves x t k i j = flows-on t (serve-base k 0 i j (t .now .base) .base) (calm-serve k 0 i j (t .now .base))
 
     served : Flows m ps L (serve m k c) hs g

@@ -6,6 +6,8 @@ use Prim.Native.Nat.{ℕ, zero, suc, _+_, _-_, _%_, _≤_, _<_}
 use native.Mathlib.Omega.{arith}
 use lib.ListN.{length, getD, set, length-set}
 use lib.Seq.{getD-set-same}
+use Rattle.model.specs.Map.{memorySize}
+use Rattle.model.specs.Address.{wrapped}
 use Rattle.model.specs.Address as Address
 use Rattle.model.specs.Bytes.{copy}
 use Rattle.laws.specs.Frames.{other, copy-far}
@@ -13,37 +15,37 @@ use Rattle.history.specs.Letter.{words, next-sum, first-sum, sum-below}
 
 -- n words from a on and n words from b on have none in common
 abbrev pub Apart : ℕ → ℕ → ℕ → Type 0
-Apart n a b = (i j : ℕ) → i < n → j < n → (a + i) % 8192 ≢ (b + j) % 8192
+Apart n a b = (i j : ℕ) → i < n → j < n → wrapped a i ≢ wrapped b j
 
-not-back : (n b j : ℕ) → b < 8192 → suc n ≤ 8192 → j < n → b ≢ ((b + 1) % 8192 + j) % 8192
+not-back : (n b j : ℕ) → b < memorySize → suc n ≤ memorySize → j < n → b ≢ (wrapped b 1 + j) % memorySize
 not-back n b j l u h = rw (next-sum b j) (omega arith)
 
-pub copy-at : (n : ℕ) (m : List ℕ) (a b : ℕ) → length m ≡ 8192 → n ≤ 8192 → a < 8192 → b < 8192 → Apart n a b → (i : ℕ) → i < n
-    → getD (copy n m a b) ((b + i) % 8192) 0 ≡ getD m ((a + i) % 8192) 0
+pub copy-at : (n : ℕ) (m : List ℕ) (a b : ℕ) → length m ≡ memorySize → n ≤ memorySize → a < memorySize → b < memorySize → Apart n a b → (i : ℕ) → i < n
+    → getD (copy n m a b) (wrapped b i) 0 ≡ getD m (wrapped a i) 0
 unfolding Address.copy
 copy-at zero m a b z l la lb f i h = absurd (omega arith)
 copy-at (suc n) m a b z l la lb f zero h =
-    let ea : (a + 0) % 8192 ≡ a = first-sum a la in
-    let eb : (b + 0) % 8192 ≡ b = first-sum b lb in
-    rw (ea, eb) (copy-far n (set m b (getD m a 0)) ((a + 1) % 8192) ((b + 1) % 8192) b (sum-below b) (λ j k. not-back n b j lb l k)
+    let ea : wrapped a 0 ≡ a = first-sum a la in
+    let eb : wrapped b 0 ≡ b = first-sum b lb in
+    rw (ea, eb) (copy-far n (set m b (getD m a 0)) (wrapped a 1) (wrapped b 1) b (sum-below b) (λ j k. not-back n b j lb l k)
     ∙ getD-set-same m b (getD m a 0) 0 (omega arith))
 copy-at (suc n) m a b z l la lb f (suc i) h =
-    let ea : ((a + 1) % 8192 + i) % 8192 ≡ (a + suc i) % 8192 = next-sum a i in
-    let eb : ((b + 1) % 8192 + i) % 8192 ≡ (b + suc i) % 8192 = next-sum b i in
-    let e0 : (b + 0) % 8192 ≡ b = first-sum b lb in
-    let d : (a + suc i) % 8192 ≢ b = rw e0 at (f (suc i) 0 h (omega arith)) in
-    let ih = copy-at n (set m b (getD m a 0)) ((a + 1) % 8192) ((b + 1) % 8192) (simp length-set z) (omega arith) (sum-below a) (sum-below b)
+    let ea : (wrapped a 1 + i) % memorySize ≡ (a + suc i) % memorySize = next-sum a i in
+    let eb : (wrapped b 1 + i) % memorySize ≡ (b + suc i) % memorySize = next-sum b i in
+    let e0 : wrapped b 0 ≡ b = first-sum b lb in
+    let d : (a + suc i) % memorySize ≢ b = rw e0 at (f (suc i) 0 h (omega arith)) in
+    let ih = copy-at n (set m b (getD m a 0)) (wrapped a 1) (wrapped b 1) (simp length-set z) (omega arith) (sum-below a) (sum-below b)
     (λ x y hx hy.
-    let ex : ((a + 1) % 8192 + x) % 8192 ≡ (a + suc x) % 8192 = next-sum a x in
-    let ey : ((b + 1) % 8192 + y) % 8192 ≡ (b + suc y) % 8192 = next-sum b y in
+    let ex : (wrapped a 1 + x) % memorySize ≡ (a + suc x) % memorySize = next-sum a x in
+    let ey : (wrapped b 1 + y) % memorySize ≡ (b + suc y) % memorySize = next-sum b y in
     rw (ex, ey) (f (suc x) (suc y) (omega arith) (omega arith))) i (omega arith) in
-    rw (ea, eb) at ih ∙ other m b (getD m a 0) ((a + suc i) % 8192) d
+    rw (ea, eb) at ih ∙ other m b (getD m a 0) ((a + suc i) % memorySize) d
 
 -- the i-th word of a text
-pub words-at : (m : List ℕ) (a n i : ℕ) → a < 8192 → i < n → getD (words m a n) i 0 ≡ getD m ((a + i) % 8192) 0
+pub words-at : (m : List ℕ) (a n i : ℕ) → a < memorySize → i < n → getD (words m a n) i 0 ≡ getD m (wrapped a i) 0
 unfolding words
 words-at m a zero i la h = absurd (omega arith)
-words-at m a (suc n) zero la h = let e : (a + 0) % 8192 ≡ a = first-sum a la in rw e
+words-at m a (suc n) zero la h = let e : wrapped a 0 ≡ a = first-sum a la in rw e
 words-at m a (suc n) (suc i) la h =
-    let e : ((a + 1) % 8192 + i) % 8192 ≡ (a + suc i) % 8192 = next-sum a i in
-    rw e at (words-at m ((a + 1) % 8192) n i (sum-below a) (omega arith))
+    let e : (wrapped a 1 + i) % memorySize ≡ (a + suc i) % memorySize = next-sum a i in
+    rw e at (words-at m (wrapped a 1) n i (sum-below a) (omega arith))

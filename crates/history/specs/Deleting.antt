@@ -9,6 +9,8 @@ use native.Mathlib.Omega.{arith}
 use lib.ListN.{length, getD, set}
 use lib.Dec.{eqb, leb}
 use borrow.Author.Tests.{eqb-true, eqb-false, leb-true}
+use Rattle.model.specs.Map.{grantFor, label, place, processorList, q1, q2, runningPage, state}
+use Rattle.model.specs.Bytes.{name, running, word}
 use Rattle.model.specs.Delete as Delete
 use Rattle.model.specs.Answer.{memoryOf}
 use Rattle.model.specs.Bytes as Model
@@ -46,7 +48,7 @@ record After (m m1 : List ℕ) (ps : List ℕ) (l : Log) (hs : List ℕ) (g : �
   grown : Grown ps m m1 l
 
 -- ---- Q2 then Q1
-module _ (m0 : List ℕ) {m : List ℕ} (p n g : ℕ) (n1 : 1 ≤ n) (n2 : n ≤ 15) (is : n ≡ getD m0 (p * 32 + 7) 0 % 16) (t : Bag m p g)
+module _ (m0 : List ℕ) {m : List ℕ} (p n g : ℕ) (n1 : 1 ≤ n) (n2 : n ≤ 15) (is : n ≡ name m0 p) (t : Bag m p g)
     (a2 : Aims m0 p m (t .q2)) (a1 : Aims m0 p m (t .q1)) where
   abbrev rest : List ℕ
   rest = t .q1 ++ p ∷ []
@@ -55,7 +57,7 @@ module _ (m0 : List ℕ) {m : List ℕ} (p n g : ℕ) (n1 : 1 ≤ n) (n2 : n ≤
   in-rest = count-mid p (t .q1) []
 
   abbrev m1 : List ℕ
-  m1 = emptied 20 m n (p * 32 + 6)
+  m1 = emptied 20 m n (place p q2)
 
   queue2 : Queue m (t .procs) p 6 (t .q2) rest g
   queue2 = record {
@@ -69,7 +71,7 @@ module _ (m0 : List ℕ) {m : List ℕ} (p n g : ℕ) (n1 : 1 ≤ n) (n2 : n ≤
   short2 : length (t .q2) ≤ 20
   short2 = tot-short (queue2 .base) (t .q2) (λ z. omega (arith, count-append z (t .q2) (t .q1 ++ p ∷ [])))
 
-  drained2 : Drained m m1 (t .procs) rest g (p * 32 + 6)
+  drained2 : Drained m m1 (t .procs) rest g (place p q2)
   drained2 = drain p 6 n (omega arith) (omega arith) n1 n2 (t .procs) rest g in-rest (t .q2) 20 short2 queue2
 
   grown2 : Grown (t .procs) m m1 (notices m0 p (t .q2))
@@ -83,7 +85,7 @@ module _ (m0 : List ℕ) {m : List ℕ} (p n g : ℕ) (n1 : 1 ≤ n) (n2 : n ≤
     lists = drained2 .lists;
     view = drained2 .view;
     base = drained2 .base;
-    chain = chain-move m m1 0 (p * 32 + 5) (p * 32 + 5) (t .q1) (drained2 .still p 5 in-rest (omega arith) (omega arith)) (λ y i.
+    chain = chain-move m m1 0 (place p q1) (place p q1) (t .q1) (drained2 .still p 5 in-rest (omega arith) (omega arith)) (λ y i.
         drained2 .still y 0 (in1 y i) (omega arith) (omega arith)) (t .chain1);
     letters = record {
       at = λ y i.
@@ -117,33 +119,33 @@ after-give {l = l} t =
 -- ---- the grant of the name that is deleted
 grant-after : {m m1 : List ℕ} {ps : List ℕ} {l : Log} {hs : List ℕ} (n : ℕ) → n < 32 → After m m1 ps l hs n → After m (grantReturned m1 n) ps l hs 32
 unfolding Delete.grantReturned
-grant-after {m} {m1} {ps} {l} {hs} n u t = go (eqb (getD m1 (320 + n) 0) 0) refl
+grant-after {m} {m1} {ps} {l} {hs} n u t = go (eqb (getD m1 (grantFor n) 0) 0) refl
   where
     b : Base m1 ps (t .lists) (t .view) hs n
     b = t .base
 
-    go : (c : Bool) → eqb (getD m1 (320 + n) 0) 0 ≡ c → After m (grantReturned m1 n) ps l hs 32
+    go : (c : Bool) → eqb (getD m1 (grantFor n) 0) 0 ≡ c → After m (grantReturned m1 n) ps l hs 32
     go true e =
-        let z = eqb-true (getD m1 (320 + n) 0) 0 e in
+        let z = eqb-true (getD m1 (grantFor n) 0) 0 e in
         let k = ap length (b .mem .holds .grant n u) ∙ ap (λ (x : ℕ). length (some x)) z in
         rw e (record { lists = t .lists; view = t .view; base = record { mem = b .mem; facts = facts-whole k (b .facts); all = b .all }; grown = t .grown })
     go false e =
-        let x = getD m1 (320 + n) 0 in
-        let z = eqb-false (getD m1 (320 + n) 0) 0 e in
+        let x = getD m1 (grantFor n) 0 in
+        let z = eqb-false (getD m1 (grantFor n) 0) 0 e in
         let b1 = take-grant b n x u (b .mem .holds .grant n u ∙ some-is x z) in
-        let c1 : Same ps (t .lists) m1 (set m1 (320 + n) 0) = calm-low (b .facts .sep) m1 (320 + n) 0 (omega arith) (omega arith) in
-        let g1 : Grown ps m1 (set m1 (320 + n) 0) [] = grown-same b (posts c1) ps (λ y h. h) (λ y h.
-        let pg = proc-page (b .facts .sep) y h in other m1 (320 + n) 0 (y * 32 + 7) (omega arith)) in
+        let c1 : Same ps (t .lists) m1 (set m1 (grantFor n) 0) = calm-low (b .facts .sep) m1 (grantFor n) 0 (omega arith) (omega arith) in
+        let g1 : Grown ps m1 (set m1 (grantFor n) 0) [] = grown-same b (posts c1) ps (λ y h. h) (λ y h.
+        let pg = proc-page (b .facts .sep) y h in other m1 (grantFor n) 0 (place y label) (omega arith)) in
         rw e (after-give (record {
-          lists = upd (t .lists) (320 + n) [];
+          lists = upd (t .lists) (grantFor n) [];
           view = t .view;
-          base = record { mem = b1 .mem; facts = facts-whole (ap length (upd-same (t .lists) (320 + n) [])) (b1 .facts); all = b1 .all };
+          base = record { mem = b1 .mem; facts = facts-whole (ap length (upd-same (t .lists) (grantFor n) [])) (b1 .facts); all = b1 .all };
           grown = rw (append-nil l) at (grown-then (t .grown) g1);
         }))
 
 -- ---- "In order: ..; then its own page."
 delete-after : (xs : List ℕ) (p : ℕ) (ys : List ℕ) {m : List ℕ} {L : Lists} {W : View} (b : Base m (xs ++ p ∷ ys) L W [] 32) → 1 ≤ count p (xs ++ p ∷ ys)
-    → W .low 248 ≢ p → After m (delete m p) (xs ++ ys) (notices m p (L (p * 32 + 6) ++ L (p * 32 + 5))) [] 32
+    → W .low runningPage ≢ p → After m (delete m p) (xs ++ ys) (notices m p (L (place p q2) ++ L (place p q1))) [] 32
 unfolding Delete.delete
 delete-after xs p ys {m} {L} {W} b hp d =
     let n = W .label p % 16 in
@@ -156,7 +158,7 @@ delete-after xs p ys {m} {L} {W} b hp d =
     let a1 : Aims m p (unlisted m p) (t .q1) = rw e1 (left-aims xs p ys b 5 (omega arith) (omega arith)) in
     let a2 : Aims m p (unlisted m p) (t .q2) = rw e2 (left-aims xs p ys b 6 (omega arith) (omega arith)) in
     let x = mail-after m p n n (r .name) (omega arith) (ap (λ (v : ℕ). v % 16) (sym lp)) t a2 a1 in
-    let y : After u (mailReturned u n p) (xs ++ ys) (notices m p (L (p * 32 + 6) ++ L (p * 32 + 5))) (p ∷ []) n = rw (bag-procs xs p ys b d, e1, e2) at x in
+    let y : After u (mailReturned u n p) (xs ++ ys) (notices m p (L (place p q2) ++ L (place p q1))) (p ∷ []) n = rw (bag-procs xs p ys b d, e1, e2) at x in
     rw lp (after-give (grant-after n (omega arith) (record {
       lists = y .lists;
       view = y .view;
@@ -165,12 +167,12 @@ delete-after xs p ys {m} {L} {W} b hp d =
     })))
 
 -- ---- the instruction
-module _ {m : List ℕ} (w : WellFormed m) (d : getD m 248 0 ≢ 0) where
+module _ {m : List ℕ} (w : WellFormed m) (d : running m ≢ 0) where
   open Busy (busy w d) using (base as b, ready)
 
-  module _ (p : ℕ) (h : 1 ≤ count p (lists m 247)) (n : getD m 248 0 ≢ p) where
+  module _ (p : ℕ) (h : 1 ≤ count p (lists m processorList)) (n : running m ≢ p) where
     abbrev letters : Log
-    letters = notices m p (queue m (p * 32 + 6) ++ queue m (p * 32 + 5))
+    letters = notices m p (queue m (place p q2) ++ queue m (place p q1))
 
     -- who is left was there
     record Left : Type 0 where
@@ -180,7 +182,7 @@ module _ {m : List ℕ} (w : WellFormed m) (d : getD m 248 0 ≢ 0) where
 
     left : Left
     left =
-        let r = split-at-page p (lists m 247) h in
+        let r = split-at-page p (lists m processorList) h in
         let c : Base m (r .0 ++ p ∷ r .1) (lists m) (view m) [] 32 = rw (r .2) at b in
         record {
           procs = r .0 ++ r .1;
@@ -222,10 +224,10 @@ module _ {m : List ℕ} (w : WellFormed m) (d : getD m 248 0 ≢ 0) where
       }
 
   -- "10 NI isn't stopped": the one that runs is not
-  others : (p : ℕ) → leb 128 (getD m (p * 32 + 12) 0) ≡ true → getD m 248 0 ≢ p
+  others : (p : ℕ) → leb 128 (word m p state) ≡ true → running m ≢ p
   others p e q =
-      let l = leb-true 128 (getD m (p * 32 + 12) 0) e in
-      let c = ap (λ (y : ℕ). getD m (y * 32 + 12) 0) q in
+      let l = leb-true 128 (word m p state) e in
+      let c = ap (λ (y : ℕ). word m y state) q in
       omega (arith, ready)
 
   pub dep-sent : (n len : ℕ) → Sent m (memoryOf (Model.named m 12 n len)) (depMail m n)

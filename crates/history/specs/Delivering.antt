@@ -31,7 +31,7 @@ module _ {m : List ℕ} {ps : List ℕ} {L : Lists} {W : View} {hs : List ℕ} {
   delivered-texts = record {
     at = λ x px o j k l.
         let d : p ≢ x = λ c. omega (arith, ap (λ (z : ℕ). count z ps) c) in
-        deliver-frame b p hp t (x * 32 + j) (λ i u. omega arith) (omega arith) (omega arith) (λ z i. omega arith);
+        deliver-frame b p hp t (place x j) (λ i u. omega arith) (omega arith) (omega arith) (λ z i. omega arith);
   }
 
   all : Delivered b p hp t (deliver m p q)
@@ -40,13 +40,13 @@ module _ {m : List ℕ} {ps : List ℕ} {L : Lists} {W : View} {hs : List ℕ} {
   pub delivered-last : map (mailOf (deliver m p q)) (queue (deliver m p q) (place p q1)) ≡ map (mailOf m) (queue m (place p q1)) ++ mailOf m q ∷ []
   delivered-last =
       held-through (all .gave .base) delivered-texts p 5 hp (omega arith) (omega arith)
-      ∙ rw (all .here, mail-queue b p 5 hp (omega arith) (omega arith)) (map-append (mailOf m) (L (p * 32 + 5)) (q ∷ []))
+      ∙ rw (all .here, mail-queue b p 5 hp (omega arith) (omega arith)) (map-append (mailOf m) (L (place p q1)) (q ∷ []))
 
   -- every other list of messages stays
-  stays : (y w : ℕ) → 1 ≤ count y ps → 5 ≤ w → w ≤ 6 → y * 32 + w ≢ p * 32 + 5 → held (deliver m p q) y w ≡ held m y w
+  stays : (y w : ℕ) → 1 ≤ count y ps → 5 ≤ w → w ≤ 6 → place y w ≢ place p q1 → held (deliver m p q) y w ≡ held m y w
   stays y w h u v n =
       held-through (all .gave .base) delivered-texts y w h u v
-      ∙ rw (all .others (y * 32 + w) n (omega arith), mail-queue b y w h u v)
+      ∙ rw (all .others (place y w) n (omega arith), mail-queue b y w h u v)
 
   pub delivered-other : (y : ℕ) → 1 ≤ count y ps → y ≢ p
       → map (mailOf (deliver m p q)) (queue (deliver m p q) (place y q1)) ≡ map (mailOf m) (queue m (place y q1))

@@ -9,6 +9,8 @@ use native.Mathlib.Omega.{arith}
 use lib.ListN.{length, getD, set}
 use lib.Dec.{eqb}
 use borrow.Author.Tests.{eqb-false}
+use Rattle.model.specs.Map.{label, link, note, place, size}
+use Rattle.model.specs.Bytes.{name, store, word}
 use Rattle.model.specs.Delete as Delete
 use Rattle.model.specs.Bytes.{pageOf, returned, emptied}
 use Rattle.model.specs.Lists.{count, Lists}
@@ -29,39 +31,39 @@ use Rattle.history.specs.Returning.{sentBack, notices-next, notices-none
 
 -- ---- to whom message q goes back, by the memory of that moment; 0: to none
 abbrev pub backTo : List ℕ → ℕ → ℕ
-backTo m q = cond (eqb (getD m (q * 32 + 2) 0) 128) 0 (pageOf m (getD m (q * 32 + 1) 0 / 16))
+backTo m q = cond (eqb (word m q size) 128) 0 (pageOf m (word m q note / 16))
 
 module _ {m : List ℕ} {ps : List ℕ} {L : Lists} {W : View} {hs : List ℕ} {g q : ℕ} (b : Base m ps L W (q ∷ hs) g) where
-  returned-grows : (n : ℕ) → 1 ≤ n → n ≤ 15 → Message (getD m (q * 32 + 1) 0) (getD m (q * 32 + 2) 0)
-      → Grown ps m (returned m n q) (sentBack (backTo m q) n (getD m (q * 32 + 1) 0 % 16))
+  returned-grows : (n : ℕ) → 1 ≤ n → n ≤ 15 → Message (word m q note) (word m q size)
+      → Grown ps m (returned m n q) (sentBack (backTo m q) n (word m q note % 16))
   unfolding Delete.returned Delete.noticed
-  returned-grows n n1 n2 t = go (eqb (getD m (q * 32 + 2) 0) 128) (eqb (pageOf m (getD m (q * 32 + 1) 0 / 16)) 0) refl refl
+  returned-grows n n1 n2 t = go (eqb (word m q size) 128) (eqb (pageOf m (word m q note / 16)) 0) refl refl
     where
-      go : (x y : Bool) → eqb (getD m (q * 32 + 2) 0) 128 ≡ x → eqb (pageOf m (getD m (q * 32 + 1) 0 / 16)) 0 ≡ y
-          → Grown ps m (returned m n q) (sentBack (backTo m q) n (getD m (q * 32 + 1) 0 % 16))
+      go : (x y : Bool) → eqb (word m q size) 128 ≡ x → eqb (pageOf m (word m q note / 16)) 0 ≡ y
+          → Grown ps m (returned m n q) (sentBack (backTo m q) n (word m q note % 16))
       go true y e f = rw e (give-grows b)
       go false true e f = rw (e, f) (give-grows b)
       go false false e f =
-          let r = pageOf m (getD m (q * 32 + 1) 0 / 16) in
-          let hp = named-in b (getD m (q * 32 + 1) 0 / 16) (eqb-false r 0 f) in
-          rw (e, f) (notice-grows b n (getD m (q * 32 + 1) 0 % 16) r n1 n2 (t .flag) (t .small) hp)
+          let r = pageOf m (word m q note / 16) in
+          let hp = named-in b (word m q note / 16) (eqb-false r 0 f) in
+          rw (e, f) (notice-grows b n (word m q note % 16) r n1 n2 (t .flag) (t .small) hp)
 
 -- ---- m0 is the memory before the instruction, p the deleted one: in m the messages xs go back as m0 says
 pub record Aims (m0 : List ℕ) (p : ℕ) (m : List ℕ) (xs : List ℕ) : Type 0 where
   pub to : (x : ℕ) → 1 ≤ count x xs → backTo m x ≡ returnsTo m0 p x
-  pub flag : (x : ℕ) → 1 ≤ count x xs → getD m (x * 32 + 1) 0 % 16 ≡ getD m0 (x * 32 + 1) 0 % 16
+  pub flag : (x : ℕ) → 1 ≤ count x xs → word m x 1 % 16 ≡ word m0 x 1 % 16
 
 -- words 1 and 2 of the messages stay
 abbrev pub Notes : List ℕ → List ℕ → List ℕ → Type 0
-Notes m m1 xs = (x j : ℕ) → 1 ≤ count x xs → 1 ≤ j → j ≤ 2 → getD m1 (x * 32 + j) 0 ≡ getD m (x * 32 + j) 0
+Notes m m1 xs = (x j : ℕ) → 1 ≤ count x xs → 1 ≤ j → j ≤ 2 → word m1 x j ≡ word m x j
 
 pub back-same : {m m1 : List ℕ} {ps : List ℕ} {L K : Lists} {W X : View} {hs ks : List ℕ} {g k : ℕ} → Base m ps L W hs g → Base m1 ps K X ks k
-    → ((y : ℕ) → 1 ≤ count y ps → getD m1 (y * 32 + 7) 0 ≡ getD m (y * 32 + 7) 0) → (x : ℕ) → getD m1 (x * 32 + 1) 0 ≡ getD m (x * 32 + 1) 0
-    → getD m1 (x * 32 + 2) 0 ≡ getD m (x * 32 + 2) 0 → backTo m1 x ≡ backTo m x
-back-same {m} {m1} {ps} b c names x e1 e2 = rw (e1, e2, listed b, listed c, named-same m m1 (getD m (x * 32 + 1) 0 / 16) ps names)
+    → ((y : ℕ) → 1 ≤ count y ps → word m1 y label ≡ word m y label) → (x : ℕ) → word m1 x 1 ≡ word m x 1
+    → word m1 x 2 ≡ word m x 2 → backTo m1 x ≡ backTo m x
+back-same {m} {m1} {ps} b c names x e1 e2 = rw (e1, e2, listed b, listed c, named-same m m1 (word m x 1 / 16) ps names)
 
 pub aims-on : {m0 m m1 : List ℕ} {p : ℕ} {ps xs ys : List ℕ} {L K : Lists} {W X : View} {hs ks : List ℕ} {g k : ℕ} → Base m ps L W hs g → Base m1 ps K X ks k
-    → ((y : ℕ) → 1 ≤ count y ps → getD m1 (y * 32 + 7) 0 ≡ getD m (y * 32 + 7) 0) → ((x : ℕ) → 1 ≤ count x ys → 1 ≤ count x xs) → Notes m m1 ys
+    → ((y : ℕ) → 1 ≤ count y ps → word m1 y label ≡ word m y label) → ((x : ℕ) → 1 ≤ count x ys → 1 ≤ count x xs) → Notes m m1 ys
     → Aims m0 p m xs → Aims m0 p m1 ys
 aims-on b c names i same a = record {
   to = λ x h. back-same b c names x (same x 1 h (omega arith) (omega arith)) (same x 2 h (omega arith) (omega arith)) ∙ a .to x (i x h);
@@ -69,7 +71,7 @@ aims-on b c names i same a = record {
 }
 
 -- ---- the queue with header word w of page p
-module _ (m0 : List ℕ) (p w n : ℕ) (u : 5 ≤ w) (v : w ≤ 6) (n1 : 1 ≤ n) (n2 : n ≤ 15) (is : n ≡ getD m0 (p * 32 + 7) 0 % 16) (ps rest : List ℕ) (g : ℕ)
+module _ (m0 : List ℕ) (p w n : ℕ) (u : 5 ≤ w) (v : w ≤ 6) (n1 : 1 ≤ n) (n2 : n ≤ 15) (is : n ≡ name m0 p) (ps rest : List ℕ) (g : ℕ)
     (hp : 1 ≤ count p rest) where
   module _ {m : List ℕ} {x : ℕ} {xs : List ℕ} (q : Queue m ps p w (x ∷ xs) rest g) (a : Aims m0 p m (x ∷ xs)) where
     in-p : 1 ≤ count p (x ∷ xs ++ rest)
@@ -93,32 +95,32 @@ module _ (m0 : List ℕ) (p w n : ℕ) (u : 5 ≤ w) (v : w ≤ 6) (n1 : 1 ≤ n
     -- it leaves
     step1 : Grown ps m m1 []
     step1 =
-        let h = p * 32 + w in
-        let r = getD m (x * 32 + 0) 0 in
+        let h = place p w in
+        let r = word m x link in
         let c1 : Same ps (q .lists) m (set m h r) = calm-set m h r (λ c o. ours-hand s o p w (aside-hand (q .base) p in-p) (omega arith)) in
         let c2 : Same ps (q .lists) m m1 =
-        same-on c1 (calm-set (set m h r) (x * 32 + 0) 0 (λ c o. ours-hand s o x 0 (aside-hand (q .base) x in-x) (omega arith))) in
+        same-on c1 (calm-set (set m h r) (place x link) 0 (λ c o. ours-hand s o x 0 (aside-hand (q .base) x in-x) (omega arith))) in
         grown-same (q .base) (posts c2) ps (λ y i. i) (λ y i.
-        other (set m h r) (x * 32 + 0) 0 (y * 32 + 7) (omega arith) ∙ other m h r (y * 32 + 7) (omega arith))
+        other (set m h r) (place x link) 0 (place y label) (omega arith) ∙ other m h r (place y label) (omega arith))
 
     b1 : (X : View) × Base m1 ps (q .lists) X (x ∷ xs ++ rest) g
     b1 = (_, base1 p w n u v n1 n2 ps rest g hp q)
 
     notes1 : Notes m m1 (x ∷ xs)
     notes1 y j i l k =
-        other (set m (p * 32 + w) (getD m (x * 32 + 0) 0)) (x * 32 + 0) 0 (y * 32 + j) (omega arith)
-        ∙ other m (p * 32 + w) (getD m (x * 32 + 0) 0) (y * 32 + j) (omega arith)
+        other (store m p w (word m x link)) (place x link) 0 (place y j) (omega arith)
+        ∙ other m (place p w) (word m x link) (place y j) (omega arith)
 
     aims1 : Aims m0 p m1 (x ∷ xs)
     aims1 = aims-on (q .base) (b1 .1) (step1 .names) (λ y i. i) notes1 a
 
     -- and is returned
-    step2 : Grown ps m1 m2 (sentBack (returnsTo m0 p x) (getD m0 (p * 32 + 7) 0 % 16) (getD m0 (x * 32 + 1) 0 % 16))
+    step2 : Grown ps m1 m2 (sentBack (returnsTo m0 p x) (name m0 p) (word m0 x 1 % 16))
     step2 =
         let hx : 1 ≤ count x (x ∷ xs) = omega (arith, hit-self x) in
         rw (← aims1 .to x hx, ← aims1 .flag x hx, ← is) (returned-grows (b1 .1) n n1 n2 (letter1 p w n u v n1 n2 ps rest g hp q x hx))
 
-    pub step : Grown ps m m2 (sentBack (returnsTo m0 p x) (getD m0 (p * 32 + 7) 0 % 16) (getD m0 (x * 32 + 1) 0 % 16))
+    pub step : Grown ps m m2 (sentBack (returnsTo m0 p x) (name m0 p) (word m0 x 1 % 16))
     step = grown-then step1 step2
 
     pub aims : Aims m0 p m2 xs
@@ -127,13 +129,13 @@ module _ (m0 : List ℕ) (p w n : ℕ) (u : 5 ≤ w) (v : w ≤ 6) (n1 : 1 ≤ n
         aims-on (b1 .1) (r .base) (step2 .names) (λ y i. omega arith) (λ y j i l k. r .still y j (omega (arith, count-append y xs rest)) (omega arith)) aims1
 
   pub emptied-grows : (xs : List ℕ) (i : ℕ) → length xs ≤ i → {m : List ℕ} → Queue m ps p w xs rest g → Aims m0 p m xs
-      → Grown ps m (emptied i m n (p * 32 + w)) (notices m0 p xs)
-  emptied-grows [] i l {m} q a = rw (emptied-end i m n (p * 32 + w) (q .chain), notices-none m0 p) (grown-refl ps m)
+      → Grown ps m (emptied i m n (place p w)) (notices m0 p xs)
+  emptied-grows [] i l {m} q a = rw (emptied-end i m n (place p w) (q .chain), notices-none m0 p) (grown-refl ps m)
   emptied-grows (x ∷ xs) zero l q a = absurd (omega arith)
   emptied-grows (x ∷ xs) (suc i) l {m} q a =
       let t = emptied-grows xs i (omega arith) (next p w n u v n1 n2 ps rest g hp q) (aims q a) in
       rw (
         notices-next m0 p x xs,
-        emptied-next i m n (p * 32 + w) x (Deleted.first p w n u v n1 n2 ps rest g hp q) (nonzero p w n u v n1 n2 ps rest g hp q),
+        emptied-next i m n (place p w) x (Deleted.first p w n u v n1 n2 ps rest g hp q) (nonzero p w n u v n1 n2 ps rest g hp q),
         left p w n u v n1 n2 ps rest g hp q,
       ) (grown-then (step q a) t)

@@ -9,6 +9,10 @@ use native.Mathlib.Omega.{arith}
 use lib.ListN.{getD, length-append}
 use lib.Dec.{eqb}
 use borrow.Author.Tests.{eqb-true, eqb-false, ne-eqb}
+use Rattle.model.specs.Map as Map
+use Rattle.model.specs.Map.{interrupts, place, processorList, q1, q2, runningPage}
+use Rattle.model.specs.Bytes as Memory
+use Rattle.model.specs.Bytes.{name}
 use Rattle.model.specs.Queue.{first}
 use Rattle.model.specs.Processor as Processor
 use Rattle.model.specs.Wait as Wait
@@ -52,15 +56,15 @@ record Out (m m1 : List ℕ) (ps : List ℕ) (L : Lists) (W : View) : Type 0 whe
 wait-out : {m : List ℕ} {ps : List ℕ} {L : Lists} {W : View} {hs : List ℕ} {g : ℕ} (b : Base m ps L W hs g) (p : ℕ) → 1 ≤ count p ps
     → Out m (leaveWait m p) ps L W
 unfolding Wait.leaveWait Wait.unqueue
-wait-out {m} {ps} {L} {W} b p hp = go (queued m (seat 54 m p) p) refl
+wait-out {m} {ps} {L} {W} b p hp = go (queued m (seat interrupts m p) p) refl
   where
     s : Sep ps L
     s = b .facts .sep
 
-    go : (c : Bool) → queued m (seat 54 m p) p ≡ c → Out m (leaveWait m p) ps L W
+    go : (c : Bool) → queued m (seat interrupts m p) p ≡ c → Out m (leaveWait m p) ps L W
     go false e = rw e (record { lists = L; view = W; sep = s; mem = b .mem; label = λ y. refl; same = calm-refl m })
     go true e =
-        let a = seat 54 m p in
+        let a = seat interrupts m p in
         let h = seat-is b p hp in
         let r = split-at-page p (L (a + 1)) (queued-in b p hp a h e) in
         let v = (getD m a 0 + 1) % 256 in
@@ -106,25 +110,25 @@ module _ (xs : List ℕ) (p : ℕ) (ys : List ℕ) {m : List ℕ} {L : Lists} {W
         (λ z k. mine-proc s i z 1 k (omega arith) (omega arith) (omega arith)) ∙ o .same .at c (mail i));
   }
 
-  left-mem : (X : View) × ((y : ℕ) → X .label y ≡ W .label y) × Mem (unlisted m p) (xs ++ ys) (upd (o .lists) 247 (xs ++ ys)) X
+  left-mem : (X : View) × ((y : ℕ) → X .label y ≡ W .label y) × Mem (unlisted m p) (xs ++ ys) (upd (o .lists) processorList (xs ++ ys)) X
   unfolding Delete.unlisted
   left-mem =
       (withWords (o .view) (put1 (o .view .note) p 0) (o .view .reason) (o .view .label) (o .view .state), o .label, shrink-mem xs p ys (o .sep) (o .mem))
 
-  left-names : (y : ℕ) → Page y → getD u (y * 32 + 7) 0 ≡ getD m (y * 32 + 7) 0
+  left-names : (y : ℕ) → Page y → Memory.word u y Map.label ≡ Memory.word m y Map.label
   left-names y g = left-mem .2 .reads .words .label y g ∙ left-mem .1 y ∙ sym (b .mem .reads .words .label y g)
 
   left-procs : processors (unlisted m p) ≡ xs ++ ys
   left-procs =
-      let l = rw (s .procs) at (list-short s 247 (in-procs (xs ++ p ∷ ys))) in
-      let c = rw (link-procs, upd-same (o .lists) 247 (xs ++ ys)) at (left-mem .2 .holds .rep 247 (in-procs (xs ++ ys), grant-low 247 (omega arith))) in
-      walk-chain 20 u 1 247 (xs ++ ys) c (omega (arith, l, length-append xs (p ∷ ys), length-append xs ys))
+      let l = rw (s .procs) at (list-short s processorList (in-procs (xs ++ p ∷ ys))) in
+      let c = rw (link-procs, upd-same (o .lists) processorList (xs ++ ys)) at (left-mem .2 .holds .rep processorList (in-procs (xs ++ ys), grant-low processorList (omega arith))) in
+      walk-chain 20 u 1 processorList (xs ++ ys) c (omega (arith, l, length-append xs (p ∷ ys), length-append xs ys))
 
   pub left-grown : Grown (xs ++ ys) m (unlisted m p) []
   left-grown = grown-same b left-posts (xs ++ ys) stayed (λ y h. left-names y (proc-page s y (stayed y h)))
 
   -- ---- who has a name
-  own-name : (y : ℕ) → 1 ≤ count y (xs ++ ys) → getD m (y * 32 + 7) 0 % 16 ≢ getD m (p * 32 + 7) 0 % 16
+  own-name : (y : ℕ) → 1 ≤ count y (xs ++ ys) → name m y ≢ name m p
   own-name y h e =
       let d : W .label y % 16 ≡ W .label p % 16 = rw (label-at b y (stayed y h), label-at b p hp) at e in
       omega (
@@ -133,7 +137,7 @@ module _ (xs : List ℕ) (p : ℕ) (ys : List ℕ) {m : List ℕ} {L : Lists} {W
         b .facts .names .differ p hp,
       )
 
-  none : (n : ℕ) → n ≡ getD m (p * 32 + 7) 0 % 16 → first (isNamed m n) (xs ++ ys) ≡ 0
+  none : (n : ℕ) → n ≡ name m p → first (isNamed m n) (xs ++ ys) ≡ 0
   unfolding Processor.isNamed
   none n e = go (hit-or (first (isNamed m n) (xs ++ ys)) 0)
     where
@@ -142,7 +146,7 @@ module _ (xs : List ℕ) (p : ℕ) (ys : List ℕ) {m : List ℕ} {L : Lists} {W
       go (inr d) =
           let t = first-in (isNamed m n) (xs ++ ys) d in
           let y = first (isNamed m n) (xs ++ ys) in
-          absurd (own-name y (t .0) (eqb-true (getD m (y * 32 + 7) 0 % 16) n (t .1) ∙ e))
+          absurd (own-name y (t .0) (eqb-true (name m y) n (t .1) ∙ e))
 
   drop : (f : ℕ → Bool) (zs : List ℕ) → f p ≡ false → first f (zs ++ p ∷ ys) ≡ first f (zs ++ ys)
   drop f [] e = first-no f p ys e
@@ -152,28 +156,28 @@ module _ (xs : List ℕ) (p : ℕ) (ys : List ℕ) {m : List ℕ} {L : Lists} {W
       go true d ih = first-yes f z (zs ++ p ∷ ys) d ∙ sym (first-yes f z (zs ++ ys) d)
       go false d ih = first-no f z (zs ++ p ∷ ys) d ∙ ih ∙ sym (first-no f z (zs ++ ys) d)
 
-  who : (n : ℕ) → first (isNamed m n) (xs ++ ys) ≡ cond (eqb n (getD m (p * 32 + 7) 0 % 16)) 0 (first (isNamed m n) (xs ++ p ∷ ys))
+  who : (n : ℕ) → first (isNamed m n) (xs ++ ys) ≡ cond (eqb n (name m p)) 0 (first (isNamed m n) (xs ++ p ∷ ys))
   unfolding Processor.isNamed
-  who n = go (eqb n (getD m (p * 32 + 7) 0 % 16)) refl
+  who n = go (eqb n (name m p)) refl
     where
-      go : (c : Bool) → eqb n (getD m (p * 32 + 7) 0 % 16) ≡ c
-          → first (isNamed m n) (xs ++ ys) ≡ cond (eqb n (getD m (p * 32 + 7) 0 % 16)) 0 (first (isNamed m n) (xs ++ p ∷ ys))
-      go true e = rw e (none n (eqb-true n (getD m (p * 32 + 7) 0 % 16) e))
+      go : (c : Bool) → eqb n (name m p) ≡ c
+          → first (isNamed m n) (xs ++ ys) ≡ cond (eqb n (name m p)) 0 (first (isNamed m n) (xs ++ p ∷ ys))
+      go true e = rw e (none n (eqb-true n (name m p) e))
       go false e =
-          let d = eqb-false n (getD m (p * 32 + 7) 0 % 16) e in
-          rw e (sym (drop (isNamed m n) xs (ne-eqb (getD m (p * 32 + 7) 0 % 16) n (λ z. d (sym z)))))
+          let d = eqb-false n (name m p) e in
+          rw e (sym (drop (isNamed m n) xs (ne-eqb (name m p) n (λ z. d (sym z)))))
 
   -- ---- its messages
-  pub left-aims : (w : ℕ) → 5 ≤ w → w ≤ 6 → Aims m p (unlisted m p) (L (p * 32 + w))
+  pub left-aims : (w : ℕ) → 5 ≤ w → w ≤ 6 → Aims m p (unlisted m p) (L (place p w))
   unfolding returnsTo
   left-aims w l k = record { to = λ x h. to x h; flag = λ x h. ap (λ (v : ℕ). v % 16) (word x 1 h (omega arith) (omega arith)) }
     where
-      word : (x j : ℕ) → 1 ≤ count x (L (p * 32 + w)) → 1 ≤ j → j < 32 → getD (unlisted m p) (x * 32 + j) 0 ≡ getD m (x * 32 + j) 0
+      word : (x j : ℕ) → 1 ≤ count x (L (place p w)) → 1 ≤ j → j < 32 → Memory.word (unlisted m p) x j ≡ Memory.word m x j
       word x j h i v = texts-same b left-posts p w x hp l k h .texts j i v
 
-      to : (x : ℕ) → 1 ≤ count x (L (p * 32 + w)) → backTo (unlisted m p) x ≡ returnsTo m p x
+      to : (x : ℕ) → 1 ≤ count x (L (place p w)) → backTo (unlisted m p) x ≡ returnsTo m p x
       to x h =
-          let n = getD m (x * 32 + 1) 0 / 16 in
+          let n = Memory.word m x 1 / 16 in
           rw (
             word x 1 h (omega arith) (omega arith),
             word x 2 h (omega arith) (omega arith),
@@ -183,7 +187,7 @@ module _ (xs : List ℕ) (p : ℕ) (ys : List ℕ) {m : List ℕ} {L : Lists} {W
             who n,
           )
 
-  module _ (runs : W .low 248 ≢ p) where
+  module _ (runs : W .low runningPage ≢ p) where
     pub bag : Bag (unlisted m p) p (W .label p % 16)
     bag = unlisted-bag p hp runs b
 
@@ -191,13 +195,13 @@ module _ (xs : List ℕ) (p : ℕ) (ys : List ℕ) {m : List ℕ} {L : Lists} {W
     bag-procs = sym (listed (bag .base)) ∙ left-procs
 
     -- its mail hangs there still
-    hangs : (w : ℕ) (zs : List ℕ) → 5 ≤ w → w ≤ 6 → Chain u 0 (p * 32 + w) zs → ((z : ℕ) → count z zs ≤ count z (bag .q2 ++ bag .q1)) → zs ≡ L (p * 32 + w)
+    hangs : (w : ℕ) (zs : List ℕ) → 5 ≤ w → w ≤ 6 → Chain u 0 (place p w) zs → ((z : ℕ) → count z zs ≤ count z (bag .q2 ++ bag .q1)) → zs ≡ L (place p w)
     hangs w zs l k c f =
-        sym (walk-chain 20 u 0 (p * 32 + w) zs c (tot-short (bag .base) zs (λ z. omega (arith, f z, count-append z (bag .q2 ++ bag .q1) (p ∷ [])))))
+        sym (walk-chain 20 u 0 (place p w) zs c (tot-short (bag .base) zs (λ z. omega (arith, f z, count-append z (bag .q2 ++ bag .q1) (p ∷ [])))))
         ∙ queue-same b left-posts p w hp l k
 
-    pub bag-q1 : bag .q1 ≡ L (p * 32 + 5)
+    pub bag-q1 : bag .q1 ≡ L (place p q1)
     bag-q1 = hangs 5 (bag .q1) (omega arith) (omega arith) (bag .chain1) (λ z. omega (arith, count-append z (bag .q2) (bag .q1)))
 
-    pub bag-q2 : bag .q2 ≡ L (p * 32 + 6)
+    pub bag-q2 : bag .q2 ≡ L (place p q2)
     bag-q2 = hangs 6 (bag .q2) (omega arith) (omega arith) (bag .chain2) (λ z. omega (arith, count-append z (bag .q2) (bag .q1)))

@@ -8,6 +8,7 @@ use native.Mathlib.Omega.{arith}
 use lib.ListN.{length}
 use lib.Dec.{leb}
 use borrow.Author.Tests.{leb-true, leb-false, le-leb}
+use Rattle.model.specs.Map.{memorySize}
 use Rattle.model.specs.Fresh.{startable}
 use Rattle.model.specs.Answer.{memoryOf}
 use Rattle.model.specs.Bytes.{fresh, processors}
@@ -66,7 +67,7 @@ later a m h = cond (restarts a) noneYet (grown m (after a m) (mailBy a m) h)
 
 -- ---- a run: a fresh start of any memory of 8,192 words of 8 bits, then any calls, and changes by the host between them
 pub data Run : List ℕ → Past → Type 0 where
-  start : (m : List ℕ) (line d : ℕ) → length m ≡ 8192 → Small m → startable line d ≡ true → Run (memoryOf (fresh m line d)) noneYet
+  start : (m : List ℕ) (line d : ℕ) → length m ≡ memorySize → Small m → startable line d ≡ true → Run (memoryOf (fresh m line d)) noneYet
   call : (m : List ℕ) (h : Past) (a : Act) → Run m h → Run (after a m) (later a m h)
   host : (m m′ : List ℕ) (h : Past) → Host m m′ → Run m h → Run m′ (grown m m′ nothing h)
 
@@ -118,7 +119,7 @@ call-told k (set r) e = set-told k r
 call-told k read e = read-told k
 call-told k judge-it e = judge-told k
 
-start-kept : (m : List ℕ) (line d : ℕ) → length m ≡ 8192 → startable line d ≡ true → Kept (memoryOf (fresh m line d)) noneYet
+start-kept : (m : List ℕ) (line d : ℕ) → length m ≡ memorySize → startable line d ≡ true → Kept (memoryOf (fresh m line d)) noneYet
 start-kept m line d l e p i s f = rw (fresh-empty m line d l e p i)
 
 restart-kept : {m : List ℕ} → Sound m → (a : Act) → restarts a ≡ true → Kept (after a m) noneYet

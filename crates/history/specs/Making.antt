@@ -5,6 +5,8 @@ use mathlib.Core.List.{List, [], _∷_, _++_, append-nil}
 use Prim.Native.Nat.{ℕ, _+_, _-_, _*_, _≤_, _<_}
 use native.Mathlib.Omega.{arith}
 use lib.ListN.{length, getD, set}
+use Rattle.model.specs.Map.{listLink, place, processorList}
+use Rattle.model.specs.Bytes.{running, store}
 use Rattle.model.specs.Operate as Operate
 use Rattle.model.specs.Answer.{memoryOf}
 use Rattle.model.specs.Bytes as Model
@@ -50,22 +52,22 @@ module _ {m : List ℕ} {ps : List ℕ} {L : Lists} {W : View} {hs : List ℕ} {
 
   open Aside aside using (page as pg, out)
 
-  chain-x : Chain x 1 247 ps
-  chain-x = rw (link-procs, sx .procs) at (bx .1 .mem .holds .rep 247 (in-procs ps, grant-low 247 (omega arith)))
+  chain-x : Chain x 1 processorList ps
+  chain-x = rw (link-procs, sx .procs) at (bx .1 .mem .holds .rep processorList (in-procs ps, grant-low processorList (omega arith)))
 
   short-x : length ps ≤ 20
-  short-x = rw (sx .procs) at (list-short sx 247 (in-procs ps))
+  short-x = rw (sx .procs) at (list-short sx processorList (in-procs ps))
 
   abbrev m2 : List ℕ
   m2 = created m q n r v a
 
-  created-is : created m q n r v a ≡ set (set x (q * 32 + 1) 0) (last 1 247 ps) q
+  created-is : created m q n r v a ≡ set (store x q listLink 0) (last 1 processorList ps) q
   unfolding Operate.created
-  created-is = rw (headed-is b n r v a) (join-is x 1 247 q ps chain-x short-x (omega (arith, pg)) (off-page q 1 1 ps (omega arith) (omega arith) out))
+  created-is = rw (headed-is b n r v a) (join-is x 1 processorList q ps chain-x short-x (omega (arith, pg)) (off-page q 1 1 ps (omega arith) (omega arith) out))
 
   -- a word that is neither 247, nor word 1 of q or of a processor
-  created-word : (c : ℕ) → c ≢ 247 → c ≢ q * 32 + 1 → ((z : ℕ) → 1 ≤ count z ps → c ≢ z * 32 + 1) → getD m2 c 0 ≡ getD x c 0
-  created-word c n7 n1 nz = rw created-is (other (set x (q * 32 + 1) 0) (last 1 247 ps) q c (last-not 1 247 ps c n7 nz) ∙ other x (q * 32 + 1) 0 c n1)
+  created-word : (c : ℕ) → c ≢ processorList → c ≢ place q listLink → ((z : ℕ) → 1 ≤ count z ps → c ≢ place z 1) → getD m2 c 0 ≡ getD x c 0
+  created-word c n7 n1 nz = rw created-is (other (store x q listLink 0) (last 1 processorList ps) q c (last-not 1 processorList ps c n7 nz) ∙ other x (place q listLink) 0 c n1)
 
   created-posts : Posts ps L m m2
   created-posts =
@@ -78,21 +80,21 @@ module _ {m : List ℕ} {ps : List ℕ} {L : Lists} {W : View} {hs : List ℕ} {
 
   created-procs : processors m2 ≡ ps ++ q ∷ []
   created-procs =
-      rw created-is (walk-chain 20 (set (set x (q * 32 + 1) 0) (last 1 247 ps) q) 1 247 (ps ++ q ∷ [])
-      (chain-join x 1 247 q ps (bx .1 .mem .size) (omega arith) (omega arith) pg (omega (arith, pg)) (λ z i. let t = proc-page sx z i in omega arith)
+      rw created-is (walk-chain 20 (set (store x q listLink 0) (last 1 processorList ps) q) 1 processorList (ps ++ q ∷ [])
+      (chain-join x 1 processorList q ps (bx .1 .mem .size) (omega arith) (omega arith) pg (omega (arith, pg)) (λ z i. let t = proc-page sx z i in omega arith)
       (λ z. omega (arith, b .all z, one-le z, ap (count z) (sx .procs))) chain-x)
       (short (ps ++ q ∷ []) (λ z. omega (arith, b .all z, count-append z ps (q ∷ []), ap (count z) (sx .procs)))))
 
-  empty-queue : (k : ℕ) → 5 ≤ k → k ≤ 6 → queue m2 (q * 32 + k) ≡ []
+  empty-queue : (k : ℕ) → 5 ≤ k → k ≤ 6 → queue m2 (place q k) ≡ []
   empty-queue k l u =
-      walk-chain 20 m2 0 (q * 32 + k) [] (created-word (q * 32 + k) (omega (arith, pg)) (omega arith) (λ z i. omega arith) ∙ below b n r v a k (omega arith))
+      walk-chain 20 m2 0 (place q k) [] (created-word (place q k) (omega (arith, pg)) (omega arith) (λ z i. omega arith) ∙ below b n r v a k (omega arith))
       (omega arith)
 
   created-empty : waitingFor m2 q ≡ []
   unfolding waitingFor
   created-empty = rw (empty-queue 5 (omega arith) (omega arith), empty-queue 6 (omega arith) (omega arith))
 
-module _ {m : List ℕ} (w : WellFormed m) (d : getD m 248 0 ≢ 0) where
+module _ {m : List ℕ} (w : WellFormed m) (d : running m ≢ 0) where
   open Busy (busy w d) using (base as b, runs as hr)
 
   abbrev Ends : Model.Step → Type 0
@@ -102,14 +104,14 @@ module _ {m : List ℕ} (w : WellFormed m) (d : getD m 248 0 ≢ 0) where
   bad = record { all = λ f i j. fault-sent w d f .told }
 
   crp-page : (n r v a len : ℕ) → 1 ≤ n → n ≤ 15 → 1 ≤ r → r ≤ 15 → pageOf m n ≡ 0 → Told m (memoryOf (Model.crpPage m n r v a len)) nothing
-  crp-page n r v a len n1 n2 r1 r2 free = go (take-page (getD m 248 0) hr b)
+  crp-page n r v a len n1 n2 r1 r2 free = go (take-page (running m) hr b)
     where
-      go : Takes m (getD m 248 0) (lists m 247) (lists m) (view m) [] 32 → Told m (memoryOf (Model.crpPage m n r v a len)) nothing
+      go : Takes m (running m) (lists m processorList) (lists m) (view m) [] 32 → Told m (memoryOf (Model.crpPage m n r v a len)) nothing
       go (lacks e f2 g2) =
           crp-page-each m Ends e n r v a len (λ y. told-same b (memoryOf (waitsForPage m)) (page-waits w d f2 g2)) (λ y. absurd (y refl))
       go (gets q m1 e z t k) =
           let c = created-base (t .base) n r v a n1 n2 r1 r2 (rw k (nobody b n free)) in
-          let s1 = calm-takes b (getD m 248 0) hr q m1 e in
+          let s1 = calm-takes b (running m) hr q m1 e in
           let ag = agrees b (posts s1) (t .base) in
           let m2 = created m1 q n r v a in
           let m3 = memoryOf (Model.done m2 len) in
@@ -117,15 +119,15 @@ module _ {m : List ℕ} (w : WellFormed m) (d : getD m 248 0 ≢ 0) where
           let pr : processors (memoryOf (Model.done m2 len)) ≡ lists m 247 ++ q ∷ [] =
           procs-same (c .base) d2 ∙ sym (listed (c .base)) ∙ created-procs (t .base) n r v a in
           let pc : c .procs ≡ lists m 247 ++ q ∷ [] = sym (listed (c .base)) ∙ created-procs (t .base) n r v a in
-          let lm : processors m ≡ lists m 247 = listed b in
-          let ps1 : Posts (lists m 247) (lists m) m m2 = posts-then ag (posts s1) (created-posts (t .base) n r v a) in
-          let keep : (p : ℕ) → 1 ≤ count p (lists m 247) → waitingFor (memoryOf (Model.done m2 len)) p ≡ waitingFor m p = λ p h.
-          waits-same (c .base) (posts d2) p (rw pc (omega (arith, count-append p (lists m 247) (q ∷ [])))) ∙ waits-same b ps1 p h in
-          let qc : 1 ≤ count q (c .procs) = rw pc (count-mid q (lists m 247) []) in
+          let lm : processors m ≡ lists m processorList = listed b in
+          let ps1 : Posts (lists m processorList) (lists m) m m2 = posts-then ag (posts s1) (created-posts (t .base) n r v a) in
+          let keep : (p : ℕ) → 1 ≤ count p (lists m processorList) → waitingFor (memoryOf (Model.done m2 len)) p ≡ waitingFor m p = λ p h.
+          waits-same (c .base) (posts d2) p (rw pc (omega (arith, count-append p (lists m processorList) (q ∷ [])))) ∙ waits-same b ps1 p h in
+          let qc : 1 ≤ count q (c .procs) = rw pc (count-mid q (lists m processorList) []) in
           crp-page-each m Ends e n r v a len (λ y. absurd (z y)) (λ y. record {
             at = λ p h i y f. rw (of-none p, keep p (rw lm at h), append-nil (waitingFor m p));
             born = λ p h i.
-                let pq : p ≡ q = new p q (omega (arith, ap (count p) pr, count-append p (lists m 247) (q ∷ []), ap (count p) lm)) in
+                let pq : p ≡ q = new p q (omega (arith, ap (count p) pr, count-append p (lists m processorList) (q ∷ []), ap (count p) lm)) in
                 rw pq (waits-same (c .base) (posts d2) q qc ∙ created-empty (t .base) n r v a);
           })
         where

@@ -6,6 +6,7 @@ use mathlib.Core.Bool.{true}
 use mathlib.Core.List.{List, [], _∷_, _++_, append-assoc, map}
 use Prim.Native.Nat.{ℕ, _+_, _-_, _*_, _≤_}
 use native.Mathlib.Omega.{arith}
+use Rattle.model.specs.Map.{place, q1, q2}
 use Rattle.model.specs.Mail as Mail
 use Rattle.model.specs.Bytes.{leave, move}
 use Rattle.model.specs.Lists.{count, Lists}
@@ -24,18 +25,18 @@ use Rattle.history.specs.Letter.{Letter, mailOf, key, asked, one-key, ma
 
 -- a message that leaves Q1 or Q2 leaves all texts
 pub leave-texts : {m : List ℕ} {ps : List ℕ} {L : Lists} {W : View} {hs : List ℕ} {g : ℕ} → Base m ps L W hs g → (p w q : ℕ) (xs ys : List ℕ) → 1 ≤ count p ps
-    → 5 ≤ w → w ≤ 6 → L (p * 32 + w) ≡ xs ++ q ∷ ys → Texted ps m (leave m (p * 32 + w) 0 q)
+    → 5 ≤ w → w ≤ 6 → L (place p w) ≡ xs ++ q ∷ ys → Texted ps m (leave m (place p w) 0 q)
 leave-texts {ps = ps} b p w q xs ys h u v e = record {
   at = λ x px o j k l.
       let s = b .facts .sep in
       let pg = proc-page s p h in
       let i = in-q ps p w u v h in
-      leave-frame s (b .mem) (p * 32 + w) (i, grant-high (p * 32 + w) (omega arith)) (omega arith) q xs ys e (x * 32 + j)
-      (λ z. head-off s x j (p * 32 + w) px l o i (sym z)) (λ z r. omega arith);
+      leave-frame s (b .mem) (place p w) (i, grant-high (place p w) (omega arith)) (omega arith) q xs ys e (place x j)
+      (λ z. head-off s x j (place p w) px l o i (sym z)) (λ z r. omega arith);
 }
 
 module _ {m : List ℕ} {ps : List ℕ} {L : Lists} {W : View} {hs : List ℕ} {g : ℕ} (b : Base m ps L W hs g) (p q : ℕ) (xs ys : List ℕ) (h : 1 ≤ count p ps)
-    (e : L (p * 32 + 5) ≡ xs ++ q ∷ ys) where
+    (e : L (place p q1) ≡ xs ++ q ∷ ys) where
   s : Sep ps L
   s = b .facts .sep
 
@@ -43,44 +44,44 @@ module _ {m : List ℕ} {ps : List ℕ} {L : Lists} {W : View} {hs : List ℕ} {
   pg = proc-page s p h
 
   abbrev J : Lists
-  J = upd L (p * 32 + 5) (xs ++ ys)
+  J = upd L (place p q1) (xs ++ ys)
 
   abbrev m1 : List ℕ
-  m1 = leave m (p * 32 + 5) 0 q
+  m1 = leave m (place p q1) 0 q
 
   b1 : Base m1 ps J W (q ∷ hs) g
   b1 = take-mail b p 5 q xs ys h (omega arith) (omega arith) e
 
-  in5 : 1 ≤ count q (L (p * 32 + 5))
+  in5 : 1 ≤ count q (L (place p q1))
   in5 = rw e (count-mid q xs ys)
 
   pub moved : Lists
-  moved = upd J (p * 32 + 6) (J (p * 32 + 6) ++ q ∷ [])
+  moved = upd J (place p q2) (J (place p q2) ++ q ∷ [])
 
   pub move-lists : Base (move m p q) ps moved W hs g
   unfolding Mail.move moved
   move-lists = give-mail b1 p 6 h (omega arith) (omega arith) (b .facts .mail p 5 h (omega arith) (omega arith) q in5) (λ x j k. absurd (omega arith))
 
-  pub moved-q1 : moved (p * 32 + 5) ≡ xs ++ ys
+  pub moved-q1 : moved (place p q1) ≡ xs ++ ys
   unfolding moved
-  moved-q1 = upd-other J (p * 32 + 6) (p * 32 + 5) (J (p * 32 + 6) ++ q ∷ []) (omega arith) ∙ upd-same L (p * 32 + 5) (xs ++ ys)
+  moved-q1 = upd-other J (place p q2) (place p q1) (J (place p q2) ++ q ∷ []) (omega arith) ∙ upd-same L (place p q1) (xs ++ ys)
 
-  pub moved-q2 : moved (p * 32 + 6) ≡ L (p * 32 + 6) ++ q ∷ []
+  pub moved-q2 : moved (place p q2) ≡ L (place p q2) ++ q ∷ []
   unfolding moved
-  moved-q2 = upd-same J (p * 32 + 6) (J (p * 32 + 6) ++ q ∷ []) ∙ ap (λ (l : List ℕ). l ++ q
-      ∷ []) (upd-other L (p * 32 + 5) (p * 32 + 6) (xs ++ ys) (omega arith))
+  moved-q2 = upd-same J (place p q2) (J (place p q2) ++ q ∷ []) ∙ ap (λ (l : List ℕ). l ++ q
+      ∷ []) (upd-other L (place p q1) (place p q2) (xs ++ ys) (omega arith))
 
-  pub moved-other : (a : ℕ) → a ≢ p * 32 + 5 → a ≢ p * 32 + 6 → moved a ≡ L a
+  pub moved-other : (a : ℕ) → a ≢ place p q1 → a ≢ place p q2 → moved a ≡ L a
   unfolding moved
-  moved-other a n5 n6 = upd-other J (p * 32 + 6) a (J (p * 32 + 6) ++ q ∷ []) n6 ∙ upd-other L (p * 32 + 5) a (xs ++ ys) n5
+  moved-other a n5 n6 = upd-other J (place p q2) a (J (place p q2) ++ q ∷ []) n6 ∙ upd-other L (place p q1) a (xs ++ ys) n5
 
   pub move-texts : Texted ps m (move m p q)
   unfolding Mail.move
   move-texts = record {
     at = λ x px o j k l.
         let i6 = in-q ps p 6 (omega arith) (omega arith) h in
-        join-frame (b1 .facts .sep) (b1 .mem) (p * 32 + 6) (i6, grant-high (p * 32 + 6) (omega (arith, pg))) (omega (arith, pg)) q
-        (hand-page b1 q (in-hand b1)) (hand-new b1) (x * 32 + j) (λ z. head-off s x j (p * 32 + 6) px l o i6 (sym z)) (λ z i. omega arith) (omega arith)
+        join-frame (b1 .facts .sep) (b1 .mem) (place p q2) (i6, grant-high (place p q2) (omega (arith, pg))) (omega (arith, pg)) q
+        (hand-page b1 q (in-hand b1)) (hand-new b1) (place x j) (λ z. head-off s x j (place p q2) px l o i6 (sym z)) (λ z i. omega arith) (omega arith)
         ∙ leave-texts b p 5 q xs ys h (omega arith) (omega arith) e .at x px o j k l;
   }
 
@@ -88,24 +89,24 @@ module _ {m : List ℕ} {ps : List ℕ} {L : Lists} {W : View} {hs : List ℕ} {
   abbrev M : List ℕ → List Letter
   M l = map (mailOf m) l
 
-  pub moved-here : waitingFor (move m p q) p ≡ M (L (p * 32 + 6)) ++ (mailOf m q ∷ (M xs ++ M ys))
+  pub moved-here : waitingFor (move m p q) p ≡ M (L (place p q2)) ++ (mailOf m q ∷ (M xs ++ M ys))
   moved-here =
       waits-through move-lists move-texts p h
       ∙ rw (
         moved-q1,
         moved-q2,
-        map-append (mailOf m) (L (p * 32 + 6)) (q
+        map-append (mailOf m) (L (place p q2)) (q
             ∷ []),
         map-append (mailOf m) xs ys,
-      ) (append-assoc (M (L (p * 32 + 6))) (mailOf m q ∷ []) (M xs ++ M ys))
+      ) (append-assoc (M (L (place p q2))) (mailOf m q ∷ []) (M xs ++ M ys))
 
-  pub was-here : waitingFor m p ≡ M (L (p * 32 + 6)) ++ (M xs ++ (mailOf m q ∷ M ys))
+  pub was-here : waitingFor m p ≡ M (L (place p q2)) ++ (M xs ++ (mailOf m q ∷ M ys))
   was-here = waits-by b p h ∙ rw (e, map-append (mailOf m) xs (q ∷ ys))
 
   pub moved-away : (y : ℕ) → 1 ≤ count y ps → y ≢ p → waitingFor (move m p q) y ≡ waitingFor m y
   moved-away y i n =
       waits-through move-lists move-texts y i
-      ∙ rw (moved-other (y * 32 + 5) (omega arith) (omega arith), moved-other (y * 32 + 6) (omega arith) (omega arith)) (sym (waits-by b y i))
+      ∙ rw (moved-other (place y q1) (omega arith) (omega arith), moved-other (place y q2) (omega arith) (omega arith)) (sym (waits-by b y i))
 
   -- the first match overtakes none of its sender and flag
   pub moved-order : (n f : ℕ) → asked n f (mailOf m q) ≡ true → Fails (asked n f) (M xs) → (k l : ℕ)
@@ -114,15 +115,15 @@ module _ {m : List ℕ} {ps : List ℕ} {L : Lists} {W : View} {hs : List ℕ} {
       rw (
         moved-here,
         was-here,
-        only-append (key k l) (M (L (p * 32 + 6))) (mailOf m q ∷ (M xs ++ M ys)),
-        only-append (key k l) (M (L (p * 32 + 6))) (M xs ++ (mailOf m q ∷ M ys)),
+        only-append (key k l) (M (L (place p q2))) (mailOf m q ∷ (M xs ++ M ys)),
+        only-append (key k l) (M (L (place p q2))) (M xs ++ (mailOf m q ∷ M ys)),
         overtakes-none (key k l) (asked n f) (one-key n f k l) (mailOf m q) is (M xs) (M ys) not,
       )
 
 -- the first of Q1, moved, changes nothing of what waits
 pub moved-first : {m : List ℕ} {ps : List ℕ} {L : Lists} {W : View} {hs : List ℕ} {g : ℕ} (b : Base m ps L W hs g) (p q : ℕ) (ys : List ℕ)
     → (h : 1 ≤ count p ps)
-    → L (p * 32 + 5) ≡ q ∷ ys → (y : ℕ) → 1 ≤ count y ps → waitingFor (move m p q) y ≡ waitingFor m y
+    → L (place p q1) ≡ q ∷ ys → (y : ℕ) → 1 ≤ count y ps → waitingFor (move m p q) y ≡ waitingFor m y
 moved-first {m} b p q ys h e y i = go (hit-or y p)
   where
     go : (y ≡ p) ⊎ (y ≢ p) → waitingFor (move m p q) y ≡ waitingFor m y

@@ -8,6 +8,8 @@ use native.Mathlib.Omega.{arith}
 use lib.ListN.{length, getD}
 use lib.Dec.{eqb}
 use borrow.Author.Tests.{eqb-false, eq-eqb}
+use Rattle.model.specs.Map.{memorySize, processorList}
+use Rattle.model.specs.Bytes.{running}
 use Rattle.model.specs.declared.Registers.{Registers}
 use Rattle.model.specs.Address.{guarded}
 use Rattle.model.specs.Answer as Answer
@@ -30,14 +32,14 @@ use Rattle.history.specs.Clocks.{calm-interrupt}
 use Rattle.history.specs.Quiet.{registers-calm}
 
 module _ {m : List ℕ} (h : Sound m) where
-  b : Base m (lists m 247) (lists m) (view m) [] 32
+  b : Base m (lists m processorList) (lists m) (view m) [] 32
   b = invariant (well h) .base
 
-  size-is : eqb (length m) 8192 ≡ true
-  size-is = eq-eqb (length m) 8192 (h .size)
+  size-is : eqb (length m) memorySize ≡ true
+  size-is = eq-eqb (length m) memorySize (h .size)
 
   -- where no message moves, nothing is put or read
-  pub calm-told : (m′ : List ℕ) → Same (lists m 247) (lists m) m m′ → Told m m′ nothing
+  pub calm-told : (m′ : List ℕ) → Same (lists m processorList) (lists m) m m′ → Told m m′ nothing
   calm-told m′ s = told-same b m′ s
 
   pub stays-told : Told m m nothing
@@ -56,13 +58,13 @@ module _ {m : List ℕ} (h : Sound m) where
 
   pub set-told : (r : Registers) → Told m (memoryOf (setRegisters m r)) nothing
   unfolding Call.head Call.setRegisters Call.setJudged Answer.memoryOf
-  set-told r = go (eqb (getD m 248 0) 0) (inRange r) refl refl
+  set-told r = go (eqb (running m) 0) (inRange r) refl refl
     where
-      go : (x y : Bool) → eqb (getD m 248 0) 0 ≡ x → inRange r ≡ y → Told m (memoryOf (setRegisters m r)) nothing
+      go : (x y : Bool) → eqb (running m) 0 ≡ x → inRange r ≡ y → Told m (memoryOf (setRegisters m r)) nothing
       go true y e f = rw (unrefused h, e) stays-told
       go false false e f = rw (unrefused h, e, f) stays-told
       go false true e f =
-          rw (unrefused h, e, f) (calm-told (setRegistersOf m (getD m 248 0) r) (registers-calm (well h) (eqb-false (getD m 248 0) 0 e) r))
+          rw (unrefused h, e, f) (calm-told (setRegistersOf m (running m) r) (registers-calm (well h) (eqb-false (running m) 0 e) r))
 
   pub read-told : Told m (memoryOf (readRegisters m)) nothing
   read-told = rw (read-same h) stays-told
@@ -77,15 +79,15 @@ module _ {m : List ℕ} (h : Sound m) where
   pub host-told : {m′ : List ℕ} → Host m m′ → Told m m′ nothing
   host-told {m′} k = calm-told m′ (record { at = λ c o. k .same c (high c o) (safe c o) })
     where
-      s : Sep (lists m 247) (lists m)
+      s : Sep (lists m processorList) (lists m)
       s = b .facts .sep
 
-      high : (c : ℕ) → Ours (lists m 247) (lists m) c → 32 ≤ c
+      high : (c : ℕ) → Ours (lists m processorList) (lists m) c → 32 ≤ c
       high c (mail o) = let t = mine-high s o in omega arith
       high c (first e) = omega arith
       high c (next z o e) = let t = proc-page s z o in omega arith
 
-      safe : (c : ℕ) → Ours (lists m 247) (lists m) c → guarded c ≡ true
+      safe : (c : ℕ) → Ours (lists m processorList) (lists m) c → guarded c ≡ true
       safe c (mail o) = guarded-high c (mine-high s o .0)
       safe c (first e) = guarded-low c (omega arith) (omega arith)
       safe c (next z o e) = let t = proc-page s z o in guarded-high c (omega arith)

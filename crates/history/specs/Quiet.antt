@@ -7,6 +7,8 @@ use mathlib.Core.List.{List, [], _∷_}
 use Prim.Native.Nat.{ℕ, _+_, _-_, _*_, _/_, _%_, _≤_, _<_}
 use native.Mathlib.Omega.{arith}
 use lib.ListN.{getD, set}
+use Rattle.model.specs.Map.{codeLow, codeWord, guardedLast, highLr, label, lowLr, memorySize, place, processorList, runningPage, semaphoreOf, state}
+use Rattle.model.specs.Bytes.{name, running, store, word}
 use Rattle.model.specs.declared.Registers.{Registers}
 use Rattle.model.specs.Address.{guarded}
 use Rattle.model.specs.Instruction as Instruction
@@ -32,20 +34,20 @@ use Rattle.history.specs.Clocks.{calm-serve}
 use Rattle.history.specs.Put.{nothing}
 
 -- ---- instructions, of a well-formed memory where someone runs
-pub clear-far : (a : ℕ) → guarded a ≡ false → (a < 7552) × (a ≢ 247)
-clear-far a h = let o = clear-open a h in (o .below, o .between 247 (omega arith) (omega arith))
+pub clear-far : (a : ℕ) → guarded a ≡ false → (a < guardedLast) × (a ≢ processorList)
+clear-far a h = let o = clear-open a h in (o .below, o .between processorList (omega arith) (omega arith))
 
-module _ {m : List ℕ} (w : WellFormed m) (d : getD m 248 0 ≢ 0) where
+module _ {m : List ℕ} (w : WellFormed m) (d : running m ≢ 0) where
   open Busy (busy w d) using (base as b, runs as hr, ready)
 
   abbrev Calm : List ℕ → Type 0
-  Calm x = Same (lists m 247) (lists m) m x
+  Calm x = Same (lists m processorList) (lists m) m x
 
-  s : Sep (lists m 247) (lists m)
+  s : Sep (lists m processorList) (lists m)
   s = b .facts .sep
 
   abbrev r : ℕ
-  r = getD m 248 0
+  r = running m
 
   pub fails : (f : ℕ) → Calm (memoryOf (Model.fault m f))
   fails f = calm-fault b d f
@@ -60,24 +62,24 @@ module _ {m : List ℕ} (w : WellFormed m) (d : getD m 248 0 ≢ 0) where
   bad = record { all = λ f i j. fails f }
 
   -- then done, then a jump; the same one runs
-  pub then-done : (x : List ℕ) (len : ℕ) → Calm x → getD x 248 0 ≡ getD m 248 0 → Calm (memoryOf (Model.done x len))
+  pub then-done : (x : List ℕ) (len : ℕ) → Calm x → running x ≡ running m → Calm (memoryOf (Model.done x len))
   then-done x len f e = same-on f (calm-done s x (rw e (runs-in b)) len)
 
-  pub then-jumps : (x : List ℕ) (a : ℕ) → Calm x → getD x 248 0 ≡ getD m 248 0 → Calm (memoryOf (Model.jumps x a))
+  pub then-jumps : (x : List ℕ) (a : ℕ) → Calm x → running x ≡ running m → Calm (memoryOf (Model.jumps x a))
   then-jumps x a f e = same-on f (calm-jumps s x (rw e (runs-in b)) a)
 
   calm-code : (c k a : ℕ) → c < 16 → Calm (setCode m c k a)
   unfolding Instruction.setCode
   calm-code c k a l =
       let v = k * 32 + a / 256 % 32 in
-      let c1 : Calm (set m (256 + 2 * c) v) = calm-low s m (256 + 2 * c) v (omega arith) (omega arith) in
-      same-on c1 (calm-low s (set m (256 + 2 * c) v) (257 + 2 * c) (a % 256) (omega arith) (omega arith))
+      let c1 : Calm (set m (codeWord c) v) = calm-low s m (codeWord c) v (omega arith) (omega arith) in
+      same-on c1 (calm-low s (set m (codeWord c) v) (codeLow c) (a % 256) (omega arith) (omega arith))
 
-  code-run : (c k a : ℕ) → getD (setCode m c k a) 248 0 ≡ getD m 248 0
+  code-run : (c k a : ℕ) → running (setCode m c k a) ≡ running m
   unfolding Instruction.setCode
   code-run c k a =
       let v = k * 32 + a / 256 % 32 in
-      other (set m (256 + 2 * c) v) (257 + 2 * c) (a % 256) 248 (omega arith) ∙ other m (256 + 2 * c) v 248 (omega arith)
+      other (set m (codeWord c) v) (codeLow c) (a % 256) runningPage (omega arith) ∙ other m (codeWord c) v runningPage (omega arith)
 
   pub cvi-calm : (c a n : ℕ) → c < 16 → Calm (memoryOf (Model.cvi m c a n))
   cvi-calm c a n l = cvi-each bad c a n (λ z. then-done (setCode m c 2 a) n (calm-code c 2 a l) (code-run c 2 a))
@@ -89,22 +91,22 @@ module _ {m : List ℕ} (w : WellFormed m) (d : getD m 248 0 ≢ 0) where
   unfolding Operate.gin
   gin-calm len =
       let n = b .facts .names .range r hr in
-      let k = getD m (r * 32 + 7) 0 % 16 in
+      let k = name m r in
       let t = serve-base k 0 (n .name) (omega arith) b in
-      then-done (serve m k 0) len (calm-serve k 0 (n .name) (omega arith) b) (running-at (t .base) ∙ ap (λ (z : ℕ → ℕ). z 248) (t .low))
+      then-done (serve m k 0) len (calm-serve k 0 (n .name) (omega arith) b) (running-at (t .base) ∙ ap (λ (z : ℕ → ℕ). z runningPage) (t .low))
 
   pub win-calm : (k c len : ℕ) → c ≤ 255 → Calm (memoryOf (Model.win m k c len))
   unfolding Processor.advance
   win-calm k c len u = win-each bad k c len (λ g.
-      same-on (calm-lr s m r ((Model.lr m + len) % 8192) (runs-in b))
-      (calm-waits (advance-base b len) (129 + 2 * k) c d (seat k c (g .low) (g .high) (lists m 247)) (omega (arith, ready))
+      same-on (calm-lr s m r ((Model.lr m + len) % memorySize) (runs-in b))
+      (calm-waits (advance-base b len) (semaphoreOf k) c d (seat k c (g .low) (g .high) (lists m processorList)) (omega (arith, ready))
       (line-fit s k c (g .low) (g .high) (g .count) u)))
 
-  state-calm : (p v len : ℕ) → 1 ≤ count p (lists m 247) → Calm (memoryOf (Model.done (set m (p * 32 + 12) v) len))
+  state-calm : (p v len : ℕ) → 1 ≤ count p (lists m processorList) → Calm (memoryOf (Model.done (store m p state v) len))
   state-calm p v len h =
       let g = proc-page s p h in
-      then-done (set m (p * 32 + 12) v) len (calm-proc s m p 12 v h (omega arith) (omega arith) (omega arith) (omega arith))
-      (other m (p * 32 + 12) v 248 (omega arith))
+      then-done (store m p state v) len (calm-proc s m p 12 v h (omega arith) (omega arith) (omega arith) (omega arith))
+      (other m (place p state) v runningPage (omega arith))
 
   -- ST1 and STP; DEP is not among them
   pub named-calm : (c n len : ℕ) → (c ≡ 8) ⊎ (c ≡ 9) → Calm (memoryOf (Model.named m c n len))
@@ -112,36 +114,36 @@ module _ {m : List ℕ} (w : WellFormed m) (d : getD m 248 0 ≢ 0) where
   named-calm c n len (inl e) = rw e (st1-each bad n len (λ z. state-calm (pageOf m n) _ len (named-in b n z)))
   named-calm c n len (inr e) = rw e (stp-each bad n len (λ z. state-calm (pageOf m n) _ len (named-in b n z)))
 
-  started-calm : (p a len : ℕ) → 1 ≤ count p (lists m 247) → Calm (memoryOf (Model.done (Model.start (Model.setLr m p a) p) len))
+  started-calm : (p a len : ℕ) → 1 ≤ count p (lists m processorList) → Calm (memoryOf (Model.done (Model.start (Model.setLr m p a) p) len))
   unfolding Processor.start Processor.setLr
   started-calm p a len h =
       let g = proc-page s p h in
-      let v = getD m (p * 32 + 10) 0 / 32 * 32 + a / 256 % 32 in
-      let m1 = set m (p * 32 + 10) v in
-      let m2 = set m1 (p * 32 + 11) (a % 256) in
-      let t = getD m2 (p * 32 + 12) 0 % 128 in
+      let v = word m p highLr / 32 * 32 + a / 256 % 32 in
+      let m1 = store m p highLr v in
+      let m2 = store m1 p lowLr (a % 256) in
+      let t = word m2 p state % 128 in
       let c1 : Calm m1 = calm-proc s m p 10 v h (omega arith) (omega arith) (omega arith) (omega arith) in
       let c2 : Calm m2 = same-on c1 (calm-proc s m1 p 11 (a % 256) h (omega arith) (omega arith) (omega arith) (omega arith)) in
-      let c3 : Calm (set m2 (p * 32 + 12) t) = same-on c2 (calm-proc s m2 p 12 t h (omega arith) (omega arith) (omega arith) (omega arith)) in
-      let e : getD (set m2 (p * 32 + 12) t) 248 0 ≡ getD m 248 0 = other m2 (p * 32 + 12) t 248 (omega arith)
-      ∙ other m1 (p * 32 + 11) (a % 256) 248 (omega arith) ∙ other m (p * 32 + 10) v 248 (omega arith) in
-      then-done (set m2 (p * 32 + 12) t) len c3 e
+      let c3 : Calm (store m2 p state t) = same-on c2 (calm-proc s m2 p 12 t h (omega arith) (omega arith) (omega arith) (omega arith)) in
+      let e : running (store m2 p state t) ≡ running m = other m2 (place p state) t runningPage (omega arith)
+      ∙ other m1 (place p lowLr) (a % 256) runningPage (omega arith) ∙ other m (place p highLr) v runningPage (omega arith) in
+      then-done (store m2 p state t) len c3 e
 
   pub st2-calm : (n a len : ℕ) → Calm (memoryOf (Model.st2 m n a len))
   st2-calm n a len = st2-each bad n a len (λ g. started-calm (pageOf m n) a len (named-in b n (g .found)))
 
   -- ---- code 13: what it writes, and that the same one runs
   abbrev Both : List ℕ → Type 0
-  Both x = Calm x × (getD x 248 0 ≡ getD m 248 0)
+  Both x = Calm x × (running x ≡ running m)
 
-  reg : (k v : ℕ) (x : List ℕ) → 8 ≤ k → k < 13 → Both x → Both (set x (r * 32 + k) v)
-  reg k v x l u h = (same-on (h .0) (calm-run s x r k v (runs-in b) l (omega arith)), other x (r * 32 + k) v 248 (omega arith) ∙ h .1)
+  reg : (k v : ℕ) (x : List ℕ) → 8 ≤ k → k < 13 → Both x → Both (store x r k v)
+  reg k v x l u h = (same-on (h .0) (calm-run s x r k v (runs-in b) l (omega arith)), other x (place r k) v runningPage (omega arith) ∙ h .1)
 
-  free : (a v : ℕ) (x : List ℕ) → guarded a ≡ false → a ≢ 248 → Both x → Both (set x a v)
-  free a v x g n h = let t = clear-far a g in (same-on (h .0) (calm-low s x a v (t .0) (t .1)), other x a v 248 (λ e. n (sym e)) ∙ h .1)
+  free : (a v : ℕ) (x : List ℕ) → guarded a ≡ false → a ≢ runningPage → Both x → Both (set x a v)
+  free a v x g n h = let t = clear-far a g in (same-on (h .0) (calm-low s x a v (t .0) (t .1)), other x a v runningPage (λ e. n (sym e)) ∙ h .1)
 
-  not-running : (a : ℕ) → guarded a ≡ false → a ≢ 248
-  not-running a h = clear-open a h .between 248 (omega arith) (omega arith)
+  not-running : (a : ℕ) → guarded a ≡ false → a ≢ runningPage
+  not-running a h = clear-open a h .between runningPage (omega arith) (omega arith)
 
   worked-both : (o a : ℕ) → guarded a ≡ false → Both (Model.worked m o a)
   unfolding Operate.worked Operate.adds Operate.storesA Operate.ands Operate.increments
@@ -161,10 +163,10 @@ module _ {m : List ℕ} (w : WellFormed m) (d : getD m 248 0 ≢ 0) where
   returns-both n =
       let m1 = set m 5 (n / 256 % 32) in
       let c1 : Calm m1 = calm-low s m 5 (n / 256 % 32) (omega arith) (omega arith) in
-      (same-on c1 (calm-low s m1 6 (n % 256) (omega arith) (omega arith)), other m1 6 (n % 256) 248 (omega arith) ∙ other m 5 (n / 256 % 32) 248 (omega arith))
+      (same-on c1 (calm-low s m1 6 (n % 256) (omega arith) (omega arith)), other m1 6 (n % 256) runningPage (omega arith) ∙ other m 5 (n / 256 % 32) runningPage (omega arith))
 
   pub thirteen-calm : (x o a len : ℕ) → Calm (memoryOf (Model.thirteen m x o a len))
-  thirteen-calm x o a len = thirteen-each bad x o a len (λ e. let v = returns-both ((Model.lr m + len) % 8192) in
+  thirteen-calm x o a len = thirteen-each bad x o a len (λ e. let v = returns-both ((Model.lr m + len) % memorySize) in
       reaches-each bad o e len (then-jumps _ e (v .0) (v .1)) (then-jumps m e (calm-refl m) refl) (λ g.
       let t = worked-both o e g in then-done (Model.worked m o e) len (t .0) (t .1)))
 

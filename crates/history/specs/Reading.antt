@@ -6,6 +6,9 @@ use mathlib.Core.List.{List, [], _∷_, _++_, append-assoc, append-nil, map}
 use Prim.Native.Nat.{ℕ, _+_, _-_, _*_, _%_, _≤_}
 use native.Mathlib.Omega.{arith}
 use lib.ListN.{getD}
+use Rattle.model.specs.Map.{place, processorList, q1, q2, size}
+use Rattle.model.specs.Address.{wrapped}
+use Rattle.model.specs.Bytes.{running, word}
 use Rattle.model.specs.Address.{clear}
 use Rattle.model.specs.Operate as Operate
 use Rattle.model.specs.Answer.{memoryOf}
@@ -34,20 +37,20 @@ use Rattle.history.specs.Moving.{leave-texts}
 use Rattle.history.specs.Tests.{Found, found}
 
 -- what RME writes: three words and the text
-pub out-calm : {ps : List ℕ} {L : Lists} → Sep ps L → (m : List ℕ) (q a : ℕ) → clear (3 + getD m (q * 32 + 2) 0 % 128) a ≡ true → Same ps L m (copyOut m q a)
+pub out-calm : {ps : List ℕ} {L : Lists} → Sep ps L → (m : List ℕ) (q a : ℕ) → clear (3 + word m q size % 128) a ≡ true → Same ps L m (copyOut m q a)
 out-calm s m q a h = record {
   at = λ c o. out-far m q a c (ours-fits s o) (λ i l.
-      let t = clear-far ((a + i) % 8192) (clear-at (3 + getD m (q * 32 + 2) 0 % 128) a h i l) in ours-low s o ((a + i) % 8192) (t .0) (t .1));
+      let t = clear-far (wrapped a i) (clear-at (3 + word m q size % 128) a h i l) in ours-low s o (wrapped a i) (t .0) (t .1));
 }
 
 -- ---- message q leaves Q2, and its page is given back
 module _ {m : List ℕ} {ps : List ℕ} {L : Lists} {W : View} (b : Base m ps L W [] 32) (p q : ℕ) (xs ys : List ℕ) (h : 1 ≤ count p ps)
-    (e : L (p * 32 + 6) ≡ xs ++ q ∷ ys) where
+    (e : L (place p q2) ≡ xs ++ q ∷ ys) where
   abbrev J : Lists
-  J = upd L (p * 32 + 6) (xs ++ ys)
+  J = upd L (place p q2) (xs ++ ys)
 
   abbrev m1 : List ℕ
-  m1 = leave m (p * 32 + 6) 0 q
+  m1 = leave m (place p q2) 0 q
 
   b1 : Base m1 ps J W (q ∷ []) 32
   b1 = take-mail b p 6 q xs ys h (omega arith) (omega arith) e
@@ -58,54 +61,54 @@ module _ {m : List ℕ} {ps : List ℕ} {L : Lists} {W : View} (b : Base m ps L 
   abbrev M : List ℕ → List Letter
   M l = map (mailOf m) l
 
-  pub left-here : waitingFor (giveBack m1 q) p ≡ M xs ++ (M ys ++ M (L (p * 32 + 5)))
+  pub left-here : waitingFor (giveBack m1 q) p ≡ M xs ++ (M ys ++ M (L (place p q1)))
   left-here =
       waits-same b1 (posts (calm-give b1)) p h ∙ waits-through b1 left-texts p h
-      ∙ rw (upd-same L (p * 32 + 6) (xs ++ ys), upd-other L (p * 32 + 6) (p * 32 + 5) (xs ++ ys) (omega arith), map-append (mailOf m) xs ys)
-      (append-assoc (M xs) (M ys) (M (L (p * 32 + 5))))
+      ∙ rw (upd-same L (place p q2) (xs ++ ys), upd-other L (place p q2) (place p q1) (xs ++ ys) (omega arith), map-append (mailOf m) xs ys)
+      (append-assoc (M xs) (M ys) (M (L (place p q1))))
 
-  pub was-there : waitingFor m p ≡ M xs ++ (mailOf m q ∷ (M ys ++ M (L (p * 32 + 5))))
-  was-there = waits-by b p h ∙ rw (e, map-append (mailOf m) xs (q ∷ ys)) (append-assoc (M xs) (mailOf m q ∷ M ys) (M (L (p * 32 + 5))))
+  pub was-there : waitingFor m p ≡ M xs ++ (mailOf m q ∷ (M ys ++ M (L (place p q1))))
+  was-there = waits-by b p h ∙ rw (e, map-append (mailOf m) xs (q ∷ ys)) (append-assoc (M xs) (mailOf m q ∷ M ys) (M (L (place p q1))))
 
   pub left-away : (y : ℕ) → 1 ≤ count y ps → y ≢ p → waitingFor (giveBack m1 q) y ≡ waitingFor m y
   left-away y i n =
       waits-same b1 (posts (calm-give b1)) y i ∙ waits-through b1 left-texts y i
       ∙ rw (
-        upd-other L (p * 32 + 6) (y * 32 + 5) (xs ++ ys) (omega arith),
-        upd-other L (p * 32 + 6) (y * 32 + 6) (xs ++ ys) (omega arith),
+        upd-other L (place p q2) (place y q1) (xs ++ ys) (omega arith),
+        upd-other L (place p q2) (place y q2) (xs ++ ys) (omega arith),
       ) (sym (waits-by b y i))
 
   pub left-order : (n f : ℕ) → asked n f (mailOf m q) ≡ true → Fails (asked n f) (M xs) → (k l : ℕ)
       → only (key k l) (mailOf m q ∷ waitingFor (giveBack m1 q) p) ≡ only (key k l) (waitingFor m p)
   left-order n f is not k l =
-      rw (left-here, was-there) (overtakes-none (key k l) (asked n f) (one-key n f k l) (mailOf m q) is (M xs) (M ys ++ M (L (p * 32 + 5))) not)
+      rw (left-here, was-there) (overtakes-none (key k l) (asked n f) (one-key n f k l) (mailOf m q) is (M xs) (M ys ++ M (L (place p q1))) not)
 
 -- ---- the instruction
-module _ {m : List ℕ} (w : WellFormed m) (d : getD m 248 0 ≢ 0) where
+module _ {m : List ℕ} (w : WellFormed m) (d : running m ≢ 0) where
   open Busy (busy w d) using (base as b, runs as hr)
 
   abbrev r : ℕ
-  r = getD m 248 0
+  r = running m
 
-  received-told : (n f q a len : ℕ) → Found m n f q (lists m (r * 32 + 6)) → clear (3 + getD m (q * 32 + 2) 0 % 128) a ≡ true
+  received-told : (n f q a len : ℕ) → Found m n f q (lists m (place r q2)) → clear (3 + word m q size % 128) a ≡ true
       → Told m (memoryOf (Model.done (Model.received m q a) len)) (reading r (mailOf m q) a)
   unfolding Operate.received
   received-told n f q a len t cl =
       let x = copyOut m q a in
-      let bx : Base x (lists m 247) (lists m) (view m) [] 32 = base-kept (out-kept m q a cl) b in
-      let sx : Same (lists m 247) (lists m) m x = out-calm (b .facts .sep) m q a cl in
+      let bx : Base x (lists m processorList) (lists m) (view m) [] 32 = base-kept (out-kept m q a cl) b in
+      let sx : Same (lists m processorList) (lists m) m x = out-calm (b .facts .sep) m q a cl in
       let xs = t .before in
       let ys = t .behind in
-      let m1 = leave x (r * 32 + 6) 0 q in
+      let m1 = leave x (place r q2) 0 q in
       let m2 = giveBack m1 q in
       let b1 = take-mail bx r 6 q xs ys hr (omega arith) (omega arith) (t .is) in
       let g2 = give-back b1 in
-      let d2 : Same (lists m 247) (g2 .lists) m2 (memoryOf (Model.done m2 len)) = calm-done (g2 .base .facts .sep) m2 (runs-in (g2 .base)) len in
+      let d2 : Same (lists m processorList) (g2 .lists) m2 (memoryOf (Model.done m2 len)) = calm-done (g2 .base .facts .sep) m2 (runs-in (g2 .base)) len in
       let pr : processors (memoryOf (Model.done m2 len)) ≡ processors m = procs-same (g2 .base) d2 ∙ sym (listed b) in
-      let same : (y : ℕ) → 1 ≤ count y (lists m 247)
+      let same : (y : ℕ) → 1 ≤ count y (lists m processorList)
       → waitingFor (memoryOf (Model.done m2 len)) y ≡ waitingFor m2 y = λ y h. waits-same (g2 .base) (posts d2) y h in
-      let before : (y : ℕ) → 1 ≤ count y (lists m 247) → waitingFor x y ≡ waitingFor m y = λ y h. waits-same b (posts sx) y h in
-      let inside : (z : ℕ) → 1 ≤ count z (xs ++ q ∷ []) → 1 ≤ count z (lists m (r * 32 + 6)) = λ z i.
+      let before : (y : ℕ) → 1 ≤ count y (lists m processorList) → waitingFor x y ≡ waitingFor m y = λ y h. waits-same b (posts sx) y h in
+      let inside : (z : ℕ) → 1 ≤ count z (xs ++ q ∷ []) → 1 ≤ count z (lists m (place r q2)) = λ z i.
       rw (t .is) (omega (arith, count-append z xs (q ∷ []), count-append z xs (q ∷ ys))) in
       let ms : (zs : List ℕ) → ((z : ℕ) → 1 ≤ count z zs → 1 ≤ count z (xs ++ q ∷ [])) → map (mailOf x) zs ≡ map (mailOf m) zs = λ zs k.
       mails-same m x zs (λ z i. texts-same b (posts sx) r 6 z hr (omega arith) (omega arith) (inside z (k z i))) in
@@ -121,7 +124,7 @@ module _ {m : List ℕ} (w : WellFormed m) (d : getD m 248 0 ≢ 0) where
         born = λ p h i. absurd (omega (arith, ap (count p) pr));
       }
     where
-      cases : (m3 m2 x : List ℕ) (p : ℕ) → 1 ≤ count p (lists m 247) → (k l : ℕ) → waitingFor m3 p ≡ waitingFor m2 p → waitingFor x p ≡ waitingFor m p
+      cases : (m3 m2 x : List ℕ) (p : ℕ) → 1 ≤ count p (lists m processorList) → (k l : ℕ) → waitingFor m3 p ≡ waitingFor m2 p → waitingFor x p ≡ waitingFor m p
           → only (key k l) (mailOf x q ∷ waitingFor m2 r) ≡ only (key k l) (waitingFor x r) → mailOf x q ≡ mailOf m q
           → (p ≢ r → waitingFor m2 p ≡ waitingFor x p) → (p ≡ r) ⊎ (p ≢ r)
           → only (key k l) (of p ((r, mailOf m q) ∷ []) ++ waitingFor m3 p) ≡ only (key k l) (waitingFor m p ++ of p [])
@@ -133,9 +136,9 @@ module _ {m : List ℕ} (w : WellFormed m) (d : getD m 248 0 ≢ 0) where
 
   pub rme-told : (n f a len : ℕ) → Told m (memoryOf (Model.rme m n f a len)) (rmeMail m n f a)
   rme-told n f a len = rme-both m (λ o e. Told m (memoryOf o) e) (λ f i j. fault-sent w d f .told) n f a len (λ g.
-      let t : Found m n f (Model.inQ2 m n f) (queue m (r * 32 + 6)) = found m n f (queue m (r * 32 + 6)) (g .found) in
+      let t : Found m n f (Model.inQ2 m n f) (queue m (place r q2)) = found m n f (queue m (place r q2)) (g .found) in
       received-told n f (Model.inQ2 m n f) a len
       (record { before = t .before; behind = t .behind; is = sym q6 ∙ t .is; match = t .match; none = t .none }) (g .target))
     where
-      q6 : queue m (r * 32 + 6) ≡ lists m (r * 32 + 6)
+      q6 : queue m (place r q2) ≡ lists m (place r q2)
       q6 = mail-queue b r 6 hr (omega arith) (omega arith)

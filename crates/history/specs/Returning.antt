@@ -8,6 +8,8 @@ use Prim.Native.Nat.{ℕ, _+_, _*_, _%_, _≤_}
 use native.Mathlib.Omega.{arith}
 use lib.ListN.{getD}
 use lib.Dec.{eqb}
+use Rattle.model.specs.Map.{label, note, place}
+use Rattle.model.specs.Bytes.{name, word}
 use Rattle.model.specs.Bytes.{giveBack, deliver, makeNotice}
 use Rattle.model.specs.Lists.{count, Lists}
 use Rattle.laws.specs.Count.{hit-or}
@@ -32,12 +34,12 @@ abbrev pub sentBack : ℕ → ℕ → ℕ → Log
 sentBack r n f = cond (eqb r 0) [] ((r, noticeFrom n f) ∷ [])
 
 pub notices-next : (m : List ℕ) (p q : ℕ) (qs : List ℕ)
-    → notices m p (q ∷ qs) ≡ sentBack (returnsTo m p q) (getD m (p * 32 + 7) 0 % 16) (getD m (q * 32 + 1) 0 % 16) ++ notices m p qs
+    → notices m p (q ∷ qs) ≡ sentBack (returnsTo m p q) (name m p) (word m q note % 16) ++ notices m p qs
 unfolding notices
 notices-next m p q qs = go (eqb (returnsTo m p q) 0) refl
   where
     go : (b : Bool) → eqb (returnsTo m p q) 0 ≡ b
-        → notices m p (q ∷ qs) ≡ sentBack (returnsTo m p q) (getD m (p * 32 + 7) 0 % 16) (getD m (q * 32 + 1) 0 % 16) ++ notices m p qs
+        → notices m p (q ∷ qs) ≡ sentBack (returnsTo m p q) (name m p) (word m q note % 16) ++ notices m p qs
     go true e = rw (e, notices)
     go false e = rw (e, notices)
 
@@ -48,7 +50,7 @@ notices-none m p = refl
 pub notices-append : (m : List ℕ) (p : ℕ) (xs ys : List ℕ) → notices m p (xs ++ ys) ≡ notices m p xs ++ notices m p ys
 notices-append m p [] ys = rw (notices-none m p)
 notices-append m p (x ∷ xs) ys =
-    let l = sentBack (returnsTo m p x) (getD m (p * 32 + 7) 0 % 16) (getD m (x * 32 + 1) 0 % 16) in
+    let l = sentBack (returnsTo m p x) (name m p) (word m x 1 % 16) in
     notices-next m p x (xs ++ ys) ∙ ap {B = Log} (λ k. l ++ k) (notices-append m p xs ys) ∙ sym (append-assoc l (notices m p xs) (notices m p ys))
     ∙ ap {B = Log} (λ k. k ++ notices m p ys) (sym (notices-next m p x xs))
 
@@ -56,7 +58,7 @@ notices-append m p (x ∷ xs) ys =
 pub record Grown (ps : List ℕ) (m m1 : List ℕ) (l : Log) : Type 0 where
   pub waits : (y : ℕ) → 1 ≤ count y ps → waitingFor m1 y ≡ waitingFor m y ++ of y l
   pub last : (y : ℕ) → 1 ≤ count y ps → held m1 y 5 ≡ held m y 5 ++ of y l
-  pub names : (y : ℕ) → 1 ≤ count y ps → getD m1 (y * 32 + 7) 0 ≡ getD m (y * 32 + 7) 0
+  pub names : (y : ℕ) → 1 ≤ count y ps → word m1 y label ≡ word m y label
 
 pub grown-refl : (ps m : List ℕ) → Grown ps m m []
 grown-refl ps m = record {
@@ -75,7 +77,7 @@ grown-then {m = m} {l = l} {k = k} f g = record {
 -- for some of them
 pub grown-same : {m : List ℕ} {ps : List ℕ} {L : Lists} {W : View} {hs : List ℕ} {g : ℕ} (b : Base m ps L W hs g) {m1 : List ℕ} → Posts ps L m m1
     → (qs : List ℕ) → ((y : ℕ) → 1 ≤ count y qs → 1 ≤ count y ps)
-    → ((y : ℕ) → 1 ≤ count y qs → getD m1 (y * 32 + 7) 0 ≡ getD m (y * 32 + 7) 0) → Grown qs m m1 []
+    → ((y : ℕ) → 1 ≤ count y qs → word m1 y label ≡ word m y label) → Grown qs m m1 []
 grown-same {m} b s qs i n = record {
   waits = λ y h. rw (of-none y, waits-same b s y (i y h)) (sym (append-nil (waitingFor m y)));
   last = λ y h. rw (of-none y, held-same b s y 5 (i y h) (omega arith) (omega arith)) (sym (append-nil (held m y 5)));
@@ -87,8 +89,8 @@ module _ {m : List ℕ} {ps : List ℕ} {L : Lists} {W : View} {hs : List ℕ} {
   pg : Page y
   pg = proc-page (b .facts .sep) y h
 
-  give-names : getD (giveBack m q) (y * 32 + 7) 0 ≡ getD m (y * 32 + 7) 0
-  give-names = give-frame b (y * 32 + 7) (record {
+  give-names : word (giveBack m q) y label ≡ word m y label
+  give-names = give-frame b (place y label) (record {
     low = λ a u v. omega (arith, pg);
     grant = λ k u. omega (arith, pg);
     hand = omega arith;
@@ -96,8 +98,8 @@ module _ {m : List ℕ} {ps : List ℕ} {L : Lists} {W : View} {hs : List ℕ} {
     waiter = λ p i. (omega arith, omega arith, omega arith);
   })
 
-  deliver-names : (p : ℕ) → 1 ≤ count p ps → Message (W .note q) (W .reason q) → getD (deliver m p q) (y * 32 + 7) 0 ≡ getD m (y * 32 + 7) 0
-  deliver-names p hp t = deliver-frame b p hp t (y * 32 + 7) (λ j u. omega arith) (omega arith) (omega arith) (λ z i. omega arith)
+  deliver-names : (p : ℕ) → 1 ≤ count p ps → Message (W .note q) (W .reason q) → word (deliver m p q) y label ≡ word m y label
+  deliver-names p hp t = deliver-frame b p hp t (place y label) (λ j u. omega arith) (omega arith) (omega arith) (λ z i. omega arith)
 
 -- ---- one page
 module _ {m : List ℕ} {ps : List ℕ} {L : Lists} {W : View} {hs : List ℕ} {g q : ℕ} (b : Base m ps L W (q ∷ hs) g) where

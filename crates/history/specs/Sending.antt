@@ -9,6 +9,10 @@ use native.Mathlib.Omega.{arith}
 use lib.ListN.{getD, set}
 use lib.Dec.{eqb}
 use borrow.Author.Tests.{eqb-false}
+use Rattle.model.specs.Map as Map
+use Rattle.model.specs.Map.{guardedLast, label, longest, memorySize, note, place, processorList}
+use Rattle.model.specs.Address.{wrapped}
+use Rattle.model.specs.Bytes.{name, store, word}
 use Rattle.model.specs.Address.{clear}
 use Rattle.model.specs.Mail as Mail
 use Rattle.model.specs.Page.Taken.{took}
@@ -46,7 +50,7 @@ use Rattle.history.specs.Copied.{copy-at}
 
 -- ---- a page taken from m, then written, then delivered
 module _ {m : List ℕ} {ps : List ℕ} {L : Lists} {W : View} (b : Base m ps L W [] 32) {q : ℕ} {m1 m2 : List ℕ} {K : Lists} {X : View} (s1 : Same ps L m m1)
-    (b1 : Base m1 ps K X (q ∷ []) 32) (o : Only q m1 m2) (p : ℕ) (hp : 1 ≤ count p ps) (letter : Message (getD m2 (q * 32 + 1) 0) (getD m2 (q * 32 + 2) 0))
+    (b1 : Base m1 ps K X (q ∷ []) 32) (o : Only q m1 m2) (p : ℕ) (hp : 1 ≤ count p ps) (letter : Message (word m2 q note) (word m2 q Map.size))
     (len : ℕ) where
   b2 : Base m2 ps K (retold m2 X q) (q ∷ []) 32
   b2 = hand-base q (in-hand b1) o b1
@@ -105,86 +109,86 @@ module _ {m : List ℕ} {ps : List ℕ} {L : Lists} {W : View} {hs : List ℕ} {
   hq : Page q
   hq = hand-page b q (in-hand b)
 
-  module _ (f a l : ℕ) (f2 : f ≤ 7) (l2 : l ≤ 29) (la : a < 8192) where
+  module _ (f a l : ℕ) (f2 : f ≤ 7) (l2 : l ≤ longest) (la : a < memorySize) where
     abbrev v : ℕ
-    v = getD m (getD m 248 0 * 32 + 7) 0 % 16 * 16 + f
+    v = name m (running m) * 16 + f
 
     abbrev mw : List ℕ
-    mw = set (set m (q * 32 + 1) v) (q * 32 + 2) l
+    mw = store (store m q note v) q Map.size l
 
     abbrev mc : List ℕ
     mc = writeMessage m q f a l
 
     -- the text, from words that are on no control page
-    written-text : ((i : ℕ) → i < l → (a + i) % 8192 < 7552) → words mc (q * 32 + 3) l ≡ words m a l
+    written-text : ((i : ℕ) → i < l → wrapped a i < guardedLast) → words mc (place q Map.text) l ≡ words m a l
     unfolding Mail.writeMessage
-    written-text far = words-moved m mc a (q * 32 + 3) l la (omega (arith, hq)) (λ i h.
-        copy-at l mw a (q * 32 + 3) (two b v l .size ∙ b .mem .size) (omega arith) la (omega (arith, hq)) (λ x y hx hy. apart x y hx hy) i h
-        ∙ other (set m (q * 32 + 1) v) (q * 32 + 2) l ((a + i) % 8192) (omega (arith, hq, far i h))
-        ∙ other m (q * 32 + 1) v ((a + i) % 8192) (omega (arith, hq, far i h)))
+    written-text far = words-moved m mc a (place q Map.text) l la (omega (arith, hq)) (λ i h.
+        copy-at l mw a (place q Map.text) (two b v l .size ∙ b .mem .size) (omega arith) la (omega (arith, hq)) (λ x y hx hy. apart x y hx hy) i h
+        ∙ other (store m q note v) (place q Map.size) l (wrapped a i) (omega (arith, hq, far i h))
+        ∙ other m (place q note) v (wrapped a i) (omega (arith, hq, far i h)))
       where
-        apart : (x y : ℕ) → x < l → y < l → (a + x) % 8192 ≢ (q * 32 + 3 + y) % 8192
-        apart x y hx hy = let e : (q * 32 + 3 + y) % 8192 ≡ q * 32 + 3 + y = omega (arith, hq) in rw e (omega (arith, hq, far x hx))
+        apart : (x y : ℕ) → x < l → y < l → wrapped a x ≢ (place q Map.text + y) % memorySize
+        apart x y hx hy = let e : (place q Map.text + y) % memorySize ≡ place q Map.text + y = omega (arith, hq) in rw e (omega (arith, hq, far x hx))
 
-    written-mail : ((i : ℕ) → i < l → (a + i) % 8192 < 7552)
-        → mailOf mc q ≡ record { sender = getD m (getD m 248 0 * 32 + 7) 0 % 16; flag = f; size = l; text = words m a l }
+    written-mail : ((i : ℕ) → i < l → wrapped a i < guardedLast)
+        → mailOf mc q ≡ record { sender = name m (running m); flag = f; size = l; text = words m a l }
     unfolding mailOf
     written-mail far =
-        let c = getD m (getD m 248 0 * 32 + 7) 0 % 16 in
-        let e1 : (getD m (getD m 248 0 * 32 + 7) 0 % 16 * 16 + f) / 16 ≡ getD m (getD m 248 0 * 32 + 7) 0 % 16 = omega arith in
-        let e2 : (getD m (getD m 248 0 * 32 + 7) 0 % 16 * 16 + f) % 16 ≡ f = omega arith in
+        let c = name m (running m) in
+        let e1 : (name m (running m) * 16 + f) / 16 ≡ name m (running m) = omega arith in
+        let e2 : (name m (running m) * 16 + f) % 16 ≡ f = omega arith in
         let e3 : l % 128 ≡ l = omega arith in
         rw (message-words b f a l l2 .0, message-words b f a l l2 .1, e1, e2, e3, written-text far)
 
 -- ---- the instruction
-module _ {m : List ℕ} (w : WellFormed m) (d : getD m 248 0 ≢ 0) where
+module _ {m : List ℕ} (w : WellFormed m) (d : running m ≢ 0) where
   open Busy (busy w d) using (base as b, runs as hr)
 
   abbrev r : ℕ
-  r = getD m 248 0
+  r = running m
 
   abbrev Ends : Model.Step → Mailed → Type 0
   Ends o e = Sent m (memoryOf o) e
 
   -- page q is taken
-  module _ (q : ℕ) (m1 : List ℕ) (e : takePage m r ≡ took q m1) (t : Gave m1 (lists m 247) (q ∷ []) 32 (view m)) (k : t .view .label ≡ view m .label) where
-    s1 : Same (lists m 247) (lists m) m m1
+  module _ (q : ℕ) (m1 : List ℕ) (e : takePage m r ≡ took q m1) (t : Gave m1 (lists m processorList) (q ∷ []) 32 (view m)) (k : t .view .label ≡ view m .label) where
+    s1 : Same (lists m processorList) (lists m) m m1
     s1 = calm-takes b r hr q m1 e
 
-    run1 : getD m1 248 0 ≡ getD m 248 0
+    run1 : running m1 ≡ running m
     run1 = running-same b t
 
-    in1 : 1 ≤ count (getD m1 248 0) (lists m 247)
+    in1 : 1 ≤ count (running m1) (lists m processorList)
     in1 = rw run1 hr
 
-    label1 : (p : ℕ) → 1 ≤ count p (lists m 247) → getD m1 (p * 32 + 7) 0 ≡ getD m (p * 32 + 7) 0
+    label1 : (p : ℕ) → 1 ≤ count p (lists m processorList) → word m1 p label ≡ word m p label
     label1 p h = label-at (t .base) p h ∙ ap (λ (z : ℕ → ℕ). z p) k
 
     page1 : (n : ℕ) → pageOf m1 n ≡ pageOf m n
-    page1 n = rw (listed (t .base), listed b) (named-same m m1 n (lists m 247) label1)
+    page1 n = rw (listed (t .base), listed b) (named-same m m1 n (lists m processorList) label1)
 
-    named : Label (getD m1 (getD m1 248 0 * 32 + 7) 0)
-    named = label-in (t .base) (getD m1 248 0) in1
+    named : Label (word m1 (running m1) label)
+    named = label-in (t .base) (running m1) in1
 
     notice-sent : (n f len : ℕ) → 1 ≤ n → n ≤ 15 → 1 ≤ f → f ≤ 7
-        → Sent m (memoryOf (Model.done (deliver (makeNotice m1 q n f) (getD m1 248 0) q) len)) (putting ((getD m 248 0, noticeFrom n f) ∷ []))
+        → Sent m (memoryOf (Model.done (deliver (makeNotice m1 q n f) (running m1) q) len)) (putting ((running m, noticeFrom n f) ∷ []))
     notice-sent n f len n1 n2 f1 f2 =
-        let h = put-sent b s1 (t .base) (notice-only (t .base) n f) (getD m1 248 0) in1 (notice-letter (t .base) n f n1 n2 f1 f2) len in
+        let h = put-sent b s1 (t .base) (notice-only (t .base) n f) (running m1) in1 (notice-letter (t .base) n f n1 n2 f1 f2) len in
         rw run1 (rw (run1, notice-mail (t .base) n f f2) at h)
 
-    message-sent : (f a l p len : ℕ) → 1 ≤ f → f ≤ 7 → l ≤ 29 → a < 8192 → 1 ≤ count p (lists m 247) → clear l a ≡ true
+    message-sent : (f a l p len : ℕ) → 1 ≤ f → f ≤ 7 → l ≤ longest → a < memorySize → 1 ≤ count p (lists m processorList) → clear l a ≡ true
         → Sent m (memoryOf (Model.done (deliver (writeMessage m1 q f a l) p q) len))
-        (putting ((p, record { sender = getD m (getD m 248 0 * 32 + 7) 0 % 16; flag = f; size = l; text = words m a l }) ∷ []))
+        (putting ((p, record { sender = name m (running m); flag = f; size = l; text = words m a l }) ∷ []))
     message-sent f a l p len f1 f2 l2 la hp c =
-        let o : (i : ℕ) → i < l → Open ((a + i) % 8192) = λ i h. clear-open ((a + i) % 8192) (clear-at l a c i h) in
-        let tx : words m1 a l ≡ words m a l = words-moved m m1 a a l la la (λ i h. takes-word b r hr q m1 e ((a + i) % 8192) (o i h)) in
-        let lb : getD m1 (getD m1 248 0 * 32 + 7) 0 ≡ getD m (getD m 248 0 * 32 + 7) 0 =
-        label1 (getD m1 248 0) in1 ∙ ap (λ (z : ℕ). getD m (z * 32 + 7) 0) run1 in
+        let o : (i : ℕ) → i < l → Open (wrapped a i) = λ i h. clear-open (wrapped a i) (clear-at l a c i h) in
+        let tx : words m1 a l ≡ words m a l = words-moved m m1 a a l la la (λ i h. takes-word b r hr q m1 e (wrapped a i) (o i h)) in
+        let lb : word m1 (running m1) label ≡ word m (running m) label =
+        label1 (running m1) in1 ∙ ap (λ (z : ℕ). word m z label) run1 in
         let wm = written-mail (t .base) f a l f2 l2 la (λ i h. o i h .below) in
         let h = put-sent b s1 (t .base) (message-only (t .base) f a l l2) p hp (message-letter (t .base) f a l l2 f1 f2 named) len in
         rw (wm, lb, tx) at h
 
-    posted-sent : (n f a len : ℕ) → 1 ≤ n → n ≤ 15 → 1 ≤ f → f ≤ 7 → getD m a 0 ≤ 29 → clear (getD m a 0) ((a + 1) % 8192) ≡ true
+    posted-sent : (n f a len : ℕ) → 1 ≤ n → n ≤ 15 → 1 ≤ f → f ≤ 7 → getD m a 0 ≤ longest → clear (getD m a 0) (wrapped a 1) ≡ true
         → Sent m (memoryOf (Model.done (posted m1 q n f a (getD m a 0)) len)) (putting (posting m n f a ∷ []))
     unfolding Operate.posted posting
     posted-sent n f a len n1 n2 f1 f2 l2 c = go (eqb (pageOf m n) 0) refl
@@ -192,14 +196,14 @@ module _ {m : List ℕ} (w : WellFormed m) (d : getD m 248 0 ≢ 0) where
         go : (x : Bool) → eqb (pageOf m n) 0 ≡ x → Sent m (memoryOf (Model.done (posted m1 q n f a (getD m a 0)) len)) (putting (posting m n f a ∷ []))
         go true z = rw (page1 n, z) (notice-sent n f len n1 n2 f1 f2)
         go false z =
-            rw (page1 n, z) (message-sent f ((a + 1) % 8192) (getD m a 0) (pageOf m n) len f1 f2 l2 (omega arith)
+            rw (page1 n, z) (message-sent f (wrapped a 1) (getD m a 0) (pageOf m n) len f1 f2 l2 (omega arith)
             (named-in b n (eqb-false (pageOf m n) 0 z)) c)
 
-  to-sent : (n f a len : ℕ) → 1 ≤ n → n ≤ 15 → 1 ≤ f → f ≤ 7 → getD m a 0 ≤ 29 → clear (getD m a 0) ((a + 1) % 8192) ≡ true
+  to-sent : (n f a len : ℕ) → 1 ≤ n → n ≤ 15 → 1 ≤ f → f ≤ 7 → getD m a 0 ≤ longest → clear (getD m a 0) (wrapped a 1) ≡ true
       → Sent m (memoryOf (Model.sent m n f a (getD m a 0) len)) (cond (hasPage (takePage m (running m))) (putting (posting m n f a ∷ [])) nothing)
   to-sent n f a len n1 n2 f1 f2 l2 c = go (take-page r hr b)
     where
-      go : Takes m r (lists m 247) (lists m) (view m) [] 32
+      go : Takes m r (lists m processorList) (lists m) (view m) [] 32
           → Sent m (memoryOf (Model.sent m n f a (getD m a 0) len)) (cond (hasPage (takePage m (running m))) (putting (posting m n f a ∷ [])) nothing)
       go (gets q m1 e z t k) =
           sent-both m Ends e n f a _ len _ (λ y. absurd (z y)) (λ y. posted-sent q m1 e t k n f a len n1 n2 f1 f2 l2 c)

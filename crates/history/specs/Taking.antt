@@ -9,6 +9,8 @@ use native.Mathlib.Omega.{arith}
 use lib.ListN.{length, getD}
 use lib.Dec.{eqb}
 use borrow.Author.Tests.{ne-eqb}
+use Rattle.model.specs.Map.{freeList, freeSemaphore, grantFor, label, place, processorList}
+use Rattle.model.specs.Bytes.{name, running, word}
 use Rattle.model.specs.Page as Page
 use Rattle.model.specs.Page.{Taken}
 use Rattle.model.specs.Page.Taken.{took}
@@ -41,36 +43,36 @@ module _ {m : List ℕ} {ps : List ℕ} {L : Lists} {W : View} {hs : List ℕ} {
   s = b .facts .sep
 
   abbrev n : ℕ
-  n = getD m (p * 32 + 7) 0 % 16
+  n = name m p
 
   calm-taken : Same ps L m (left (takePage m p))
   unfolding Page.takePage Page.firstFree left
-  calm-taken = go (eqb (getD m (320 + n) 0) 0) refl (L 244) refl (chain0 s (b .mem) 244 (in-free ps, grant-low 244 (omega arith)) (omega arith))
+  calm-taken = go (eqb (getD m (grantFor n) 0) 0) refl (L freeList) refl (chain0 s (b .mem) freeList (in-free ps, grant-low freeList (omega arith)) (omega arith))
     where
-      go : (c : Bool) → eqb (getD m (320 + n) 0) 0 ≡ c → (xs : List ℕ) → L 244 ≡ xs → Chain m 0 244 (L 244) → Same ps L m (left (takePage m p))
-      go false e xs f c = rw e (calm-low s m (320 + n) 0 (omega arith) (omega arith))
-      go true e [] f c = let z : getD m 244 0 ≡ 0 = rw f at c in rw (e, z) (calm-refl m)
+      go : (c : Bool) → eqb (getD m (grantFor n) 0) 0 ≡ c → (xs : List ℕ) → L freeList ≡ xs → Chain m 0 freeList (L freeList) → Same ps L m (left (takePage m p))
+      go false e xs f c = rw e (calm-low s m (grantFor n) 0 (omega arith) (omega arith))
+      go true e [] f c = let z : getD m freeList 0 ≡ 0 = rw f at c in rw (e, z) (calm-refl m)
       go true e (q ∷ fs) f c =
           let z = rw f at c in
           rw (e, z .0, ne-eqb q 0 (omega arith)) (calm-take s (b .mem) q fs f)
 
   -- an unprotected word stays
-  free-word : (q : ℕ) (fs : List ℕ) → L 244 ≡ q ∷ fs → (c : ℕ) → Open c → getD (takeFree m q) c 0 ≡ getD m c 0
+  free-word : (q : ℕ) (fs : List ℕ) → L freeList ≡ q ∷ fs → (c : ℕ) → Open c → getD (takeFree m q) c 0 ≡ getD m c 0
   unfolding Page.takeFree
   free-word q fs e c o =
-      let v = (getD m 245 0 + 255) % 256 in
+      let v = (getD m freeSemaphore 0 + 255) % 256 in
       let u = o .below in
-      leave-frame s (sem-mem s (b .mem) 245 v (page-sem ps)) 244 (in-free ps, grant-low 244 (omega arith)) (omega arith) q [] fs e c
-      (o .between 244 (omega arith) (omega arith)) (λ y j. let t = all-pages s 244 y (in-free ps) j in omega arith)
-      ∙ other m 245 v c (o .between 245 (omega arith) (omega arith))
+      leave-frame s (sem-mem s (b .mem) freeSemaphore v (page-sem ps)) freeList (in-free ps, grant-low freeList (omega arith)) (omega arith) q [] fs e c
+      (o .between freeList (omega arith) (omega arith)) (λ y j. let t = all-pages s freeList y (in-free ps) j in omega arith)
+      ∙ other m freeSemaphore v c (o .between freeSemaphore (omega arith) (omega arith))
 
   taken-word : (c : ℕ) → Open c → getD (left (takePage m p)) c 0 ≡ getD m c 0
   unfolding Page.takePage Page.firstFree left
-  taken-word c o = go (eqb (getD m (320 + n) 0) 0) refl (L 244) refl (chain0 s (b .mem) 244 (in-free ps, grant-low 244 (omega arith)) (omega arith))
+  taken-word c o = go (eqb (getD m (grantFor n) 0) 0) refl (L freeList) refl (chain0 s (b .mem) freeList (in-free ps, grant-low freeList (omega arith)) (omega arith))
     where
-      go : (x : Bool) → eqb (getD m (320 + n) 0) 0 ≡ x → (xs : List ℕ) → L 244 ≡ xs → Chain m 0 244 (L 244) → getD (left (takePage m p)) c 0 ≡ getD m c 0
-      go false e xs f k = rw e (other m (320 + n) 0 c (o .between (320 + n) (omega arith) (omega arith)))
-      go true e [] f k = let z : getD m 244 0 ≡ 0 = rw f at k in rw (e, z)
+      go : (x : Bool) → eqb (getD m (grantFor n) 0) 0 ≡ x → (xs : List ℕ) → L freeList ≡ xs → Chain m 0 freeList (L freeList) → getD (left (takePage m p)) c 0 ≡ getD m c 0
+      go false e xs f k = rw e (other m (grantFor n) 0 c (o .between (grantFor n) (omega arith) (omega arith)))
+      go true e [] f k = let z : getD m freeList 0 ≡ 0 = rw f at k in rw (e, z)
       go true e (q ∷ fs) f k =
           let z = rw f at k in
           rw (e, z .0, ne-eqb q 0 (omega arith)) (free-word q fs f c o)
@@ -84,11 +86,11 @@ module _ {m : List ℕ} {ps : List ℕ} {L : Lists} {W : View} {hs : List ℕ} {
   calm-takes q m1 e = let k : left (takePage m p) ≡ m1 = rw e in rw k at calm-taken
 
 -- ---- of a well-formed memory where someone runs
-module _ {m : List ℕ} (w : WellFormed m) (d : getD m 248 0 ≢ 0) where
+module _ {m : List ℕ} (w : WellFormed m) (d : running m ≢ 0) where
   open Busy (busy w d) using (base as b, ready)
 
   -- "with none, they wait in the page queue, LR staying"
-  pub page-waits : lists m 244 ≡ [] → length (lists m (320 + getD m (getD m 248 0 * 32 + 7) 0 % 16)) ≡ 0
-      → Same (lists m 247) (lists m) m (memoryOf (waitsForPage m))
+  pub page-waits : lists m freeList ≡ [] → length (lists m (320 + name m (running m))) ≡ 0
+      → Same (lists m processorList) (lists m) m (memoryOf (waitsForPage m))
   unfolding Operate.waitsForPage
-  page-waits f g = calm-waits b 245 0 d (page-sem (lists m 247)) (omega (arith, ready)) (page-fit (b .facts .sep) f g)
+  page-waits f g = calm-waits b freeSemaphore 0 d (page-sem (lists m processorList)) (omega (arith, ready)) (page-fit (b .facts .sep) f g)

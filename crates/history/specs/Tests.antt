@@ -6,6 +6,8 @@ use mathlib.Core.List.{List, [], _∷_, _++_, append-nil, map}
 use Prim.Native.Nat.{ℕ, _+_, _-_, _*_, _≤_, _<_}
 use native.Mathlib.Omega.{arith}
 use lib.ListN.{getD}
+use Rattle.model.specs.Map.{ownSemaphore, place, processorList, q1}
+use Rattle.model.specs.Bytes.{running, word}
 use Rattle.model.specs.Queue as Queue
 use Rattle.model.specs.Queue.{first}
 use Rattle.model.specs.Mail as Mail
@@ -78,36 +80,36 @@ Waiting m ps W x = (K : Lists) × Base x ps K W [] 32 × ((y : ℕ) → 1 ≤ co
 
 test-keeps : {m : List ℕ} {ps : List ℕ} {L : Lists} {W : View} (p n f : ℕ) → 1 ≤ count p ps → Base m ps L W [] 32 → Tried (Waiting m ps W) (testQ1 20 m p n f)
 test-keeps {m} {ps} {L} {W} p n f h b = test-kept (Waiting m ps W) p (λ x t d.
-    let q = getD x (p * 32 + 5) 0 in
+    let q = word x p q1 in
     let r = first-mail (t .1) p h d in
     (moved (t .1) p q [] (r .0) h (r .1), move-lists (t .1) p q [] (r .0) h (r .1), λ y i. moved-first (t .1) p q (r .0) h (r .1) y i ∙ t .2 y i)) 20 m n f
     (L, b, λ y i. refl)
 
-module _ {m : List ℕ} (w : WellFormed m) (d : getD m 248 0 ≢ 0) where
+module _ {m : List ℕ} (w : WellFormed m) (d : running m ≢ 0) where
   open Busy (busy w d) using (base as b, runs as hr, ready)
 
   abbrev r : ℕ
-  r = getD m 248 0
+  r = running m
 
   pub wnm-told : (n f len : ℕ) → f < 8 → Told m (memoryOf (Model.wnm m n f len)) nothing
   unfolding Mail.matches
   wnm-told n f len hf =
       wnm-each m (λ o. Told m (memoryOf o) nothing) n f len
-      (λ z. told-same b (memoryOf (Model.waits m (r * 32 + 3) (n * 16 + f))) (calm-waits b (r * 32 + 3) (n * 16 + f) d (own-sem (b .facts .sep) r hr)
+      (λ z. told-same b (memoryOf (Model.waits m (place r ownSemaphore) (n * 16 + f))) (calm-waits b (place r ownSemaphore) (n * 16 + f) d (own-sem (b .facts .sep) r hr)
       (omega (arith, ready)) (wnm-fit w d n f hf z)))
       (λ z.
       let q = Model.inQ1 m n f in
-      let t : Found m n f q (queue m (r * 32 + 5)) = found m n f (queue m (r * 32 + 5)) z in
+      let t : Found m n f q (queue m (place r q1)) = found m n f (queue m (place r q1)) z in
       let i = sym q5 ∙ t .is in
       let b1 = move-lists b r q (t .before) (t .behind) hr i in
       let m1 = move m r q in
       told-order b b1 (memoryOf (Model.done m1 len)) (calm-done (b1 .facts .sep) m1 (runs-in b1) len) (λ p h k l. cases t i p h k l (hit-or p r)))
     where
-      q5 : queue m (r * 32 + 5) ≡ lists m (r * 32 + 5)
+      q5 : queue m (place r q1) ≡ lists m (place r q1)
       q5 = mail-queue b r 5 hr (omega arith) (omega arith)
 
-      cases : (t : Found m n f (Model.inQ1 m n f) (queue m (r * 32 + 5))) → lists m (r * 32 + 5) ≡ t .before ++ Model.inQ1 m n f ∷ t .behind → (p : ℕ)
-          → 1 ≤ count p (lists m 247) → (k l : ℕ) → (p ≡ r) ⊎ (p ≢ r)
+      cases : (t : Found m n f (Model.inQ1 m n f) (queue m (place r q1))) → lists m (place r q1) ≡ t .before ++ Model.inQ1 m n f ∷ t .behind → (p : ℕ)
+          → 1 ≤ count p (lists m processorList) → (k l : ℕ) → (p ≡ r) ⊎ (p ≢ r)
           → only (key k l) (waitingFor (move m r (Model.inQ1 m n f)) p) ≡ only (key k l) (waitingFor m p)
       cases t i p h k l (inl z) = rw z (moved-order b r (Model.inQ1 m n f) (t .before) (t .behind) hr i n f (t .match) (t .none) k l)
       cases t i p h k l (inr z) = ap (only (key k l)) (moved-away b r (Model.inQ1 m n f) (t .before) (t .behind) hr i p h z)

@@ -9,6 +9,8 @@ use native.Mathlib.Omega.{arith}
 use lib.ListN.{getD, set}
 use lib.Dec.{eqb}
 use borrow.Author.Tests.{eq-eqb, ne-eqb}
+use Rattle.model.specs.Map.{highLr, lowLr, memorySize, runningPage}
+use Rattle.model.specs.Bytes.{running, store, word}
 use Rattle.model.specs.Map.{place, q1}
 use Rattle.model.specs.Answer as Answer
 use Rattle.model.specs.Answer.{memoryOf}
@@ -93,16 +95,16 @@ pub sent-same : {m : List ℕ} {ps : List ℕ} {L : Lists} {W : View} {hs : List
 sent-same b m′ s = record { told = told-same b m′ s; stands = stands-none m′ }
 
 -- ---- how a call ends
-module _ {ps : List ℕ} {L : Lists} (s : Sep ps L) (m : List ℕ) (g : getD m 248 0 ≢ 0 → 1 ≤ count (getD m 248 0) ps) where
-  lr-run : (a : ℕ) → getD (setLr m (getD m 248 0) a) 248 0 ≡ getD m 248 0
+module _ {ps : List ℕ} {L : Lists} (s : Sep ps L) (m : List ℕ) (g : running m ≢ 0 → 1 ≤ count (running m) ps) where
+  lr-run : (a : ℕ) → running (setLr m (getD m runningPage 0) a) ≡ running m
   unfolding Processor.setLr
   lr-run a =
-      let r = getD m 248 0 in
-      let v = getD m (r * 32 + 10) 0 / 32 * 32 + a / 256 % 32 in
-      other (set m (r * 32 + 10) v) (r * 32 + 11) (a % 256) 248 (omega arith) ∙ other m (r * 32 + 10) v 248 (omega arith)
+      let r = running m in
+      let v = word m r highLr / 32 * 32 + a / 256 % 32 in
+      other (store m r highLr v) (place r lowLr) (a % 256) runningPage (omega arith) ∙ other m (place r highLr) v runningPage (omega arith)
 
-  calm-goes : (a : ℕ) → Same ps L m (whoRuns (setLr m (getD m 248 0) a))
-  calm-goes a = same-on (calm-lr s m (getD m 248 0) a g) (calm-turn s (setLr m (getD m 248 0) a) (rw (lr-run a) g))
+  calm-goes : (a : ℕ) → Same ps L m (whoRuns (setLr m (running m) a))
+  calm-goes a = same-on (calm-lr s m (running m) a g) (calm-turn s (setLr m (running m) a) (rw (lr-run a) g))
 
   pub calm-jumps : (a : ℕ) → Same ps L m (memoryOf (jumps m a))
   unfolding Answer.jumps Answer.memoryOf
@@ -110,18 +112,18 @@ module _ {ps : List ℕ} {L : Lists} (s : Sep ps L) (m : List ℕ) (g : getD m 2
 
   pub calm-done : (len : ℕ) → Same ps L m (memoryOf (done m len))
   unfolding Answer.done Answer.memoryOf Processor.advance
-  calm-done len = calm-goes ((lr m + len) % 8192)
+  calm-done len = calm-goes ((lr m + len) % memorySize)
 
 module _ {m : List ℕ} {ps : List ℕ} {L : Lists} {W : View} {hs : List ℕ} {g : ℕ} (b : Base m ps L W hs g) where
   -- the one that runs is a processor
-  pub runs-in : getD m 248 0 ≢ 0 → 1 ≤ count (getD m 248 0) ps
+  pub runs-in : running m ≢ 0 → 1 ≤ count (running m) ps
   runs-in n = rw (running-at b) (running-in b (rw (running-at b) at n))
 
-  pub calm-fault : getD m 248 0 ≢ 0 → (f : ℕ) → Same ps L m (memoryOf (fault m f))
+  pub calm-fault : running m ≢ 0 → (f : ℕ) → Same ps L m (memoryOf (fault m f))
   calm-fault d f = record {
     at = λ c h.
         let s = b .facts .sep in
-        let r = getD m 248 0 in
+        let r = running m in
         let pg = proc-page s r (runs-in d) in
         let n = b .mem .reads .fixed .next in
         let l = b .facts .faults .range in
@@ -130,11 +132,11 @@ module _ {m : List ℕ} {ps : List ℕ} {L : Lists} {W : View} {hs : List ℕ} {
         (ours-low s h (288 + getD m 288 0) (omega arith) (omega arith));
   }
 
-  pub calm-waits : (a w : ℕ) → W .low 248 ≢ 0 → 1 ≤ count (a + 1) (queues ps) → W .state (W .low 248) % 128 / 64 ≡ 0 → Fit ps L W a (W .low 248) w
+  pub calm-waits : (a w : ℕ) → W .low runningPage ≢ 0 → 1 ≤ count (a + 1) (queues ps) → W .state (W .low runningPage) % 128 / 64 ≡ 0 → Fit ps L W a (W .low runningPage) w
       → Same ps L m (memoryOf (waits m a w))
   unfolding Answer.waits Answer.memoryOf
   calm-waits a w n h idle fit =
-      let r = W .low 248 in
+      let r = W .low runningPage in
       let hr = running-in b n in
       let s = b .facts .sep in
       let b2 = wait-base a r w b h hr idle fit in

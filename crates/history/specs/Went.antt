@@ -10,6 +10,9 @@ use lib.ListN.{length, getD, set, length-set}
 use lib.Seq.{getD-set-same}
 use lib.Dec.{eqb}
 use borrow.Author.Tests.{eqb-true, eqb-false, eq-eqb, ne-eqb}
+use Rattle.model.specs.Map as Map
+use Rattle.model.specs.Map.{guardedLast, highLr, lowLr, memorySize, runningLabel, runningPage}
+use Rattle.model.specs.Bytes.{store, word}
 use Rattle.model.specs.Map.{place, zeroPlace, keeps, keptCount}
 use Rattle.model.specs.Turn as Turn
 use Rattle.model.specs.Turn.{nineteen}
@@ -54,7 +57,7 @@ home (suc n) r c = go (eqb c (zeroPlace n)) refl (home n r c)
     go false e (miss f k) = let q : keptAt (suc n) r c ≡ keptAt n r c = rw (e, keptAt) in miss (λ i h. off f e i h (hit-or i n)) (q ∙ k)
 
 -- ---- what is saved
-kept-at : (n : ℕ) (m : List ℕ) (p : ℕ) (w : List ℕ) → length m ≡ 8192 → p < 256 → n ≤ 19 → (i : ℕ) → i < n
+kept-at : (n : ℕ) (m : List ℕ) (p : ℕ) (w : List ℕ) → length m ≡ memorySize → p < 256 → n ≤ 19 → (i : ℕ) → i < n
     → getD (kept n m p w) (p * 32 + (13 + i)) 0 ≡ getD w i 0
 unfolding Turn.kept
 kept-at zero m p w z l u i h = absurd (omega arith)
@@ -87,9 +90,9 @@ nineteen-at f i h =
     i h)
 
 -- ---- who runs
-module _ (m : List ℕ) (z : length m ≡ 8192) (g : Page (getD m 248 0)) where
+module _ (m : List ℕ) (z : length m ≡ memorySize) (g : Page (running m)) where
   abbrev r : ℕ
-  r = getD m 248 0
+  r = running m
 
   abbrev t : ℕ
   t = chosen m
@@ -101,7 +104,7 @@ module _ (m : List ℕ) (z : length m ≡ 8192) (g : Page (getD m 248 0)) where
   m2 = load m1 t
 
   abbrev m3 : List ℕ
-  m3 = set (set m2 248 t) 249 (cond (eqb t 0) 0 (getD m2 (t * 32 + 7) 0))
+  m3 = set (set m2 runningPage t) runningLabel (cond (eqb t 0) 0 (word m2 t Map.label))
 
   turn-stays : eqb r t ≡ true → whoRuns m ≡ m
   unfolding Turn.whoRuns Turn.switch
@@ -111,14 +114,14 @@ module _ (m : List ℕ) (z : length m ≡ 8192) (g : Page (getD m 248 0)) where
   unfolding Turn.whoRuns Turn.switch Turn.runs
   turn-new e = rw e
 
-  size2 : length m2 ≡ 8192
+  size2 : length m2 ≡ memorySize
   unfolding Turn.save Turn.load
   size2 =
-      let s1 : length (save m r) ≡ 8192 = either (λ (x : List ℕ). length x ≡ 8192) (eqb r 0) z (kept-size 19 m r (onPage0 m) ∙ z) in
-      either (λ (x : List ℕ). length x ≡ 8192) (eqb t 0) s1 (restored-size 19 m1 (keptOn m1 t) ∙ s1)
+      let s1 : length (save m r) ≡ memorySize = either (λ (x : List ℕ). length x ≡ memorySize) (eqb r 0) z (kept-size 19 m r (onPage0 m) ∙ z) in
+      either (λ (x : List ℕ). length x ≡ memorySize) (eqb t 0) s1 (restored-size 19 m1 (keptOn m1 t) ∙ s1)
 
-  run-new : getD m3 248 0 ≡ t
-  run-new = other (set m2 248 t) 249 (cond (eqb t 0) 0 (getD m2 (t * 32 + 7) 0)) 248 (omega arith) ∙ getD-set-same m2 248 t 0 (omega (arith, size2))
+  run-new : running m3 ≡ t
+  run-new = other (set m2 runningPage t) runningLabel (cond (eqb t 0) 0 (word m2 t Map.label)) runningPage (omega arith) ∙ getD-set-same m2 runningPage t 0 (omega (arith, size2))
 
   saved1 : (i : ℕ) → i < 19 → getD m1 (r * 32 + (13 + i)) 0 ≡ getD m (zeroPlace i) 0
   unfolding Turn.save Turn.onPage0
@@ -134,41 +137,41 @@ module _ (m : List ℕ) (z : length m ≡ 8192) (g : Page (getD m 248 0)) where
 
   saved : (i : ℕ) → i < 19 → getD m3 (r * 32 + (13 + i)) 0 ≡ getD m (zeroPlace i) 0
   saved i h =
-      other (set m2 248 t) 249 (cond (eqb t 0) 0 (getD m2 (t * 32 + 7) 0)) (r * 32 + (13 + i)) (omega (arith, g))
-      ∙ other m2 248 t (r * 32 + (13 + i)) (omega (arith, g)) ∙ saved2 i h ∙ saved1 i h
+      other (set m2 runningPage t) runningLabel (cond (eqb t 0) 0 (word m2 t Map.label)) (r * 32 + (13 + i)) (omega (arith, g))
+      ∙ other m2 runningPage t (r * 32 + (13 + i)) (omega (arith, g)) ∙ saved2 i h ∙ saved1 i h
 
-  module _ (c : ℕ) (l : c < 7552) (n8 : c ≢ 248) (n9 : c ≢ 249) where
-    went-stays : whoRuns m ≡ m → getD (whoRuns m) (wentTo (whoRuns m) (getD m 248 0) c) 0 ≡ getD m c 0
+  module _ (c : ℕ) (l : c < guardedLast) (n8 : c ≢ runningPage) (n9 : c ≢ runningLabel) where
+    went-stays : whoRuns m ≡ m → getD (whoRuns m) (wentTo (whoRuns m) (running m) c) 0 ≡ getD m c 0
     unfolding wentTo
-    went-stays e = rw (e, eq-eqb (getD m 248 0) (getD m 248 0) refl)
+    went-stays e = rw (e, eq-eqb (running m) (running m) refl)
 
     went-home : whoRuns m ≡ m3 → Home 19 r c → getD m3 (keptAt 19 r c) 0 ≡ getD m c 0
     went-home e (hit i h q k) = rw k (saved i h ∙ ap (λ (y : ℕ). getD m y 0) (sym q))
     went-home e (miss f k) = rw k (rw e at (turn-frame m c (record { page = n8; label = n9; zero = f; kept = λ i h. omega (arith, g) })))
 
-    went-new : eqb r t ≡ false → getD (whoRuns m) (wentTo (whoRuns m) (getD m 248 0) c) 0 ≡ getD m c 0
+    went-new : eqb r t ≡ false → getD (whoRuns m) (wentTo (whoRuns m) (running m) c) 0 ≡ getD m c 0
     unfolding wentTo
     went-new e =
         let d = eqb-false r t e in
         rw (turn-new e, run-new, ne-eqb t r (λ q. d (sym q))) (went-home (turn-new e) (home 19 r c))
 
-    pub turn-went : getD (whoRuns m) (wentTo (whoRuns m) (getD m 248 0) c) 0 ≡ getD m c 0
+    pub turn-went : getD (whoRuns m) (wentTo (whoRuns m) (running m) c) 0 ≡ getD m c 0
     turn-went = go (eqb r t) refl
       where
-        go : (x : Bool) → eqb r t ≡ x → getD (whoRuns m) (wentTo (whoRuns m) (getD m 248 0) c) 0 ≡ getD m c 0
+        go : (x : Bool) → eqb r t ≡ x → getD (whoRuns m) (wentTo (whoRuns m) (running m) c) 0 ≡ getD m c 0
         go true e = went-stays (turn-stays e)
         go false e = went-new e
 
 -- ---- an instruction that is done
-pub done-went : (m : List ℕ) → length m ≡ 8192 → Page (getD m 248 0) → (len c : ℕ) → c < 7552 → c ≢ 248 → c ≢ 249
-    → getD (memoryOf (done m len)) (wentTo (memoryOf (done m len)) (getD m 248 0) c) 0 ≡ getD m c 0
+pub done-went : (m : List ℕ) → length m ≡ memorySize → Page (running m) → (len c : ℕ) → c < guardedLast → c ≢ runningPage → c ≢ runningLabel
+    → getD (memoryOf (done m len)) (wentTo (memoryOf (done m len)) (running m) c) 0 ≡ getD m c 0
 unfolding Answer.done Answer.memoryOf Processor.advance Processor.setLr
 done-went m z g len c l n8 n9 =
-    let r = getD m 248 0 in
-    let a = (lr m + len) % 8192 in
-    let v = getD m (r * 32 + 10) 0 / 32 * 32 + a / 256 % 32 in
-    let y = set m (r * 32 + 10) v in
-    let x = set y (r * 32 + 11) (a % 256) in
-    let run : getD x 248 0 ≡ getD m 248 0 = other y (r * 32 + 11) (a % 256) 248 (omega arith) ∙ other m (r * 32 + 10) v 248 (omega arith) in
+    let r = running m in
+    let a = (lr m + len) % memorySize in
+    let v = word m r highLr / 32 * 32 + a / 256 % 32 in
+    let y = store m r highLr v in
+    let x = store y r lowLr (a % 256) in
+    let run : running x ≡ running m = other y (place r lowLr) (a % 256) runningPage (omega arith) ∙ other m (place r highLr) v runningPage (omega arith) in
     let h = turn-went x (simp length-set z) (rw run g) c l n8 n9 in
-    rw run at h ∙ other y (r * 32 + 11) (a % 256) c (omega (arith, g)) ∙ other m (r * 32 + 10) v c (omega (arith, g))
+    rw run at h ∙ other y (place r lowLr) (a % 256) c (omega (arith, g)) ∙ other m (place r highLr) v c (omega (arith, g))

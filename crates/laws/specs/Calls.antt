@@ -8,6 +8,9 @@ use native.Mathlib.Omega.{arith}
 use lib.ListN.{length, getD}
 use lib.Dec.{eqb, ltb}
 use borrow.Author.Tests.{eqb-false, eq-eqb, ltb-false, lt-ltb, le-ltb, le-leb}
+use Rattle.model.specs.Map as Map
+use Rattle.model.specs.Map.{guardedLast, memorySize, place}
+use Rattle.model.specs.Bytes.{running}
 use Rattle.model.specs.declared.Registers.{Registers}
 use Rattle.model.specs.Address as Address
 use Rattle.model.specs.Address.{guarded}
@@ -32,7 +35,7 @@ use Rattle.laws.specs.Eight.{fetched-tiny}
 
 -- a well-formed memory: 8,192 words of 8 bits that the judge accepts
 pub record Sound (m : List ℕ) : Type 0 where
-  pub size : length m ≡ 8192
+  pub size : length m ≡ memorySize
   pub small : Small m
   pub accepted : judged m ≡ true
 
@@ -59,11 +62,11 @@ args-of line d h = go (ltb line 16) (ltb 47 line) (eqb d 0) (ltb 255 d) refl ref
         let k = ltb-false 255 d j in
         (omega arith, omega arith, omega arith, omega arith)
 
-pub fresh-starts : {m : List ℕ} → length m ≡ 8192 → Small m → (line d : ℕ) → startable line d ≡ true → Sound (memoryOf (fresh m line d))
+pub fresh-starts : {m : List ℕ} → length m ≡ memorySize → Small m → (line d : ℕ) → startable line d ≡ true → Sound (memoryOf (fresh m line d))
 unfolding Call.fresh Answer.memoryOf
 fresh-starts {m} l s line d h =
     let a = args-of line d h in
-    rw (eq-eqb (length m) 8192 l, h) (sound (started-well m line d l a) (small-started s line d (omega (arith, a)) (omega (arith, a))))
+    rw (eq-eqb (length m) memorySize l, h) (sound (started-well m line d l a) (small-started s line d (omega (arith, a)) (omega (arith, a))))
 
 -- ---- what an interrupt from outside may be
 pub outer-of : (k : ℕ) → isOuter k ≡ true → (16 ≤ k) × (k ≤ 50)
@@ -91,8 +94,8 @@ head-each P m refuses o h k = either P (eqb (Model.refusal m) 0) k (h (Model.ref
 
 -- ---- the calls
 module _ {m : List ℕ} (h : Sound m) where
-  size-is : eqb (length m) 8192 ≡ true
-  size-is = eq-eqb (length m) 8192 (h .size)
+  size-is : eqb (length m) memorySize ≡ true
+  size-is = eq-eqb (length m) memorySize (h .size)
 
   -- nothing refuses it from the start
   pub unrefused : Model.refusal m ≡ 0
@@ -109,12 +112,12 @@ module _ {m : List ℕ} (h : Sound m) where
 
   pub instruction-sound : Sound (memoryOf (instruction m))
   unfolding Call.head Call.instruction Call.instructionJudged Answer.memoryOf
-  instruction-sound = go (eqb (getD m 248 0) 0) refl
+  instruction-sound = go (eqb (running m) 0) refl
     where
-      go : (c : Bool) → eqb (getD m 248 0) 0 ≡ c → Sound (memoryOf (instruction m))
+      go : (c : Bool) → eqb (running m) 0 ≡ c → Sound (memoryOf (instruction m))
       go true e = rw (unrefused, e) h
       go false e =
-          let n = eqb-false (getD m 248 0) 0 e in
+          let n = eqb-false (running m) 0 e in
           rw (unrefused, e) (sound (fetched-fine (well h) n (h .small) (lr m)) (fetched-tiny (h .small) (lr m)))
 
   pub interrupt-sound : (k c : ℕ) → Sound (memoryOf (interrupt m k c))
@@ -132,19 +135,19 @@ module _ {m : List ℕ} (h : Sound m) where
 
   pub set-sound : (r : Registers) → Sound (memoryOf (setRegisters m r))
   unfolding Call.head Call.setRegisters Call.setJudged Answer.memoryOf
-  set-sound r = go (eqb (getD m 248 0) 0) (inRange r) refl refl
+  set-sound r = go (eqb (running m) 0) (inRange r) refl refl
     where
-      go : (x y : Bool) → eqb (getD m 248 0) 0 ≡ x → inRange r ≡ y → Sound (memoryOf (setRegisters m r))
+      go : (x y : Bool) → eqb (running m) 0 ≡ x → inRange r ≡ y → Sound (memoryOf (setRegisters m r))
       go true y e f = rw (unrefused, e) h
       go false false e f = rw (unrefused, e, f) h
       go false true e f =
-          rw (unrefused, e, f) (sound (registers-well (well h) (eqb-false (getD m 248 0) 0 e) r) (small-registers (h .small) (getD m 248 0) r))
+          rw (unrefused, e, f) (sound (registers-well (well h) (eqb-false (running m) 0 e) r) (small-registers (h .small) (running m) r))
 
   pub read-same : memoryOf (readRegisters m) ≡ m
   unfolding Call.head Call.readRegisters Call.readJudged Answer.memoryOf
-  read-same = go (eqb (getD m 248 0) 0) refl
+  read-same = go (eqb (running m) 0) refl
     where
-      go : (c : Bool) → eqb (getD m 248 0) 0 ≡ c → memoryOf (readRegisters m) ≡ m
+      go : (c : Bool) → eqb (running m) 0 ≡ c → memoryOf (readRegisters m) ≡ m
       go true e = rw (unrefused, e)
       go false e = rw (unrefused, e)
 
@@ -162,16 +165,16 @@ pub guarded-low : (a : ℕ) → 128 ≤ a → a < 352 → guarded a ≡ true
 unfolding Address.guarded
 guarded-low a l u = rw (le-ltb a 16 (omega arith), le-ltb a 128 l, lt-ltb a 352 u)
 
-pub guarded-high : (a : ℕ) → 7552 ≤ a → guarded a ≡ true
+pub guarded-high : (a : ℕ) → guardedLast ≤ a → guarded a ≡ true
 unfolding Address.guarded
-guarded-high a l = rw (le-ltb a 16 (omega arith), le-ltb a 128 (omega arith), le-ltb a 352 (omega arith), le-leb 7552 a l)
+guarded-high a l = rw (le-ltb a 16 (omega arith), le-ltb a 128 (omega arith), le-ltb a 352 (omega arith), le-leb guardedLast a l)
 
 host-kept : {m m′ : List ℕ} → Host m m′ → Kept m m′
 host-kept k = record {
   size = k .size;
   fixed = λ a l u. k .same a (omega arith) (guarded-low a l u);
-  words = λ p j h l. k .same (p * 32 + j) (omega (arith, h)) (guarded-high (p * 32 + j) (omega (arith, h)));
-  state = λ p h. k .same (p * 32 + 12) (omega (arith, h)) (guarded-high (p * 32 + 12) (omega (arith, h)));
+  words = λ p j h l. k .same (place p j) (omega (arith, h)) (guarded-high (place p j) (omega (arith, h)));
+  state = λ p h. k .same (place p Map.state) (omega (arith, h)) (guarded-high (place p Map.state) (omega (arith, h)));
 }
 
 pub host-sound : {m m′ : List ℕ} → Host m m′ → Sound m → Sound m′
@@ -195,7 +198,7 @@ after read m = memoryOf (readRegisters m)
 after judge-it m = memoryOf (judge m)
 
 pub data Reached : List ℕ → Type 0 where
-  start : (m : List ℕ) (line d : ℕ) → length m ≡ 8192 → Small m → startable line d ≡ true → Reached (memoryOf (fresh m line d))
+  start : (m : List ℕ) (line d : ℕ) → length m ≡ memorySize → Small m → startable line d ≡ true → Reached (memoryOf (fresh m line d))
   call : (m : List ℕ) (a : Act) → Reached m → Reached (after a m)
   host : (m m′ : List ℕ) → Host m m′ → Reached m → Reached m′
 

@@ -7,6 +7,7 @@ use mathlib.Core.List.{List}
 use Prim.Native.Nat.{ℕ, _+_, _-_, _*_, _/_, _%_, _≤_, _<_}
 use native.Mathlib.Omega.{arith}
 use lib.ListN.{length}
+use Rattle.model.specs.Map.{freeList, grantFor, headerAfter, interrupts, ownQueue, ownSemaphore, pageQueue, place, processorList, q1, runningPage, semaphoreAfter}
 use Rattle.model.specs.Map.{less}
 use Rattle.model.specs.Mail.{fits}
 use Rattle.model.specs.Lists.{count, Lists, sum, uses, queues}
@@ -31,17 +32,17 @@ queue-once {ps} s a h = go (seat-of ps a h)
     go (own p u e) = let d : a + 1 ≡ p * 32 + 4 = omega arith in rw d (own-once s p u)
 
 -- the semaphores of the three kinds
-pub int-sem : (ps : List ℕ) (k : ℕ) → k < 54 → 1 ≤ count (131 + 2 * k + 1) (queues ps)
-int-sem ps k h = let d : 131 + 2 * k + 1 ≡ 132 + 2 * k = omega arith in rw d (int-queue ps k h)
+pub int-sem : (ps : List ℕ) (k : ℕ) → k < interrupts → 1 ≤ count (semaphoreAfter k + 1) (queues ps)
+int-sem ps k h = let d : semaphoreAfter k + 1 ≡ 132 + 2 * k = omega arith in rw d (int-queue ps k h)
 
-pub own-sem : {ps : List ℕ} {L : Lists} → Sep ps L → (p : ℕ) → 1 ≤ count p ps → 1 ≤ count (p * 32 + 3 + 1) (queues ps)
-own-sem s p h = let d : p * 32 + 3 + 1 ≡ p * 32 + 4 = omega arith in rw d (omega (arith, own-once s p h .here))
+pub own-sem : {ps : List ℕ} {L : Lists} → Sep ps L → (p : ℕ) → 1 ≤ count p ps → 1 ≤ count (place p ownSemaphore + 1) (queues ps)
+own-sem s p h = let d : place p ownSemaphore + 1 ≡ p * 32 + 4 = omega arith in rw d (omega (arith, own-once s p h .here))
 
 pub page-sem : (ps : List ℕ) → 1 ≤ count (245 + 1) (queues ps)
 page-sem ps = omega arith
 
 -- ---- lists of uses
-module _ {ps : List ℕ} {L : Lists} (s : Sep ps L) (a : ℕ) (i : InUses ps a) (na : a ≢ 247) where
+module _ {ps : List ℕ} {L : Lists} (s : Sep ps L) (a : ℕ) (i : InUses ps a) (na : a ≢ processorList) where
   pub uses-upd : (K : List ℕ) (z : ℕ) → sum z (upd L a K) (uses ps) + count z (L a) ≡ sum z L (uses ps) + count z K
   uses-upd K z = sum-upd z L a K (uses ps) (i .here)
 
@@ -50,7 +51,7 @@ module _ {ps : List ℕ} {L : Lists} (s : Sep ps L) (a : ℕ) (i : InUses ps a) 
 
   pub uses-sep : (K : List ℕ) → ((z : ℕ) → sum z (upd L a K) (uses ps) ≤ one z) → Sep ps (upd L a K)
   uses-sep K h = record {
-    procs = upd-other L a 247 K (λ e. na (sym e)) ∙ s .procs;
+    procs = upd-other L a processorList K (λ e. na (sym e)) ∙ s .procs;
     most = h;
     waits = λ z. omega (arith, sum-skip z L a K (queues ps) (i .away), s .waits z);
   }
@@ -60,18 +61,18 @@ pub record News (ps : List ℕ) (L K : Lists) (W : View) (h : ℕ → ℕ) (g : 
   pub sep : Sep ps K
   pub same : (b : ℕ) → 1 ≤ count b (queues ps) → K b ≡ L b
   pub sems : (s : ℕ) → 1 ≤ count (s + 1) (queues ps) → h s ≡ less (stock K s) (length (L (s + 1)))
-  pub bare : (p : ℕ) → 1 ≤ count p (L 246) → (length (K 244) ≡ 0) × (length (K (320 + W .label p % 16)) ≡ 0)
-  pub known : (k : ℕ) → k < 32 → k ≢ g → length (K (320 + k)) ≢ 0 → bearers (W .label) ps k ≡ 1
-  pub mail : (p w : ℕ) → 1 ≤ count p ps → 5 ≤ w → w ≤ 6 → (q : ℕ) → 1 ≤ count q (K (p * 32 + w)) → Message (W .note q) (W .reason q)
-  pub none : (p x : ℕ) → 1 ≤ count p ps → 1 ≤ count x (L (p * 32 + 4)) → (q : ℕ) → 1 ≤ count q (K (p * 32 + 5))
+  pub bare : (p : ℕ) → 1 ≤ count p (L pageQueue) → (length (K freeList) ≡ 0) × (length (K (320 + W .label p % 16)) ≡ 0)
+  pub known : (k : ℕ) → k < 32 → k ≢ g → length (K (grantFor k)) ≢ 0 → bearers (W .label) ps k ≡ 1
+  pub mail : (p w : ℕ) → 1 ≤ count p ps → 5 ≤ w → w ≤ 6 → (q : ℕ) → 1 ≤ count q (K (place p w)) → Message (W .note q) (W .reason q)
+  pub none : (p x : ℕ) → 1 ≤ count p ps → 1 ≤ count x (L (place p ownQueue)) → (q : ℕ) → 1 ≤ count q (K (place p q1))
       → fits (W .reason p / 16) (W .reason p % 16) (W .note q) ≡ false
 
 pub facts-uses : {ps : List ℕ} {L : Lists} {W : View} {g : ℕ} (K : Lists) (h : ℕ → ℕ) → News ps L K W h g → Facts ps L W g → Facts ps K (withSem W h) g
 facts-uses {ps} {L} {W} K h n f =
     let s = f .sep in
-    let w4 : (p : ℕ) → 1 ≤ count p ps → K (p * 32 + 4) ≡ L (p * 32 + 4) = λ p i. n .same (p * 32 + 4) (omega (arith, own-once s p i .here)) in
-    let wk : (k : ℕ) → k < 54 → K (132 + 2 * k) ≡ L (132 + 2 * k) = λ k i. n .same (132 + 2 * k) (omega (arith, int-once s k i .here)) in
-    let w6 = n .same 246 (omega (arith, asking-once s .here)) in
+    let w4 : (p : ℕ) → 1 ≤ count p ps → K (place p ownQueue) ≡ L (place p ownQueue) = λ p i. n .same (place p ownQueue) (omega (arith, own-once s p i .here)) in
+    let wk : (k : ℕ) → k < interrupts → K (headerAfter k) ≡ L (headerAfter k) = λ k i. n .same (headerAfter k) (omega (arith, int-once s k i .here)) in
+    let w6 = n .same pageQueue (omega (arith, asking-once s .here)) in
     record {
       sep = n .sep;
       names = f .names;
@@ -93,7 +94,7 @@ facts-uses {ps} {L} {W} K h n f =
     }
 
 -- the semaphores stay, and so does the free list
-pub stock-same : (L K : Lists) → K 244 ≡ L 244 → (s : ℕ) → stock K s ≡ stock L s
+pub stock-same : (L K : Lists) → K freeList ≡ L freeList → (s : ℕ) → stock K s ≡ stock L s
 unfolding stock
 stock-same L K e s = rw e
 
@@ -112,7 +113,7 @@ upd-len L a K h c = go (hit-or c a)
     go (inl e) = rw (e, upd-same) h
     go (inr n) = rw (upd-other L a c K n) (omega arith)
 
-pub facts-less : {ps : List ℕ} {L : Lists} {W : View} {g : ℕ} (a : ℕ) (K : List ℕ) → InUses ps a → a ≢ 247 → a ≢ 244
+pub facts-less : {ps : List ℕ} {L : Lists} {W : View} {g : ℕ} (a : ℕ) (K : List ℕ) → InUses ps a → a ≢ processorList → a ≢ freeList
     → ((z : ℕ) → count z K ≤ count z (L a)) → length K ≤ length (L a) → Facts ps L W g → Facts ps (upd L a K) W g
 facts-less {ps} {L} {W} a K i na nf c l f =
     let s = f .sep in
@@ -121,11 +122,11 @@ facts-less {ps} {L} {W} a K i na nf c l f =
     facts-uses (upd L a K) (W .sem) (record {
       sep = uses-sep s a i na K (λ z. omega (arith, uses-upd s a i na K z, c z, s .most z));
       same = queue-same s a i na K;
-      sems = λ b h. rw (stock-same L (upd L a K) (upd-other L a 244 K (λ e. nf (sym e))) b) (f .sems b h);
-      bare = λ p h. let t = f .granted .bare p h in (omega (arith, t .0, ls 244), omega (arith, t .1, ls (320 + W .label p % 16)));
-      known = λ k h d n. f .granted .known k h d (λ z. n (omega (arith, ls (320 + k))));
-      mail = λ p w h u v q j. f .mail p w h u v q (omega (arith, cs (p * 32 + w) q));
-      none = λ p x h j q d. f .own p h x j .none q (omega (arith, cs (p * 32 + 5) q));
+      sems = λ b h. rw (stock-same L (upd L a K) (upd-other L a freeList K (λ e. nf (sym e))) b) (f .sems b h);
+      bare = λ p h. let t = f .granted .bare p h in (omega (arith, t .0, ls freeList), omega (arith, t .1, ls (320 + W .label p % 16)));
+      known = λ k h d n. f .granted .known k h d (λ z. n (omega (arith, ls (grantFor k))));
+      mail = λ p w h u v q j. f .mail p w h u v q (omega (arith, cs (place p w) q));
+      none = λ p x h j q d. f .own p h x j .none q (omega (arith, cs (place p q1) q));
     }) f
 
 -- ---- pages in hand
@@ -156,16 +157,16 @@ pub record Off (q : ℕ) (W X : View) : Type 0 where
   pub next : X .next ≡ W .next
   pub entry : X .entry ≡ W .entry
 
-pub facts-off : {ps : List ℕ} {L : Lists} {W X : View} {g : ℕ} (q : ℕ) → count q ps ≡ 0 → ((a : ℕ) → 1 ≤ count a (uses ps) → a ≢ 247 → count q (L a) ≡ 0)
+pub facts-off : {ps : List ℕ} {L : Lists} {W X : View} {g : ℕ} (q : ℕ) → count q ps ≡ 0 → ((a : ℕ) → 1 ≤ count a (uses ps) → a ≢ processorList → count q (L a) ≡ 0)
     → Off q W X → Facts ps L W g → Facts ps L X g
 facts-off {ps} {L} {W} {X} q out free o f =
     let s = f .sep in
     let ne : (p : ℕ) → 1 ≤ count p ps → p ≢ q = λ p h e. (let c = ap (λ (y : ℕ). count y ps) e in omega arith) in
     let nw : (a p : ℕ) → 1 ≤ count a (queues ps) → 1 ≤ count p (L a) → p ≢ q = λ a p h j. ne p (wait-page s a p h j) in
-    let nm : (p w x : ℕ) → 1 ≤ count p ps → 5 ≤ w → w ≤ 6 → 1 ≤ count x (L (p * 32 + w)) → x ≢ q = λ p w x h u v j e.
-    (let c = ap (λ (y : ℕ). count y (L (p * 32 + w))) e in
+    let nm : (p w x : ℕ) → 1 ≤ count p ps → 5 ≤ w → w ≤ 6 → 1 ≤ count x (L (place p w)) → x ≢ q = λ p w x h u v j e.
+    (let c = ap (λ (y : ℕ). count y (L (place p w))) e in
     let r = proc-page s p h in
-    omega (arith, free (p * 32 + w) (omega (arith, q-once s p w u v h .here)) (omega arith))) in
+    omega (arith, free (place p w) (omega (arith, q-once s p w u v h .here)) (omega arith))) in
     let same : (k : ℕ) → bearers (X .label) ps k ≡ bearers (W .label) ps k = λ k.
     ap (count k) (each-ext (λ p. X .label p % 16) (λ p. W .label p % 16) ps (λ p h. ap (λ (x : ℕ). x % 16) (o .label p (ne p h)))) in
     record {
@@ -177,8 +178,8 @@ facts-off {ps} {L} {W} {X} q out free o f =
       seats = record {
         bit = λ p h. rw (o .state p (ne p h)) (f .seats .bit p h);
         zeros = λ p h. rw (o .state p (ne p h)) (f .seats .zeros p h);
-        served = λ k i p j. rw (o .reason p (nw (132 + 2 * k) p (int-queue ps k i) j)) (f .seats .served k i p j);
-        asking = λ p j. rw (o .reason p (nw 246 p (omega arith) j)) (f .seats .asking p j);
+        served = λ k i p j. rw (o .reason p (nw (headerAfter k) p (int-queue ps k i) j)) (f .seats .served k i p j);
+        asking = λ p j. rw (o .reason p (nw pageQueue p (omega arith) j)) (f .seats .asking p j);
         quiet = λ p h z. rw (o .reason p (ne p h)) (f .seats .quiet p h (rw (o .state p (ne p h)) at z));
       };
       own = λ p h x j. let t = f .own p h x j in record {
@@ -188,14 +189,14 @@ facts-off {ps} {L} {W} {X} q out free o f =
       };
       sems = λ a h. rw (o .sem) (f .sems a h);
       granted = record {
-        bare = λ p j. rw (o .label p (nw 246 p (omega arith) j)) (f .granted .bare p j);
+        bare = λ p j. rw (o .label p (nw pageQueue p (omega arith) j)) (f .granted .bare p j);
         known = λ k h d n. same k ∙ f .granted .known k h d n;
       };
       mail = λ p w h u v y c. let d = nm p w y h u v c in rw (o .note y d, o .reason y d) (f .mail p w h u v y c);
       runs = record {
         idle = rw (o .low) (f .runs .idle);
         listed = rw (o .low) (f .runs .listed);
-        tag = rw (o .low) (λ n. f .runs .tag n ∙ sym (o .label (W .low 248) (ne (W .low 248) (omega (arith, f .runs .listed n)))));
+        tag = rw (o .low) (λ n. f .runs .tag n ∙ sym (o .label (W .low runningPage) (ne (W .low runningPage) (omega (arith, f .runs .listed n)))));
       };
       codes = rw (o .code) (f .codes);
       clock = rw (o .low) (f .clock);

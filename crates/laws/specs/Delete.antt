@@ -9,6 +9,8 @@ use native.Mathlib.Omega.{arith}
 use lib.ListN.{length, getD, set}
 use lib.Dec.{eqb}
 use borrow.Author.Tests.{eqb-true, eqb-false, eq-eqb, ne-eqb, leb-true}
+use Rattle.model.specs.Map.{grantFor, link, note, place, q1, q2, runningPage, size, state}
+use Rattle.model.specs.Bytes.{running, store, word}
 use Rattle.model.specs.Delete as Delete
 use Rattle.model.specs.Bytes as Model
 use Rattle.model.specs.Bytes.{lists, leave, giveBack, deliver, makeNotice, pageOf, returned, emptied, mailReturned, grantReturned, delete}
@@ -39,7 +41,7 @@ pub record Returned (m m1 : List ℕ) (ps : List ℕ) (hs : List ℕ) (g : ℕ) 
   pub lists : Lists
   pub view : View
   pub base : Base m1 ps lists view hs g
-  pub still : (y j : ℕ) → 1 ≤ count y hs → j < 32 → getD m1 (y * 32 + j) 0 ≡ getD m (y * 32 + j) 0
+  pub still : (y j : ℕ) → 1 ≤ count y hs → j < 32 → word m1 y j ≡ word m y j
 
 module _ {m : List ℕ} {ps : List ℕ} {L : Lists} {W : View} {hs : List ℕ} {g q : ℕ} (b : Base m ps L W (q ∷ hs) g) where
   given : Returned m (giveBack m q) ps hs g
@@ -49,22 +51,22 @@ module _ {m : List ℕ} {ps : List ℕ} {L : Lists} {W : View} {hs : List ℕ} {
   not-q y h e = omega (arith, b .all q, one-le q, hit-self q, ap (λ (z : ℕ). count z hs) e)
 
   notice-still : (n f p y j : ℕ) → 1 ≤ n → n ≤ 15 → 1 ≤ f → f ≤ 7 → 1 ≤ count p ps → 1 ≤ count y hs → j < 32
-      → getD (deliver (makeNotice m q n f) p q) (y * 32 + j) 0 ≡ getD m (y * 32 + j) 0
+      → word (deliver (makeNotice m q n f) p q) y j ≡ word m y j
   notice-still n f p y j n1 n2 f1 f2 hp h l =
       let o = notice-only b n f in
       deliver-still (hand-base q (in-hand b) o b) y j h l p hp (retold-letter b o (notice-letter b n f n1 n2 f1 f2)) ∙ only-word o y j (not-q y h) l
 
-  pub returned-base : (n : ℕ) → 1 ≤ n → n ≤ 15 → Message (getD m (q * 32 + 1) 0) (getD m (q * 32 + 2) 0) → Returned m (returned m n q) ps hs g
+  pub returned-base : (n : ℕ) → 1 ≤ n → n ≤ 15 → Message (word m q note) (word m q size) → Returned m (returned m n q) ps hs g
   unfolding Delete.returned Delete.noticed
-  returned-base n n1 n2 t = go (eqb (getD m (q * 32 + 2) 0) 128) (eqb (pageOf m (getD m (q * 32 + 1) 0 / 16)) 0) refl refl
+  returned-base n n1 n2 t = go (eqb (word m q size) 128) (eqb (pageOf m (word m q note / 16)) 0) refl refl
     where
-      go : (x y : Bool) → eqb (getD m (q * 32 + 2) 0) 128 ≡ x → eqb (pageOf m (getD m (q * 32 + 1) 0 / 16)) 0 ≡ y → Returned m (returned m n q) ps hs g
+      go : (x y : Bool) → eqb (word m q size) 128 ≡ x → eqb (pageOf m (word m q note / 16)) 0 ≡ y → Returned m (returned m n q) ps hs g
       go true y e f = rw e given
       go false true e f = rw (e, f) given
       go false false e f =
-          let p = pageOf m (getD m (q * 32 + 1) 0 / 16) in
-          let fl = getD m (q * 32 + 1) 0 % 16 in
-          let hp = named-in b (getD m (q * 32 + 1) 0 / 16) (eqb-false p 0 f) in
+          let p = pageOf m (word m q note / 16) in
+          let fl = word m q note % 16 in
+          let hp = named-in b (word m q note / 16) (eqb-false p 0 f) in
           let r = notice-base b n fl p n1 n2 (t .flag) (t .small) hp in
           rw (e, f) (record { lists = r .lists; view = r .view; base = r .base; still = λ y j h l. notice-still n fl p y j n1 n2 (t .flag) (t .small) hp h l })
 
@@ -86,19 +88,19 @@ pub record Drained (m m1 : List ℕ) (ps : List ℕ) (rest : List ℕ) (g h : �
   pub lists : Lists
   pub view : View
   pub base : Base m1 ps lists view rest g
-  pub still : (y j : ℕ) → 1 ≤ count y rest → j < 32 → y * 32 + j ≢ h → getD m1 (y * 32 + j) 0 ≡ getD m (y * 32 + j) 0
+  pub still : (y j : ℕ) → 1 ≤ count y rest → j < 32 → place y j ≢ h → word m1 y j ≡ word m y j
 
 -- word w of page p heads the queue xs; p and xs are in hand
 pub record Queue (m : List ℕ) (ps : List ℕ) (p w : ℕ) (xs rest : List ℕ) (g : ℕ) : Type 0 where
   pub lists : Lists
   pub view : View
   pub base : Base m ps lists view (xs ++ rest) g
-  pub chain : Chain m 0 (p * 32 + w) xs
+  pub chain : Chain m 0 (place p w) xs
   pub letters : Letters m xs
 
 module _ (p w n : ℕ) (u : 5 ≤ w) (v : w ≤ 6) (n1 : 1 ≤ n) (n2 : n ≤ 15) (ps rest : List ℕ) (g : ℕ) (hp : 1 ≤ count p rest) where
   abbrev h : ℕ
-  h = p * 32 + w
+  h = place p w
 
   -- the first message leaves its queue
   module _ {m : List ℕ} {x : ℕ} {xs : List ℕ} (q : Queue m ps p w (x ∷ xs) rest g) where
@@ -118,7 +120,7 @@ module _ (p w n : ℕ) (u : 5 ≤ w) (v : w ≤ 6) (n1 : 1 ≤ n) (n2 : n ≤ 15
     apart y i e = omega (arith, q .base .all x, one-le x, hit-self x, count-append x xs rest, ap (λ (z : ℕ). count z rest) e)
 
     abbrev pub m1 : List ℕ
-    m1 = set (set m h (getD m (x * 32 + 0) 0)) (x * 32 + 0) 0
+    m1 = store (set m h (word m x link)) x link 0
 
     pub left : leave m h 0 x ≡ m1
     left = leave-is m 0 h x [] xs (q .chain) (omega arith) refl
@@ -126,19 +128,19 @@ module _ (p w n : ℕ) (u : 5 ≤ w) (v : w ≤ 6) (n1 : 1 ≤ n) (n2 : n ≤ 15
     chain1 : Chain m1 0 h xs
     chain1 = chain-leave m 0 h x [] xs (q .base .mem .size) (omega (arith, pg)) (omega arith) (λ z i. omega arith) once (q .chain)
 
-    pub base1 : Base m1 ps (q .lists) (retold m1 (retold (set m h (getD m (x * 32 + 0) 0)) (q .view) p) x) (x ∷ xs ++ rest) g
+    pub base1 : Base m1 ps (q .lists) (retold m1 (retold (set m h (word m x link)) (q .view) p) x) (x ∷ xs ++ rest) g
     base1 =
-        hand-base x (omega (arith, hit-self x)) (only-set (x * 32 + 0) 0 (omega arith) (omega arith) (only-refl x (set m h (getD m (x * 32 + 0) 0))))
-        (hand-base p in-p (only-set h (getD m (x * 32 + 0) 0) (omega arith) (omega arith) (only-refl p m)) (q .base))
+        hand-base x (omega (arith, hit-self x)) (only-set (place x link) 0 (omega arith) (omega arith) (only-refl x (set m h (word m x link))))
+        (hand-base p in-p (only-set h (word m x link) (omega arith) (omega arith) (only-refl p m)) (q .base))
 
-    pub letter1 : (y : ℕ) → 1 ≤ count y (x ∷ xs) → Message (getD m1 (y * 32 + 1) 0) (getD m1 (y * 32 + 2) 0)
+    pub letter1 : (y : ℕ) → 1 ≤ count y (x ∷ xs) → Message (word m1 y 1) (word m1 y 2)
     letter1 y i =
-        let s = set m h (getD m (x * 32 + 0) 0) in
+        let s = set m h (word m x link) in
         rw (
-          other s (x * 32 + 0) 0 (y * 32 + 1) (omega arith),
-          other s (x * 32 + 0) 0 (y * 32 + 2) (omega arith),
-          other m h (getD m (x * 32 + 0) 0) (y * 32 + 1) (omega arith),
-          other m h (getD m (x * 32 + 0) 0) (y * 32 + 2) (omega arith),
+          other s (place x link) 0 (place y 1) (omega arith),
+          other s (place x link) 0 (place y 2) (omega arith),
+          other m h (word m x link) (place y 1) (omega arith),
+          other m h (word m x link) (place y 2) (omega arith),
         ) (q .letters .at y i)
 
     -- and is returned
@@ -171,11 +173,11 @@ module _ (p w n : ℕ) (u : 5 ≤ w) (v : w ≤ 6) (n1 : 1 ≤ n) (n2 : n ≤ 15
     pub nonzero : x ≢ 0
     nonzero = omega (arith, px)
 
-    stays : (y j : ℕ) → 1 ≤ count y rest → j < 32 → y * 32 + j ≢ h → getD m2 (y * 32 + j) 0 ≡ getD m (y * 32 + j) 0
+    stays : (y j : ℕ) → 1 ≤ count y rest → j < 32 → place y j ≢ h → word m2 y j ≡ word m y j
     stays y j i l d =
         let e = apart y i in
-        back .still y j (rest-in y i) l ∙ other (set m h (getD m (x * 32 + 0) 0)) (x * 32 + 0) 0 (y * 32 + j) (omega arith)
-        ∙ other m h (getD m (x * 32 + 0) 0) (y * 32 + j) d
+        back .still y j (rest-in y i) l ∙ other (set m h (word m x link)) (place x link) 0 (place y j) (omega arith)
+        ∙ other m h (word m x link) (place y j) d
 
   on : {m : List ℕ} {x : ℕ} {xs : List ℕ} (i : ℕ) (q : Queue m ps p w (x ∷ xs) rest g) → Drained (m2 q) (emptied i (m2 q) n h) ps rest g h
       → Drained m (emptied (suc i) m n h) ps rest g h
@@ -212,17 +214,17 @@ mail-back {m} p n g n1 n2 t =
     (tot-short (a2 .base) (t .q2) (λ z. omega (arith, count-append z (t .q2) (t .q1 ++ p ∷ [])))) a2 in
     second d2
   where
-    second : Drained m (emptied 20 m n (p * 32 + 6)) (t .procs) (t .q1 ++ p ∷ []) g (p * 32 + 6)
-        → Any (emptied 20 (emptied 20 m n (p * 32 + 6)) n (p * 32 + 5)) (p ∷ []) g
+    second : Drained m (emptied 20 m n (place p q2)) (t .procs) (t .q1 ++ p ∷ []) g (place p q2)
+        → Any (emptied 20 (emptied 20 m n (place p q2)) n (place p q1)) (p ∷ []) g
     second d =
-        let m1 = emptied 20 m n (p * 32 + 6) in
+        let m1 = emptied 20 m n (place p q2) in
         let in1 : (y : ℕ) → 1 ≤ count y (t .q1) → 1 ≤ count y (t .q1 ++ p ∷ []) = λ y i. omega (arith, count-append y (t .q1) (p ∷ [])) in
         let inp : 1 ≤ count p (t .q1 ++ p ∷ []) = count-mid p (t .q1) [] in
         let a1 : Queue m1 (t .procs) p 5 (t .q1) (p ∷ []) g = record {
           lists = d .lists;
           view = d .view;
           base = d .base;
-          chain = chain-move m m1 0 (p * 32 + 5) (p * 32 + 5) (t .q1) (d .still p 5 inp (omega arith) (omega arith)) (λ y i. d .still y 0 (in1 y i)
+          chain = chain-move m m1 0 (place p q1) (place p q1) (t .q1) (d .still p 5 inp (omega arith) (omega arith)) (λ y i. d .still y 0 (in1 y i)
               (omega arith) (omega arith)) (t .chain1);
           letters = record {
             at = λ y i. rw (d .still y 1 (in1 y i) (omega arith) (omega arith), d .still y 2 (in1 y i) (omega arith) (omega arith)) (t .letters1 .at y i);
@@ -232,14 +234,14 @@ mail-back {m} p n g n1 n2 t =
         (tot-short (d .base) (t .q1) (λ z. omega (arith, count-append z (t .q1) (p ∷ [])))) a1 .base)
 
 -- ---- the grant of the name that is deleted
-pub facts-whole : {ps : List ℕ} {L : Lists} {W : View} {n : ℕ} → length (L (320 + n)) ≡ 0 → Facts ps L W n → Facts ps L W 32
+pub facts-whole : {ps : List ℕ} {L : Lists} {W : View} {n : ℕ} → length (L (grantFor n)) ≡ 0 → Facts ps L W n → Facts ps L W 32
 facts-whole {ps} {L} {W} {n} e f = record {
   sep = f .sep;
   names = f .names;
   seats = f .seats;
   own = f .own;
   sems = f .sems;
-  granted = record { bare = f .granted .bare; known = λ k h d c. f .granted .known k h (λ q. c (ap (λ (y : ℕ). length (L (320 + y))) q ∙ e)) c };
+  granted = record { bare = f .granted .bare; known = λ k h d c. f .granted .known k h (λ q. c (ap (λ (y : ℕ). length (L (grantFor y))) q ∙ e)) c };
   mail = f .mail;
   runs = f .runs;
   codes = f .codes;
@@ -249,28 +251,28 @@ facts-whole {ps} {L} {W} {n} e f = record {
 
 grant-back : {m : List ℕ} {hs : List ℕ} (n : ℕ) → n < 32 → Any m hs n → Any (grantReturned m n) hs 32
 unfolding Delete.grantReturned
-grant-back {m} {hs} n l t = go (eqb (getD m (320 + n) 0) 0) refl
+grant-back {m} {hs} n l t = go (eqb (getD m (grantFor n) 0) 0) refl
   where
     b : Base m (t .procs) (t .lists) (t .view) hs n
     b = t .base
 
-    go : (c : Bool) → eqb (getD m (320 + n) 0) 0 ≡ c → Any (grantReturned m n) hs 32
+    go : (c : Bool) → eqb (getD m (grantFor n) 0) 0 ≡ c → Any (grantReturned m n) hs 32
     go true e =
-        let z = eqb-true (getD m (320 + n) 0) 0 e in
+        let z = eqb-true (getD m (grantFor n) 0) 0 e in
         let k = ap length (b .mem .holds .grant n l) ∙ ap (λ (x : ℕ). length (some x)) z in
         rw e (any-of (record { mem = b .mem; facts = facts-whole k (b .facts); all = b .all }))
     go false e =
-        let x = getD m (320 + n) 0 in
-        let z = eqb-false (getD m (320 + n) 0) 0 e in
+        let x = getD m (grantFor n) 0 in
+        let z = eqb-false (getD m (grantFor n) 0) 0 e in
         let b1 = take-grant b n x l (b .mem .holds .grant n l ∙ some-is x z) in
         rw e (any-of (give-back (record {
           mem = b1 .mem;
-          facts = facts-whole (ap length (upd-same (t .lists) (320 + n) [])) (b1 .facts);
+          facts = facts-whole (ap length (upd-same (t .lists) (grantFor n) [])) (b1 .facts);
           all = b1 .all;
         }) .base))
 
 -- ---- "In order: ..; then its own page."
-pub delete-base : {m : List ℕ} {ps : List ℕ} {L : Lists} {W : View} (p : ℕ) → 1 ≤ count p ps → W .low 248 ≢ p → Base m ps L W [] 32 → Any (delete m p) [] 32
+pub delete-base : {m : List ℕ} {ps : List ℕ} {L : Lists} {W : View} (p : ℕ) → 1 ≤ count p ps → W .low runningPage ≢ p → Base m ps L W [] 32 → Any (delete m p) [] 32
 unfolding Delete.delete
 delete-base {m} {W = W} p hp d b =
     let n = W .label p % 16 in
@@ -280,7 +282,7 @@ delete-base {m} {W = W} p hp d b =
     rw (b .mem .reads .words .label p (proc-page (b .facts .sep) p hp)) (any-of (give-back (t2 .base) .base))
 
 -- ---- the instructions
-module _ {m : List ℕ} (w : WellFormed m) (d : getD m 248 0 ≢ 0) where
+module _ {m : List ℕ} (w : WellFormed m) (d : running m ≢ 0) where
   open Busy (busy w d) using (base as b, ready)
 
   pub named-fine : (c n len : ℕ) → Fine (Model.named m c n len)
@@ -288,5 +290,5 @@ module _ {m : List ℕ} (w : WellFormed m) (d : getD m 248 0 ≢ 0) where
       let p = pageOf m n in
       named-each (bad w d) c n len (λ z. done-fine (start-base b p (named-in b n z)) len) (λ z. done-fine (stop-base b p (named-in b n z)) len) (λ g.
       let l = leb-true 128 (getD m (pageOf m n * 32 + 12) 0) (g .stopped) in
-      let d : getD m 248 0 ≢ pageOf m n = λ q. (let c = ap (λ (y : ℕ). getD m (y * 32 + 12) 0) q in omega (arith, ready)) in
+      let d : running m ≢ pageOf m n = λ q. (let c = ap (λ (y : ℕ). word m y state) q in omega (arith, ready)) in
       done-fine (delete-base (pageOf m n) (named-in b n (g .found)) d b .base) len)

@@ -9,6 +9,8 @@ use native.Mathlib.Omega.{arith}
 use lib.ListN.{getD, set}
 use lib.Dec.{ltb}
 use borrow.Author.Tests.{ltb-true}
+use Rattle.model.specs.Map.{highLr, lowLr, memorySize, place, runningPage, state}
+use Rattle.model.specs.Bytes.{running, store, word}
 use Rattle.model.specs.Map.{lastFault}
 use Rattle.model.specs.Fault as Fault
 use Rattle.model.specs.Answer as Answer
@@ -47,7 +49,7 @@ start-bits w h =
 
 pub state-base : {m : List ℕ} {ps : List ℕ} {L : Lists} {W : View} {hs : List ℕ} {g : ℕ} (q v : ℕ) → 1 ≤ count q ps
     → (v % 128 / 64 ≡ W .state q % 128 / 64) × (v % 64 / 16 ≡ 0) → Base m ps L W hs g
-    → Base (set m (q * 32 + 12) v) ps L (withState W (put1 (W .state) q v)) hs g
+    → Base (store m q state v) ps L (withState W (put1 (W .state) q v)) hs g
 state-base {ps = ps} {W = W} q v i c b = record {
   mem = state-mem (b .facts .sep) (b .mem) q v (proc-page (b .facts .sep) q i);
   facts = facts-state (put1 (W .state) q v) (λ x h. go x h (hit-or x q)) (b .facts);
@@ -101,29 +103,29 @@ name-entry : (w f : ℕ) → Label w → 1 ≤ f → f ≤ lastFault → Entry (
 name-entry w f l i j = record { name = (omega arith, omega arith); fault = (omega arith, omega arith) }
 
 -- ---- LR; page 0 has no LR, and where nobody runs nothing that is judged changes
-pub quiet-run : (r w : ℕ) → (r ≢ 0 → Page r) → 8 ≤ w → w < 32 → w ≢ 12 → Quiet (r * 32 + w)
+pub quiet-run : (r w : ℕ) → (r ≢ 0 → Page r) → 8 ≤ w → w < 32 → w ≢ 12 → Quiet (place r w)
 quiet-run r w g l u n = go (hit-or r 0)
   where
-    go : (r ≡ 0) ⊎ (r ≢ 0) → Quiet (r * 32 + w)
-    go (inl e) = quiet-low (r * 32 + w) (omega arith)
-    go (inr d) = quiet-word r w (r * 32 + w) (g d) l u n refl
+    go : (r ≡ 0) ⊎ (r ≢ 0) → Quiet (place r w)
+    go (inl e) = quiet-low (place r w) (omega arith)
+    go (inr d) = quiet-word r w (place r w) (g d) l u n refl
 
 pub lr-kept : (m : List ℕ) (p v : ℕ) → (p ≢ 0 → Page p) → Kept m (setLr m p v)
 unfolding Processor.setLr
 lr-kept m p v g =
-    kept-set (p * 32 + 11) (v % 256) (quiet-run p 11 g (omega arith) (omega arith) (omega arith))
-    (kept-set (p * 32 + 10) (getD m (p * 32 + 10) 0 / 32 * 32 + v / 256 % 32) (quiet-run p 10 g (omega arith) (omega arith) (omega arith)) (kept-refl m))
+    kept-set (place p lowLr) (v % 256) (quiet-run p 11 g (omega arith) (omega arith) (omega arith))
+    (kept-set (place p highLr) (word m p highLr / 32 * 32 + v / 256 % 32) (quiet-run p 10 g (omega arith) (omega arith) (omega arith)) (kept-refl m))
 
 module _ {m : List ℕ} {ps : List ℕ} {L : Lists} {W : View} {hs : List ℕ} {g : ℕ} (b : Base m ps L W hs g) where
-  pub run-page : getD m 248 0 ≢ 0 → Page (getD m 248 0)
-  run-page n = rw (running-at b) (proc-page (b .facts .sep) (W .low 248) (running-in b (rw (running-at b) at n)))
+  pub run-page : running m ≢ 0 → Page (running m)
+  run-page n = rw (running-at b) (proc-page (b .facts .sep) (W .low runningPage) (running-in b (rw (running-at b) at n)))
 
-  pub lr-base : (v : ℕ) → Base (setLr m (getD m 248 0) v) ps L W hs g
-  lr-base v = base-kept (lr-kept m (getD m 248 0) v run-page) b
+  pub lr-base : (v : ℕ) → Base (setLr m (running m) v) ps L W hs g
+  lr-base v = base-kept (lr-kept m (running m) v run-page) b
 
   pub advance-base : (n : ℕ) → Base (advance m n) ps L W hs g
   unfolding Processor.advance
-  advance-base n = lr-base ((lr m + n) % 8192)
+  advance-base n = lr-base ((lr m + n) % memorySize)
 
 -- ---- the ends
 module _ {m : List ℕ} {ps : List ℕ} {L : Lists} {W : View} (b : Base m ps L W [] 32) where
@@ -135,15 +137,15 @@ module _ {m : List ℕ} {ps : List ℕ} {L : Lists} {W : View} (b : Base m ps L 
   unfolding Answer.jumps Answer.memoryOf
   jumps-fine a = well-formed (who-inv (lr-base b a) .1)
 
-  pub fault-fine : (f : ℕ) → W .low 248 ≢ 0 → 1 ≤ f → f ≤ lastFault → Fine (fault m f)
+  pub fault-fine : (f : ℕ) → W .low runningPage ≢ 0 → 1 ≤ f → f ≤ lastFault → Fine (fault m f)
   unfolding Fault.fault Answer.memoryOf
   fault-fine f n i j =
-      let r = W .low 248 in
+      let r = W .low runningPage in
       let h = running-in b n in
       let t = entered-base (W .label r % 16 * 16 + f) (name-entry (W .label r) f (b .facts .names .range r h) i j) (stop-base b r h) in
       rw (running-at b, label-at b r h) (well-formed (who-inv (t .1) .1))
 
-  pub waits-fine : (a w : ℕ) → W .low 248 ≢ 0 → 1 ≤ count (a + 1) (queues ps) → W .state (W .low 248) % 128 / 64 ≡ 0 → Fit ps L W a (W .low 248) w
+  pub waits-fine : (a w : ℕ) → W .low runningPage ≢ 0 → 1 ≤ count (a + 1) (queues ps) → W .state (W .low runningPage) % 128 / 64 ≡ 0 → Fit ps L W a (W .low runningPage) w
       → Fine (waits m a w)
   unfolding Answer.waits Answer.memoryOf
-  waits-fine a w n h idle fit = rw (running-at b) (well-formed (who-inv (wait-base a (W .low 248) w b h (running-in b n) idle fit) .1))
+  waits-fine a w n h idle fit = rw (running-at b) (well-formed (who-inv (wait-base a (W .low runningPage) w b h (running-in b n) idle fit) .1))

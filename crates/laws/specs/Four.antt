@@ -5,6 +5,7 @@ use mathlib.Core.List.{List, [], _∷_, _++_}
 use Prim.Native.Nat.{ℕ, zero, suc, _+_, _-_, _*_, _≤_}
 use native.Mathlib.Omega.{arith}
 use lib.ListN.{getD}
+use Rattle.model.specs.Map.{firstControl, grantFor}
 use Rattle.model.specs.Map.{place, q1, q2, freeList, grants, pageSize}
 use Rattle.model.specs.Lists as Model
 use Rattle.model.specs.Lists.{count, Lists, sum, range, some, mails}
@@ -51,8 +52,8 @@ module _ {m : List ℕ} {ps : List ℕ} {L : Lists} {W : View} {g : ℕ} (b : Ba
       let h = f p (omega (arith, hit-self p)) in
       omega (
         arith,
-        count-append z (queue m (p * 32 + 5)) (queue m (p * 32 + 6) ++ mailOf m qs),
-        count-append z (queue m (p * 32 + 6)) (mailOf m qs),
+        count-append z (queue m (place p q1)) (queue m (place p q2) ++ mailOf m qs),
+        count-append z (queue m (place p q2)) (mailOf m qs),
         in-mail z qs (λ y i. f y (omega arith)),
         ap (count z) (mail-queue b p 5 h (omega arith) (omega arith)),
         ap (count z) (mail-queue b p 6 h (omega arith) (omega arith)),
@@ -62,14 +63,14 @@ module _ {m : List ℕ} {ps : List ℕ} {L : Lists} {W : View} {g : ℕ} (b : Ba
   unfolding Model.range
   granted z zero a l u = refl
   granted z (suc n) a l u =
-      let e : 320 + (a - 320) ≡ a = omega arith in
+      let e : grantFor (a - 320) ≡ a = omega arith in
       let c = rw e at (b .mem .holds .grant (a - 320) (omega arith)) in
       omega (arith, count-append z (some (getD m a 0)) (pagesIn n m (a + 1)), granted z n (a + 1) (omega arith) (omega arith), ap (count z) c)
 
-  free : queue m 244 ≡ L 244
+  free : queue m freeList ≡ L freeList
   free =
       let s = b .facts .sep in
-      walk-chain 20 m 0 244 (L 244) (chain0 s (b .mem) 244 (in-free ps, grant-low 244 (omega arith)) (omega arith)) (list-short s 244 (in-free ps))
+      walk-chain 20 m 0 freeList (L freeList) (chain0 s (b .mem) freeList (in-free ps, grant-low freeList (omega arith)) (omega arith)) (list-short s freeList (in-free ps))
 
   pub four : (z : ℕ) → asProcessor m z + asFree m z + asMessage m z + asGrant m z ≡ one z
   four z =
@@ -86,5 +87,5 @@ module _ {m : List ℕ} {ps : List ℕ} {L : Lists} {W : View} {g : ℕ} (b : Ba
       )
 
 -- each control page has exactly one of the four uses
-pub used-once : {m : List ℕ} → Sound m → (z : ℕ) → 236 ≤ z → z ≤ 255 → asProcessor m z + asFree m z + asMessage m z + asGrant m z ≡ 1
+pub used-once : {m : List ℕ} → Sound m → (z : ℕ) → firstControl ≤ z → z ≤ 255 → asProcessor m z + asFree m z + asMessage m z + asGrant m z ≡ 1
 used-once h z l u = four (invariant (well h) .base) z ∙ page-one z (l, omega arith)

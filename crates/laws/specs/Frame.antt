@@ -9,6 +9,9 @@ use lib.ListN.{length, getD, set, length-set}
 use lib.Seq.{getD-set-same}
 use lib.Dec.{eqb, ltb}
 use borrow.Author.Tests.{lt-ltb, le-ltb}
+use Rattle.model.specs.Map as Map
+use Rattle.model.specs.Map.{entryAt, firstControl, memorySize, place, runningLabel, runningPage, state}
+use Rattle.model.specs.Bytes.{store, word}
 use Rattle.model.specs.Map.{zeroPlace, stopSet}
 use Rattle.model.specs.declared.Answer.the-variants.{Fault}
 use Rattle.model.specs.Processor as Processor
@@ -24,15 +27,15 @@ use Rattle.laws.specs.Who.{zero-low, kept-frame, restored-frame}
 
 -- ---- what a change of who runs moves: words 24 and 25 of page 7, the nineteen words of page 0, and those of page r, which ran
 pub record Unmoved (r a : ℕ) : Type 0 where
-  pub page : a ≢ 248
-  pub label : a ≢ 249
+  pub page : a ≢ runningPage
+  pub label : a ≢ runningLabel
   pub zero : (i : ℕ) → i < 19 → a ≢ zeroPlace i
   pub kept : (i : ℕ) → i < 19 → a ≢ r * 32 + (13 + i)
 
-pub turn-frame : (m : List ℕ) (a : ℕ) → Unmoved (getD m 248 0) a → getD (whoRuns m) a 0 ≡ getD m a 0
+pub turn-frame : (m : List ℕ) (a : ℕ) → Unmoved (running m) a → getD (whoRuns m) a 0 ≡ getD m a 0
 unfolding Turn.whoRuns Turn.switch Turn.runs Turn.save Turn.load
 turn-frame m a u =
-    let r = getD m 248 0 in
+    let r = running m in
     let t = Model.chosen m in
     let m1 = Model.save m r in
     let m2 = Model.load m1 t in
@@ -41,18 +44,18 @@ turn-frame m a u =
     let l : getD (Model.load (Model.save m r) t) a 0 ≡ getD m a 0 = either (λ (x : List ℕ). getD x a 0 ≡ getD m a 0) (eqb t 0) s
     (restored-frame 19 m1 (Model.keptOn m1 t) a (u .zero) ∙ s) in
     either (λ (x : List ℕ). getD x a 0 ≡ getD m a 0) (eqb r t) refl
-    (other (set m2 248 t) 249 _ a (u .label) ∙ other m2 248 t a (u .page) ∙ l)
+    (other (set m2 runningPage t) runningLabel _ a (u .label) ∙ other m2 runningPage t a (u .page) ∙ l)
 
 -- ---- the fault
 module _ (m : List ℕ) (f : ℕ) where
   abbrev r : ℕ
-  r = getD m 248 0
+  r = running m
 
   abbrev e : ℕ
-  e = getD m (r * 32 + 7) 0 % 16 * 16 + f
+  e = name m r * 16 + f
 
   abbrev m1 : List ℕ
-  m1 = set m (r * 32 + 12) (getD m (r * 32 + 12) 0 % 128 + 128)
+  m1 = store m r state (word m r state % 128 + 128)
 
   pub fault-answer : answerOf (fault m f) ≡ Fault f (name m (running m))
   unfolding Faults.fault Answer.answerOf
@@ -80,39 +83,39 @@ module _ (m : List ℕ) (f : ℕ) where
   unfolding Faults.entered
   entered-new x v h = rw (lt-ltb (getD x 288 0) 32 h)
 
-  module _ (size : length m ≡ 8192) (page : 236 ≤ r) (high : r ≤ 255) where
+  module _ (size : length m ≡ memorySize) (page : firstControl ≤ r) (high : r ≤ 255) where
     next-same : getD m1 288 0 ≡ getD m 288 0
-    next-same = other m (r * 32 + 12) (getD m (r * 32 + 12) 0 % 128 + 128) 288 (omega arith)
+    next-same = other m (place r state) (word m r state % 128 + 128) 288 (omega arith)
 
-    run-same : getD m2 248 0 ≡ getD m 248 0
-    run-same = entered-frame m1 e 248 (omega arith) (omega arith) ∙ other m (r * 32 + 12) (getD m (r * 32 + 12) 0 % 128 + 128) 248 (omega arith)
+    run-same : running m2 ≡ running m
+    run-same = entered-frame m1 e runningPage (omega arith) (omega arith) ∙ other m (place r state) (word m r state % 128 + 128) runningPage (omega arith)
 
     moved : (a : ℕ) → Unmoved r a → getD (memoryOf (fault m f)) a 0 ≡ getD m2 a 0
     moved a u = rw fault-is (turn-frame m2 a (rw run-same u))
 
     -- every other word is as it was
-    pub fault-frame : (a : ℕ) → Unmoved r a → a ≢ r * 32 + 12 → a ≢ 288 → a ≢ 288 + getD m 288 0 → getD (memoryOf (fault m f)) a 0 ≡ getD m a 0
+    pub fault-frame : (a : ℕ) → Unmoved r a → a ≢ place r state → a ≢ 288 → a ≢ 288 + getD m 288 0 → getD (memoryOf (fault m f)) a 0 ≡ getD m a 0
     fault-frame a u d12 d0 dn =
-        moved a u ∙ entered-frame m1 e a d0 (rw next-same dn) ∙ other m (r * 32 + 12) (getD m (r * 32 + 12) 0 % 128 + 128) a d12
+        moved a u ∙ entered-frame m1 e a d0 (rw next-same dn) ∙ other m (place r state) (word m r state % 128 + 128) a d12
 
     -- page 9 too, when it is full
-    pub fault-full : 32 ≤ getD m 288 0 → (a : ℕ) → Unmoved r a → a ≢ r * 32 + 12 → getD (memoryOf (fault m f)) a 0 ≡ getD m a 0
+    pub fault-full : 32 ≤ getD m 288 0 → (a : ℕ) → Unmoved r a → a ≢ place r state → getD (memoryOf (fault m f)) a 0 ≡ getD m a 0
     fault-full h a u d12 =
-        moved a u ∙ ap (λ (x : List ℕ). getD x a 0) (entered-full m1 e (rw next-same h)) ∙ other m (r * 32 + 12) (getD m (r * 32 + 12) 0 % 128 + 128) a d12
+        moved a u ∙ ap (λ (x : List ℕ). getD x a 0) (entered-full m1 e (rw next-same h)) ∙ other m (place r state) (word m r state % 128 + 128) a d12
 
-    size1 : length m1 ≡ 8192
+    size1 : length m1 ≡ memorySize
     size1 = simp length-set size
 
     -- a word that is none of those that a change of who runs moves
-    far : (a : ℕ) → 32 ≤ a → a ≢ 248 → a ≢ 249 → ((i : ℕ) → i < 19 → a ≢ r * 32 + (13 + i)) → Unmoved r a
+    far : (a : ℕ) → 32 ≤ a → a ≢ runningPage → a ≢ runningLabel → ((i : ℕ) → i < 19 → a ≢ r * 32 + (13 + i)) → Unmoved r a
     far a l d8 d9 k = record { page = d8; label = d9; zero = λ i h. (let z = zero-low i h in omega arith); kept = k }
 
     -- the stopped bit is set, the rest of word 12 stays
-    pub fault-stops : getD m 288 0 ≤ 32 → getD (memoryOf (fault m f)) (r * 32 + 12) 0 ≡ stopSet (getD m (r * 32 + 12) 0)
+    pub fault-stops : getD m 288 0 ≤ 32 → word (memoryOf (fault m f)) r state ≡ stopSet (word m r state)
     fault-stops h =
-        moved (r * 32 + 12) (far (r * 32 + 12) (omega arith) (omega arith) (omega arith) (λ i k. omega arith))
-        ∙ entered-frame m1 e (r * 32 + 12) (omega arith) (omega (arith, next-same))
-        ∙ getD-set-same m (r * 32 + 12) (getD m (r * 32 + 12) 0 % 128 + 128) 0 (omega (arith, size))
+        moved (place r state) (far (place r state) (omega arith) (omega arith) (omega arith) (λ i k. omega arith))
+        ∙ entered-frame m1 e (place r state) (omega arith) (omega (arith, next-same))
+        ∙ getD-set-same m (place r state) (word m r state % 128 + 128) 0 (omega (arith, size))
 
     -- "each entry is name*16 + fault"; word 0 of page 9 goes on
     pub fault-enters : 1 ≤ getD m 288 0 → getD m 288 0 < 32
@@ -121,9 +124,9 @@ module _ (m : List ℕ) (f : ℕ) where
         let n = getD m 288 0 in
         let q = entered-new m1 e (rw next-same h) in
         let x = set m1 (288 + getD m1 288 0) e in (
-          moved (288 + n) (far (288 + n) (omega arith) (omega arith) (omega arith) (λ i k. omega arith)) ∙ ap (λ (y : List ℕ). getD y (288 + n) 0) q
-              ∙ other x 288 (getD m1 288 0 + 1) (288 + n) (omega arith)
-              ∙ ap (λ (z : ℕ). getD (set m1 (288 + z) e) (288 + n) 0) next-same ∙ getD-set-same m1 (288 + n) e 0 (omega (arith, size1)),
+          moved (entryAt n) (far (entryAt n) (omega arith) (omega arith) (omega arith) (λ i k. omega arith)) ∙ ap (λ (y : List ℕ). getD y (entryAt n) 0) q
+              ∙ other x 288 (getD m1 288 0 + 1) (entryAt n) (omega arith)
+              ∙ ap (λ (z : ℕ). getD (set m1 (entryAt z) e) (entryAt n) 0) next-same ∙ getD-set-same m1 (entryAt n) e 0 (omega (arith, size1)),
           moved 288 (far 288 (omega arith) (omega arith) (omega arith) (λ i k. omega arith)) ∙ ap (λ (y : List ℕ). getD y 288 0) q
               ∙ getD-set-same x 288 (getD m1 288 0 + 1) 0 (simp length-set (omega (arith, size1))) ∙ ap (λ (z : ℕ). z + 1) next-same,
         )

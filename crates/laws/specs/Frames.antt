@@ -7,6 +7,10 @@ use Prim.Native.Nat.{ℕ, zero, suc, _+_, _-_, _*_, _%_, _≤_, _<_}
 use native.Mathlib.Omega.{arith}
 use lib.ListN.{length, getD, set, length-set}
 use lib.Seq.{getD-set-other}
+use Rattle.model.specs.Map as Map
+use Rattle.model.specs.Map.{c3, clockLine, codeWord, divider, entryAfter, freeSemaphore, grantFor, link, memorySize, place, processorList, runningPage}
+use Rattle.model.specs.Address.{wrapped}
+use Rattle.model.specs.Bytes.{store, word}
 use Rattle.model.specs.Address as Address
 use Rattle.model.specs.Bytes.{copy, zeroed}
 use Rattle.model.specs.Lists.{count, Lists, linkOf, queues}
@@ -27,31 +31,31 @@ other m b v a n = getD-set-other m b a v 0 (omega arith)
 
 -- ---- heads, links and grants
 pub holds-kept : (m m′ : List ℕ) (ps : List ℕ) (L : Lists) → Sep ps L → ((a : ℕ) → Among ps a → getD m′ a 0 ≡ getD m a 0)
-    → ((a x : ℕ) → Among ps a → a ≢ 247 → 1 ≤ count x (L a) → getD m′ (x * 32 + 0) 0 ≡ getD m (x * 32 + 0) 0)
-    → ((x : ℕ) → 1 ≤ count x ps → getD m′ (x * 32 + 1) 0 ≡ getD m (x * 32 + 1) 0) → Holds m ps L → Holds m′ ps L
+    → ((a x : ℕ) → Among ps a → a ≢ processorList → 1 ≤ count x (L a) → word m′ x link ≡ word m x link)
+    → ((x : ℕ) → 1 ≤ count x ps → word m′ x 1 ≡ word m x 1) → Holds m ps L → Holds m′ ps L
 holds-kept m m′ ps L s heads zeros ones h = record {
-  rep = λ a i. chain-move m m′ (linkOf a) a a (L a) (heads a (i .0)) (λ x c. go a i x c (hit-or a 247)) (h .rep a i);
-  grant = λ k i. rw (heads (320 + k) (in-grant ps k i)) (h .grant k i);
+  rep = λ a i. chain-move m m′ (linkOf a) a a (L a) (heads a (i .0)) (λ x c. go a i x c (hit-or a processorList)) (h .rep a i);
+  grant = λ k i. rw (heads (grantFor k) (in-grant ps k i)) (h .grant k i);
 }
   where
-    go : (a : ℕ) → Head ps a → (x : ℕ) → 1 ≤ count x (L a) → (a ≡ 247) ⊎ (a ≢ 247) → getD m′ (x * 32 + linkOf a) 0 ≡ getD m (x * 32 + linkOf a) 0
+    go : (a : ℕ) → Head ps a → (x : ℕ) → 1 ≤ count x (L a) → (a ≡ processorList) ⊎ (a ≢ processorList) → getD m′ (x * 32 + linkOf a) 0 ≡ getD m (x * 32 + linkOf a) 0
     go a i x c (inl e) = rw (e, link-procs) (ones x (rw (e, s .procs) at c))
     go a i x c (inr n) = rw (link-other a n) (zeros a x (i .0) n c)
 
 -- ---- the counters, the words of who runs, pages 8 and 9
-pub fixed-same : {m m′ : List ℕ} {l c : ℕ → ℕ} {n : ℕ} {e : ℕ → ℕ} → ((a : ℕ) → 239 ≤ a → a ≤ 243 → getD m′ a 0 ≡ getD m a 0)
-    → ((a : ℕ) → 248 ≤ a → a ≤ 251 → getD m′ a 0 ≡ getD m a 0) → ((a : ℕ) → 256 ≤ a → a < 320 → getD m′ a 0 ≡ getD m a 0) → Fixed m l c n e → Fixed m′ l c n e
+pub fixed-same : {m m′ : List ℕ} {l c : ℕ → ℕ} {n : ℕ} {e : ℕ → ℕ} → ((a : ℕ) → clockLine ≤ a → a ≤ c3 → getD m′ a 0 ≡ getD m a 0)
+    → ((a : ℕ) → runningPage ≤ a → a ≤ divider → getD m′ a 0 ≡ getD m a 0) → ((a : ℕ) → 256 ≤ a → a < 320 → getD m′ a 0 ≡ getD m a 0) → Fixed m l c n e → Fixed m′ l c n e
 fixed-same clock turn rest f = record {
   clock = λ a h i. clock a h i ∙ f .clock a h i;
   turn = λ a h i. turn a h i ∙ f .turn a h i;
-  code = λ k h. rest (256 + 2 * k) (omega arith) (omega arith) ∙ f .code k h;
+  code = λ k h. rest (codeWord k) (omega arith) (omega arith) ∙ f .code k h;
   next = rest 288 (omega arith) (omega arith) ∙ f .next;
-  entry = λ i h. rest (289 + i) (omega arith) (omega arith) ∙ f .entry i h;
+  entry = λ i h. rest (entryAfter i) (omega arith) (omega arith) ∙ f .entry i h;
 }
 
 -- ---- the semaphores
-pub seat-same : (m m′ : List ℕ) {ps : List ℕ} → ((a : ℕ) → 131 ≤ a → a ≤ 245 → getD m′ a 0 ≡ getD m a 0)
-    → ((p : ℕ) → 1 ≤ count p ps → getD m′ (p * 32 + 3) 0 ≡ getD m (p * 32 + 3) 0) → (a : ℕ) → Seat ps a → getD m′ a 0 ≡ getD m a 0
+pub seat-same : (m m′ : List ℕ) {ps : List ℕ} → ((a : ℕ) → 131 ≤ a → a ≤ freeSemaphore → getD m′ a 0 ≡ getD m a 0)
+    → ((p : ℕ) → 1 ≤ count p ps → word m′ p 3 ≡ word m p 3) → (a : ℕ) → Seat ps a → getD m′ a 0 ≡ getD m a 0
 seat-same m m′ low page-3 a (line k u e) = low a (omega arith) (omega arith)
 seat-same m m′ low page-3 a (page e) = low a (omega arith) (omega arith)
 seat-same m m′ low page-3 a (own p u e) = rw e (page-3 p u)
@@ -60,8 +64,8 @@ seat-same m m′ low page-3 a (own p u e) = rw e (page-3 p u)
 pub record Kept (m m′ : List ℕ) : Type 0 where
   pub size : length m′ ≡ length m
   pub fixed : (a : ℕ) → 128 ≤ a → a < 352 → getD m′ a 0 ≡ getD m a 0
-  pub words : (p j : ℕ) → Page p → j ≤ 7 → getD m′ (p * 32 + j) 0 ≡ getD m (p * 32 + j) 0
-  pub state : (p : ℕ) → Page p → getD m′ (p * 32 + 12) 0 ≡ getD m (p * 32 + 12) 0
+  pub words : (p j : ℕ) → Page p → j ≤ 7 → word m′ p j ≡ word m p j
+  pub state : (p : ℕ) → Page p → word m′ p Map.state ≡ word m p Map.state
 
 module _ {m m′ : List ℕ} (k : Kept m m′) where
   kept-heads : {ps : List ℕ} {L : Lists} → Sep ps L → (a : ℕ) → Among ps a → getD m′ a 0 ≡ getD m a 0
@@ -120,21 +124,21 @@ kept-on f g = record {
 -- ---- a store to a word that is not judged
 pub record Quiet (b : ℕ) : Type 0 where
   pub fixed : (a : ℕ) → 128 ≤ a → a < 352 → a ≢ b
-  pub words : (p j : ℕ) → Page p → j ≤ 7 → p * 32 + j ≢ b
-  pub state : (p : ℕ) → Page p → p * 32 + 12 ≢ b
+  pub words : (p j : ℕ) → Page p → j ≤ 7 → place p j ≢ b
+  pub state : (p : ℕ) → Page p → place p Map.state ≢ b
 
 pub kept-set : {m m′ : List ℕ} (b v : ℕ) → Quiet b → Kept m m′ → Kept m (set m′ b v)
 kept-set {m} {m′} b v q k = record {
   size = simp length-set (k .size);
   fixed = λ a i j. other m′ b v a (q .fixed a i j) ∙ k .fixed a i j;
-  words = λ p j h i. other m′ b v (p * 32 + j) (q .words p j h i) ∙ k .words p j h i;
-  state = λ p h. other m′ b v (p * 32 + 12) (q .state p h) ∙ k .state p h;
+  words = λ p j h i. other m′ b v (place p j) (q .words p j h i) ∙ k .words p j h i;
+  state = λ p h. other m′ b v (place p Map.state) (q .state p h) ∙ k .state p h;
 }
 
 pub quiet-low : (b : ℕ) → b < 128 → Quiet b
 quiet-low b u = record { fixed = λ a i j. omega arith; words = λ p j h i. omega arith; state = λ p h. omega arith }
 
-pub quiet-word : (q w b : ℕ) → Page q → 8 ≤ w → w < 32 → w ≢ 12 → b ≡ q * 32 + w → Quiet b
+pub quiet-word : (q w b : ℕ) → Page q → 8 ≤ w → w < 32 → w ≢ 12 → b ≡ place q w → Quiet b
 quiet-word q w b g l u n e = record { fixed = λ a i j. omega arith; words = λ p j h i. omega arith; state = λ p h. omega arith }
 
 -- ---- only words of page q change
@@ -154,14 +158,14 @@ only-set {q} {m} {m′} b v l u o = record {
 }
 
 -- ---- n words copied leave every other word
-pub copy-far : (n : ℕ) (m : List ℕ) (a b c : ℕ) → b < 8192 → ((i : ℕ) → i < n → c ≢ (b + i) % 8192) → getD (copy n m a b) c 0 ≡ getD m c 0
+pub copy-far : (n : ℕ) (m : List ℕ) (a b c : ℕ) → b < memorySize → ((i : ℕ) → i < n → c ≢ wrapped b i) → getD (copy n m a b) c 0 ≡ getD m c 0
 unfolding Address.copy
 copy-far zero m a b c l f = refl
 copy-far (suc n) m a b c l f =
-    let e : (b + 0) % 8192 ≡ b = omega arith in
+    let e : wrapped b 0 ≡ b = omega arith in
     let f0 : c ≢ b = λ z. f 0 (omega arith) (z ∙ sym e) in
-    copy-far n (set m b (getD m a 0)) ((a + 1) % 8192) ((b + 1) % 8192) c (omega arith)
-    (λ i h z. f (suc i) (omega arith) (z ∙ (let d : ((b + 1) % 8192 + i) % 8192 ≡ (b + suc i) % 8192 = omega arith in d)))
+    copy-far n (set m b (getD m a 0)) (wrapped a 1) (wrapped b 1) c (omega arith)
+    (λ i h z. f (suc i) (omega arith) (z ∙ (let d : (wrapped b 1 + i) % memorySize ≡ (b + suc i) % memorySize = omega arith in d)))
     ∙ other m b (getD m a 0) c f0
 
 -- n words copied to words of page q
@@ -170,13 +174,13 @@ unfolding Address.copy
 only-copy zero m′ a b i l u o = o
 only-copy (suc zero) m′ a b i l u o = only-set b (getD m′ a 0) l (omega arith) o
 only-copy (suc (suc n)) m′ a b i l u o =
-    let w : (b + 1) % 8192 ≡ b + 1 = omega arith in
-    rw w (only-copy (suc n) (set m′ b (getD m′ a 0)) ((a + 1) % 8192) (b + 1) i (omega arith) (omega arith) (only-set b (getD m′ a 0) l (omega arith) o))
+    let w : wrapped b 1 ≡ b + 1 = omega arith in
+    rw w (only-copy (suc n) (set m′ b (getD m′ a 0)) (wrapped a 1) (b + 1) i (omega arith) (omega arith) (only-set b (getD m′ a 0) l (omega arith) o))
 
 -- the first words of page q cleared
-pub only-zeroed : {q : ℕ} {m : List ℕ} (n : ℕ) (m′ : List ℕ) → q < 256 → n ≤ 32 → Only q m m′ → Only q m (zeroed n m′ (q * 32 + 0))
+pub only-zeroed : {q : ℕ} {m : List ℕ} (n : ℕ) (m′ : List ℕ) → q < 256 → n ≤ 32 → Only q m m′ → Only q m (zeroed n m′ (place q link))
 unfolding Address.zeroed
 only-zeroed zero m′ i u o = o
 only-zeroed {q} (suc n) m′ i u o =
-    let w : (q * 32 + 0 + n) % 8192 ≡ q * 32 + n = omega arith in
-    rw w (only-zeroed n (set m′ (q * 32 + n) 0) i (omega arith) (only-set (q * 32 + n) 0 (omega arith) (omega arith) o))
+    let w : (place q link + n) % memorySize ≡ q * 32 + n = omega arith in
+    rw w (only-zeroed n (store m′ q n 0) i (omega arith) (only-set (place q n) 0 (omega arith) (omega arith) o))

@@ -9,6 +9,8 @@ use native.Mathlib.Omega.{arith}
 use lib.ListN.{length, getD, set}
 use lib.Dec.{eqb}
 use borrow.Author.Tests.{ne-eqb}
+use Rattle.model.specs.Map.{freeList, freeSemaphore, grantFor, label, link, pageQueue, place, q1, reason, state}
+use Rattle.model.specs.Bytes.{word}
 use Rattle.model.specs.Page as Page
 use Rattle.model.specs.Page.Taken.{took}
 use Rattle.model.specs.Bytes.{takeFree, takePage, freePage, grantPage, giveBack}
@@ -58,7 +60,7 @@ nil-count (x ∷ xs) h z = absurd (omega arith)
 
 -- ---- "to the first waiter as its grant and wakes it"
 module _ {m : List ℕ} {ps : List ℕ} {L : Lists} {W : View} {hs : List ℕ} {g q : ℕ} (b : Base m ps L W (q ∷ hs) g) (p : ℕ) (ws : List ℕ)
-    (e : L 246 ≡ p ∷ ws) where
+    (e : L pageQueue ≡ p ∷ ws) where
   s : Sep ps L
   s = b .facts .sep
 
@@ -66,82 +68,82 @@ module _ {m : List ℕ} {ps : List ℕ} {L : Lists} {W : View} {hs : List ℕ} {
   n = W .label p % 16
 
   abbrev A : Lists
-  A = upd L 246 ws
+  A = upd L pageQueue ws
 
   abbrev K : Lists
-  K = upd A (320 + n) (some q)
+  K = upd A (grantFor n) (some q)
 
   pub waiter-proc : 1 ≤ count p ps
-  waiter-proc = woken-proc 245 p [] ws (b .facts) (page-sem ps) e
+  waiter-proc = woken-proc freeSemaphore p [] ws (b .facts) (page-sem ps) e
 
-  fw : Facts ps A (woken W 245 p) g
-  fw = facts-wake 245 p [] ws (b .facts) (page-sem ps) e
+  fw : Facts ps A (woken W freeSemaphore p) g
+  fw = facts-wake freeSemaphore p [] ws (b .facts) (page-sem ps) e
 
   hand-is : some q ≡ q ∷ []
   hand-is = some-is q (λ z. let t = hand-page b q (omega (arith, hit-self q)) in omega arith)
 
-  bare-p : length (L (320 + n)) ≡ 0
+  bare-p : length (L (grantFor n)) ≡ 0
   bare-p = b .facts .granted .bare p (rw e (omega (arith, hit-self p))) .1
 
   more : (z : ℕ) → sum z K (uses ps) ≡ sum z L (uses ps) + hit (eqb z q)
   more z =
       omega (
         arith,
-        uses-upd (fw .sep) (320 + n) (grant-once s n (omega arith)) (omega arith) (some q) z,
+        uses-upd (fw .sep) (grantFor n) (grant-once s n (omega arith)) (omega arith) (some q) z,
         ap (count z) hand-is,
-        sum-skip z L 246 ws (uses ps) (asking-once s .away),
-        nil-count (L (320 + n)) bare-p z,
-        ap (count z) (upd-other L 246 (320 + n) ws (omega arith)),
+        sum-skip z L pageQueue ws (uses ps) (asking-once s .away),
+        nil-count (L (grantFor n)) bare-p z,
+        ap (count z) (upd-other L pageQueue (grantFor n) ws (omega arith)),
       )
 
   -- another that waits has another name
-  twins : (x : ℕ) → 1 ≤ count x (A 246) → W .label x % 16 ≡ n → ⊥
+  twins : (x : ℕ) → 1 ≤ count x (A pageQueue) → W .label x % 16 ≡ n → ⊥
   twins x h d =
-      let i : 1 ≤ count x ws = rw (upd-same L 246 ws) at h in
-      let hx : 1 ≤ count x (L 246) = rw e (omega arith) in
+      let i : 1 ≤ count x ws = rw (upd-same L pageQueue ws) at h in
+      let hx : 1 ≤ count x (L pageQueue) = rw e (omega arith) in
       let no : x ≢ p = λ z.
-      omega (arith, ap (λ (y : ℕ). count y ws) z, ap (count p) e, hit-self p, sum-one p L 246 (queues ps) (omega arith), s .waits p, proc-once s p) in
-      omega (arith, each-two (λ y. W .label y % 16) x p ps no d (wait-page s 246 x (omega arith) hx) waiter-proc, b .facts .names .differ p waiter-proc)
+      omega (arith, ap (λ (y : ℕ). count y ws) z, ap (count p) e, hit-self p, sum-one p L pageQueue (queues ps) (omega arith), s .waits p, proc-once s p) in
+      omega (arith, each-two (λ y. W .label y % 16) x p ps no d (wait-page s pageQueue x (omega arith) hx) waiter-proc, b .facts .names .differ p waiter-proc)
 
-  facts-grant : Facts ps K (woken W 245 p) g
+  facts-grant : Facts ps K (woken W freeSemaphore p) g
   facts-grant =
       let i = grant-once s n (omega arith) in
-      let o : (c : ℕ) → c ≢ 320 + n → K c ≡ A c = λ c d. upd-other A (320 + n) c (some q) d in
-      facts-uses K (woken W 245 p .sem) (record {
-        sep = uses-sep (fw .sep) (320 + n) i (omega arith) (some q) (λ z. omega (arith, more z, b .all z));
-        same = queue-same (fw .sep) (320 + n) i (omega arith) (some q);
-        sems = λ a h. rw (stock-same A K (o 244 (omega arith)) a) (fw .sems a h);
-        bare = λ x h. rw (o 244 (omega arith), o (320 + W .label x % 16) (λ d. twins x h (omega arith))) (fw .granted .bare x h);
+      let o : (c : ℕ) → c ≢ grantFor n → K c ≡ A c = λ c d. upd-other A (grantFor n) c (some q) d in
+      facts-uses K (woken W freeSemaphore p .sem) (record {
+        sep = uses-sep (fw .sep) (grantFor n) i (omega arith) (some q) (λ z. omega (arith, more z, b .all z));
+        same = queue-same (fw .sep) (grantFor n) i (omega arith) (some q);
+        sems = λ a h. rw (stock-same A K (o freeList (omega arith)) a) (fw .sems a h);
+        bare = λ x h. rw (o freeList (omega arith), o (320 + W .label x % 16) (λ d. twins x h (omega arith))) (fw .granted .bare x h);
         known = λ k h d c. known k h d c (hit-or k n);
-        mail = λ y w h u v. rw (o (y * 32 + w) (let t = proc-page s y h in omega arith)) (fw .mail y w h u v);
-        none = λ y x h j. rw (o (y * 32 + 5) (let t = proc-page s y h in omega arith)) (fw .own y h x j .none);
+        mail = λ y w h u v. rw (o (place y w) (let t = proc-page s y h in omega arith)) (fw .mail y w h u v);
+        none = λ y x h j. rw (o (place y q1) (let t = proc-page s y h in omega arith)) (fw .own y h x j .none);
       }) fw
     where
-      known : (k : ℕ) → k < 32 → k ≢ g → length (K (320 + k)) ≢ 0 → (k ≡ n) ⊎ (k ≢ n) → count k (each-of (λ y. W .label y % 16) ps) ≡ 1
+      known : (k : ℕ) → k < 32 → k ≢ g → length (K (grantFor k)) ≢ 0 → (k ≡ n) ⊎ (k ≢ n) → count k (each-of (λ y. W .label y % 16) ps) ≡ 1
       known k h d c (inl t) = rw t (b .facts .names .differ p waiter-proc)
-      known k h d c (inr t) = fw .granted .known k h d (rw (upd-other A (320 + n) (320 + k) (some q) (omega arith)) at c)
+      known k h d c (inr t) = fw .granted .known k h d (rw (upd-other A (grantFor n) (grantFor k) (some q) (omega arith)) at c)
 
-  swap : upd (upd L (320 + n) (some q)) 246 ws ≡ K
-  swap = upd-swap L (320 + n) 246 (some q) ws (omega arith)
+  swap : upd (upd L (grantFor n) (some q)) pageQueue ws ≡ K
+  swap = upd-swap L (grantFor n) pageQueue (some q) ws (omega arith)
 
-  pub sep-G : Sep ps (upd L (320 + n) (some q))
-  sep-G = uses-sep s (320 + n) (grant-once s n (omega arith)) (omega arith) (some q) (λ z.
+  pub sep-G : Sep ps (upd L (grantFor n) (some q))
+  sep-G = uses-sep s (grantFor n) (grant-once s n (omega arith)) (omega arith) (some q) (λ z.
       omega (
         arith,
-        uses-upd s (320 + n) (grant-once s n (omega arith)) (omega arith) (some q) z,
+        uses-upd s (grantFor n) (grant-once s n (omega arith)) (omega arith) (some q) z,
         ap (count z) hand-is,
-        nil-count (L (320 + n)) bare-p z,
+        nil-count (L (grantFor n)) bare-p z,
         b .all z,
       ))
 
-  pub give-grant : Base (grantPage m p q) ps K (woken W 245 p) hs g
+  pub give-grant : Base (grantPage m p q) ps K (woken W freeSemaphore p) hs g
   unfolding Page.grantPage
   give-grant =
       let pg = proc-page s p waiter-proc in
       let x1 = grant-mem n q (omega arith) s (b .mem) in
-      let e2 = upd-other L (320 + n) 246 (some q) (omega arith) ∙ e in
+      let e2 = upd-other L (grantFor n) pageQueue (some q) (omega arith) ∙ e in
       rw (b .mem .reads .words .label p pg) (record {
-        mem = rw swap at (wake-mem 245 p [] ws sep-G (rw swap (facts-grant .sep)) x1 (page-sem ps) pg e2);
+        mem = rw swap at (wake-mem freeSemaphore p [] ws sep-G (rw swap (facts-grant .sep)) x1 (page-sem ps) pg e2);
         facts = facts-grant;
         all = λ z. omega (arith, more z, b .all z);
       })
@@ -165,41 +167,41 @@ pub any-of : {m : List ℕ} {ps : List ℕ} {L : Lists} {W : View} {hs : List �
 any-of {ps = ps} {L = L} {W = W} b = record { procs = ps; lists = L; view = W; base = b }
 
 module _ {m : List ℕ} {ps : List ℕ} {L : Lists} {W : View} {hs : List ℕ} {g q : ℕ} (b : Base m ps L W (q ∷ hs) g) where
-  asking : Chain m 0 246 (L 246)
-  asking = chain0 (b .facts .sep) (b .mem) 246 (in-asking ps, grant-low 246 (omega arith)) (omega arith)
+  asking : Chain m 0 pageQueue (L pageQueue)
+  asking = chain0 (b .facts .sep) (b .mem) pageQueue (in-asking ps, grant-low pageQueue (omega arith)) (omega arith)
 
-  pub give-is-free : L 246 ≡ [] → giveBack m q ≡ freePage m q
+  pub give-is-free : L pageQueue ≡ [] → giveBack m q ≡ freePage m q
   unfolding Page.giveBack
-  give-is-free e = let z : getD m 246 0 ≡ 0 = rw e at asking in rw z
+  give-is-free e = let z : getD m pageQueue 0 ≡ 0 = rw e at asking in rw z
 
-  pub give-is-grant : (p : ℕ) (ws : List ℕ) → L 246 ≡ p ∷ ws → giveBack m q ≡ grantPage m p q
+  pub give-is-grant : (p : ℕ) (ws : List ℕ) → L pageQueue ≡ p ∷ ws → giveBack m q ≡ grantPage m p q
   unfolding Page.giveBack
   give-is-grant p ws e = let t = rw e at asking in rw (t .0, ne-eqb p 0 (omega arith))
 
   pub give-back : Gave (giveBack m q) ps hs g W
-  give-back = go (L 246) refl
+  give-back = go (L pageQueue) refl
     where
-      go : (xs : List ℕ) → L 246 ≡ xs → Gave (giveBack m q) ps hs g W
+      go : (xs : List ℕ) → L pageQueue ≡ xs → Gave (giveBack m q) ps hs g W
       go [] e = rw (give-is-free e) (record {
-        lists = upd L 244 (L 244 ++ q ∷ []);
-        view = withSem W (put1 (W .sem) 245 ((W .sem 245 + 1) % 256));
+        lists = upd L freeList (L 244 ++ q ∷ []);
+        view = withSem W (put1 (W .sem) freeSemaphore ((W .sem 245 + 1) % 256));
         base = give-free b e;
         low = refl;
       })
       go (p ∷ ws) e = rw (give-is-grant p ws e) (record {
-        lists = upd (upd L 246 ws) (320 + W .label p % 16) (some q);
-        view = woken W 245 p;
+        lists = upd (upd L pageQueue ws) (320 + W .label p % 16) (some q);
+        view = woken W freeSemaphore p;
         base = give-grant b p ws e;
         low = refl;
       })
 
 -- a word that is neither a grant nor one of the free list or the page queue, and for no waiter the link or word 2 or 12
 pub record Spared (L : Lists) (q c : ℕ) : Type 0 where
-  pub low : (a : ℕ) → 244 ≤ a → a ≤ 246 → c ≢ a
-  pub grant : (k : ℕ) → k < 16 → c ≢ 320 + k
-  pub hand : c ≢ q * 32 + 0
-  pub free : (z : ℕ) → 1 ≤ count z (L 244) → c ≢ z * 32 + 0
-  pub waiter : (p : ℕ) → 1 ≤ count p (L 246) → (c ≢ p * 32 + 0) × (c ≢ p * 32 + 2) × (c ≢ p * 32 + 12)
+  pub low : (a : ℕ) → freeList ≤ a → a ≤ pageQueue → c ≢ a
+  pub grant : (k : ℕ) → k < 16 → c ≢ grantFor k
+  pub hand : c ≢ place q link
+  pub free : (z : ℕ) → 1 ≤ count z (L freeList) → c ≢ place z link
+  pub waiter : (p : ℕ) → 1 ≤ count p (L pageQueue) → (c ≢ place p link) × (c ≢ place p reason) × (c ≢ place p state)
 
 -- it stays
 module _ {m : List ℕ} {ps : List ℕ} {L : Lists} {W : View} {hs : List ℕ} {g q : ℕ} (b : Base m ps L W (q ∷ hs) g) (c : ℕ) (o : Spared L q c) where
@@ -207,57 +209,57 @@ module _ {m : List ℕ} {ps : List ℕ} {L : Lists} {W : View} {hs : List ℕ} {
   unfolding Page.freePage
   free-frame =
       let s = b .facts .sep in
-      let v = (getD m 245 0 + 1) % 256 in
-      join-frame s (sem-mem s (b .mem) 245 v (page-sem ps)) 244 (in-free ps, grant-low 244 (omega arith)) (omega arith) q
-      (hand-page b q (in-hand b)) (hand-new b) c (o .low 244 (omega arith) (omega arith)) (o .free) (o .hand)
-      ∙ other m 245 v c (o .low 245 (omega arith) (omega arith))
+      let v = (getD m freeSemaphore 0 + 1) % 256 in
+      join-frame s (sem-mem s (b .mem) freeSemaphore v (page-sem ps)) freeList (in-free ps, grant-low freeList (omega arith)) (omega arith) q
+      (hand-page b q (in-hand b)) (hand-new b) c (o .low freeList (omega arith) (omega arith)) (o .free) (o .hand)
+      ∙ other m freeSemaphore v c (o .low freeSemaphore (omega arith) (omega arith))
 
-  grant-frame : (p : ℕ) (ws : List ℕ) → L 246 ≡ p ∷ ws → getD (grantPage m p q) c 0 ≡ getD m c 0
+  grant-frame : (p : ℕ) (ws : List ℕ) → L pageQueue ≡ p ∷ ws → getD (grantPage m p q) c 0 ≡ getD m c 0
   unfolding Page.grantPage
   grant-frame p ws e =
       let s = b .facts .sep in
       let n = W .label p % 16 in
-      let same = upd-other L (320 + n) 246 (some q) (omega arith) in
+      let same = upd-other L (grantFor n) pageQueue (some q) (omega arith) in
       let t = o .waiter p (rw e (omega (arith, hit-self p))) in
       rw (b .mem .reads .words .label p (proc-page s p (waiter-proc b p ws e)))
-      (wake-frame (sep-G b p ws e) (grant-mem n q (omega arith) s (b .mem)) 245 p [] ws (page-sem ps) (same ∙ e) c (o .low 245 (omega arith) (omega arith))
-      (o .low 246 (omega arith) (omega arith)) (λ z i. o .waiter z (rw same at i) .0) (t .1) (t .2) ∙ other m (320 + n) q c (o .grant n (omega arith)))
+      (wake-frame (sep-G b p ws e) (grant-mem n q (omega arith) s (b .mem)) freeSemaphore p [] ws (page-sem ps) (same ∙ e) c (o .low freeSemaphore (omega arith) (omega arith))
+      (o .low pageQueue (omega arith) (omega arith)) (λ z i. o .waiter z (rw same at i) .0) (t .1) (t .2) ∙ other m (grantFor n) q c (o .grant n (omega arith)))
 
   pub give-frame : getD (giveBack m q) c 0 ≡ getD m c 0
-  give-frame = go (L 246) refl
+  give-frame = go (L pageQueue) refl
     where
-      go : (xs : List ℕ) → L 246 ≡ xs → getD (giveBack m q) c 0 ≡ getD m c 0
+      go : (xs : List ℕ) → L pageQueue ≡ xs → getD (giveBack m q) c 0 ≡ getD m c 0
       go [] e = rw (give-is-free b e) free-frame
       go (p ∷ ws) e = rw (give-is-grant b p ws e) (grant-frame p ws e)
 
 -- ---- take a page
 pub data Takes (m : List ℕ) (p : ℕ) (ps : List ℕ) (L : Lists) (W : View) (hs : List ℕ) (g : ℕ) : Type 0 where
   gets : (q : ℕ) (m1 : List ℕ) → takePage m p ≡ took q m1 → q ≢ 0 → (t : Gave m1 ps (q ∷ hs) g W) → t .view .label ≡ W .label → Takes m p ps L W hs g
-  lacks : takePage m p ≡ took 0 m → L 244 ≡ [] → length (L (320 + W .label p % 16)) ≡ 0 → Takes m p ps L W hs g
+  lacks : takePage m p ≡ took 0 m → L freeList ≡ [] → length (L (320 + W .label p % 16)) ≡ 0 → Takes m p ps L W hs g
 
 pub take-page : {m : List ℕ} {ps : List ℕ} {L : Lists} {W : View} {hs : List ℕ} {g : ℕ} (p : ℕ) → 1 ≤ count p ps → Base m ps L W hs g
     → Takes m p ps L W hs g
 unfolding Page.takePage Page.firstFree
-take-page {m} {ps} {L} {W} {hs} {g} p h b = go (getD m (320 + n) 0) refl (L 244) refl
+take-page {m} {ps} {L} {W} {hs} {g} p h b = go (getD m (grantFor n) 0) refl (L freeList) refl
   where
     n : ℕ
     n = W .label p % 16
 
-    at-label : getD m (p * 32 + 7) 0 ≡ W .label p
+    at-label : word m p label ≡ W .label p
     at-label = b .mem .reads .words .label p (proc-page (b .facts .sep) p h)
 
-    free : Chain m 0 244 (L 244)
-    free = chain0 (b .facts .sep) (b .mem) 244 (in-free ps, grant-low 244 (omega arith)) (omega arith)
+    free : Chain m 0 freeList (L freeList)
+    free = chain0 (b .facts .sep) (b .mem) freeList (in-free ps, grant-low freeList (omega arith)) (omega arith)
 
-    go : (x : ℕ) → getD m (320 + W .label p % 16) 0 ≡ x → (xs : List ℕ) → L 244 ≡ xs → Takes m p ps L W hs g
+    go : (x : ℕ) → getD m (320 + W .label p % 16) 0 ≡ x → (xs : List ℕ) → L freeList ≡ xs → Takes m p ps L W hs g
     go zero e [] f =
-        let c : getD m 244 0 ≡ 0 = rw f at free in
+        let c : getD m freeList 0 ≡ 0 = rw f at free in
         lacks (rw (at-label, e, c)) f (ap length (b .mem .holds .grant (W .label p % 16) (omega arith)) ∙ ap (λ (x : ℕ). length (some x)) e)
     go zero e (q ∷ fs) f =
         let c = rw f at free in
         gets q (takeFree m q) (rw (at-label, e, c .0, ne-eqb q 0 (omega arith))) (omega arith) (record {
-          lists = upd L 244 fs;
-          view = withSem W (put1 (W .sem) 245 ((W .sem 245 + 255) % 256));
+          lists = upd L freeList fs;
+          view = withSem W (put1 (W .sem) freeSemaphore ((W .sem 245 + 255) % 256));
           base = take-free q fs b f;
           low = refl;
         }) refl

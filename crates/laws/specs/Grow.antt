@@ -6,6 +6,9 @@ use Prim.Native.Nat.{ℕ, _+_, _-_, _*_, _/_, _%_, _≤_, _<_}
 use native.Mathlib.Omega.{arith}
 use lib.ListN.{length, getD, set, length-set}
 use lib.Dec.{eqb}
+use Rattle.model.specs.Map.{freeList, grantFor, guardedLast, headerAfter, interrupts, listLink, ownQueue, ownSemaphore, pageQueue, place, processorList, q1}
+use Rattle.model.specs.Map.{q2, runningPage}
+use Rattle.model.specs.Bytes.{store, word}
 use Rattle.model.specs.Map.{less}
 use Rattle.model.specs.Bytes.{join}
 use Rattle.model.specs.Lists.{hit, count, Lists, sum, linkOf, uses, queues}
@@ -26,7 +29,7 @@ use Rattle.laws.specs.Still.{Aside, aside-hand}
 
 -- ---- the new page q: its words, and that nobody bears its name
 pub record New (m : List ℕ) (ps : List ℕ) (W : View) (q : ℕ) : Type 0 where
-  pub empty : (w : ℕ) → 3 ≤ w → w ≤ 6 → getD m (q * 32 + w) 0 ≡ 0
+  pub empty : (w : ℕ) → 3 ≤ w → w ≤ 6 → word m q w ≡ 0
   pub label : Label (W .label q)
   pub unnamed : bearers (W .label) ps (W .label q % 16) ≡ 0
   pub bit : W .state q % 128 / 64 ≡ 0
@@ -43,35 +46,35 @@ module _ {m : List ℕ} {ps : List ℕ} {L : Lists} {W : View} {hs : List ℕ} {
   P = ps ++ q ∷ []
 
   abbrev A : Lists
-  A = upd L 247 P
+  A = upd L processorList P
 
   -- the lists then
   pub grown : Lists
-  grown = upd (upd (upd A (q * 32 + 4) []) (q * 32 + 5) []) (q * 32 + 6) []
+  grown = upd (upd (upd A (place q ownQueue) []) (place q q1) []) (place q q2) []
 
-  new-list : (w : ℕ) → 4 ≤ w → w ≤ 6 → grown (q * 32 + w) ≡ []
+  new-list : (w : ℕ) → 4 ≤ w → w ≤ 6 → grown (place q w) ≡ []
   unfolding grown
   new-list w l u = go (hit-or w 6) (hit-or w 5)
     where
-      go : (w ≡ 6) ⊎ (w ≢ 6) → (w ≡ 5) ⊎ (w ≢ 5) → grown (q * 32 + w) ≡ []
+      go : (w ≡ 6) ⊎ (w ≢ 6) → (w ≡ 5) ⊎ (w ≢ 5) → grown (place q w) ≡ []
       go (inl e) f = rw (e, upd-same)
-      go (inr e) (inl f) = rw (f, upd-other (upd (upd A (q * 32 + 4) []) (q * 32 + 5) []) (q * 32 + 6) (q * 32 + 5) [] (omega arith), upd-same)
+      go (inr e) (inl f) = rw (f, upd-other (upd (upd A (place q ownQueue) []) (place q q1) []) (place q q2) (place q q1) [] (omega arith), upd-same)
       go (inr e) (inr f) =
           let d : w ≡ 4 = omega arith in
           rw (
             d,
-            upd-other (upd (upd A (q * 32 + 4) []) (q * 32 + 5) []) (q * 32 + 6) (q * 32 + 4) [] (omega arith),
-            upd-other (upd A (q * 32 + 4) []) (q * 32 + 5) (q * 32 + 4) [] (omega arith),
+            upd-other (upd (upd A (place q ownQueue) []) (place q q1) []) (place q q2) (place q ownQueue) [] (omega arith),
+            upd-other (upd A (place q ownQueue) []) (place q q1) (place q ownQueue) [] (omega arith),
             upd-same,
           )
 
-  old-list : (a : ℕ) → a ≢ q * 32 + 4 → a ≢ q * 32 + 5 → a ≢ q * 32 + 6 → grown a ≡ A a
+  old-list : (a : ℕ) → a ≢ place q ownQueue → a ≢ place q q1 → a ≢ place q q2 → grown a ≡ A a
   unfolding grown
   old-list a n4 n5 n6 =
       rw (
-        upd-other (upd (upd A (q * 32 + 4) []) (q * 32 + 5) []) (q * 32 + 6) a [] n6,
-        upd-other (upd A (q * 32 + 4) []) (q * 32 + 5) a [] n5,
-        upd-other A (q * 32 + 4) a [] n4,
+        upd-other (upd (upd A (place q ownQueue) []) (place q q1) []) (place q q2) a [] n6,
+        upd-other (upd A (place q ownQueue) []) (place q q1) a [] n5,
+        upd-other A (place q ownQueue) a [] n4,
       )
 
   -- at a head of before
@@ -79,27 +82,27 @@ module _ {m : List ℕ} {ps : List ℕ} {L : Lists} {W : View} {hs : List ℕ} {
   at-old a h =
       old-list a (head-off s q 4 a pg (omega arith) out h) (head-off s q 5 a pg (omega arith) out h) (head-off s q 6 a pg (omega arith) out h)
 
-  at-same : (a : ℕ) → Among ps a → a ≢ 247 → grown a ≡ L a
-  at-same a h d = at-old a h ∙ upd-other L 247 a P d
+  at-same : (a : ℕ) → Among ps a → a ≢ processorList → grown a ≡ L a
+  at-same a h d = at-old a h ∙ upd-other L processorList a P d
 
   -- a head is one of before, or one of the three new ones
   data Which (a : ℕ) : Type 0 where
     old : Among ps a → Which a
-    fresh : (w : ℕ) → 4 ≤ w → w ≤ 6 → a ≡ q * 32 + w → Which a
+    fresh : (w : ℕ) → 4 ≤ w → w ≤ 6 → a ≡ place q w → Which a
 
   pn : ps ++ [] ≡ ps
   pn = append-nil ps
 
-  more-uses : (a : ℕ) → count a (uses P) ≡ count a (uses ps) + (hit (eqb a (q * 32 + 5)) + hit (eqb a (q * 32 + 6)))
+  more-uses : (a : ℕ) → count a (uses P) ≡ count a (uses ps) + (hit (eqb a (place q q1)) + hit (eqb a (place q q2)))
   more-uses a = rw pn at (uses-more ps q [] a)
 
-  more-queues : (a : ℕ) → count a (queues P) ≡ count a (queues ps) + hit (eqb a (q * 32 + 4))
+  more-queues : (a : ℕ) → count a (queues P) ≡ count a (queues ps) + hit (eqb a (place q ownQueue))
   more-queues a = rw pn at (queues-more ps q [] a)
 
   which : (a : ℕ) → Among P a → Which a
-  which a h = go (hit-or a (q * 32 + 4)) (hit-or a (q * 32 + 5)) (hit-or a (q * 32 + 6))
+  which a h = go (hit-or a (place q ownQueue)) (hit-or a (place q q1)) (hit-or a (place q q2))
     where
-      go : (a ≡ q * 32 + 4) ⊎ (a ≢ q * 32 + 4) → (a ≡ q * 32 + 5) ⊎ (a ≢ q * 32 + 5) → (a ≡ q * 32 + 6) ⊎ (a ≢ q * 32 + 6) → Which a
+      go : (a ≡ place q ownQueue) ⊎ (a ≢ place q ownQueue) → (a ≡ place q q1) ⊎ (a ≢ place q q1) → (a ≡ place q q2) ⊎ (a ≢ place q q2) → Which a
       go (inl e) f i = fresh 4 (omega arith) (omega arith) e
       go (inr d) (inl e) i = fresh 5 (omega arith) (omega arith) e
       go (inr d) (inr e) (inl f) = fresh 6 (omega arith) (omega arith) f
@@ -111,18 +114,18 @@ module _ {m : List ℕ} {ps : List ℕ} {L : Lists} {W : View} {hs : List ℕ} {
             count-append a (uses ps) (queues ps),
             more-uses a,
             more-queues a,
-            hit-other a (q * 32 + 4) d,
-            hit-other a (q * 32 + 5) e,
-            hit-other a (q * 32 + 6) f,
+            hit-other a (place q ownQueue) d,
+            hit-other a (place q q1) e,
+            hit-other a (place q q2) f,
           ))
 
   -- a wait queue
-  which-queue : (a : ℕ) → 1 ≤ count a (queues P) → (1 ≤ count a (queues ps)) ⊎ (a ≡ q * 32 + 4)
-  which-queue a h = go (hit-or a (q * 32 + 4))
+  which-queue : (a : ℕ) → 1 ≤ count a (queues P) → (1 ≤ count a (queues ps)) ⊎ (a ≡ place q ownQueue)
+  which-queue a h = go (hit-or a (place q ownQueue))
     where
-      go : (a ≡ q * 32 + 4) ⊎ (a ≢ q * 32 + 4) → (1 ≤ count a (queues ps)) ⊎ (a ≡ q * 32 + 4)
+      go : (a ≡ place q ownQueue) ⊎ (a ≢ place q ownQueue) → (1 ≤ count a (queues ps)) ⊎ (a ≡ place q ownQueue)
       go (inl e) = inr e
-      go (inr d) = inl (omega (arith, more-queues a, hit-other a (q * 32 + 4) d))
+      go (inr d) = inl (omega (arith, more-queues a, hit-other a (place q ownQueue) d))
 
   which-proc : (y : ℕ) → 1 ≤ count y P → (1 ≤ count y ps) ⊎ (y ≡ q)
   which-proc y h = go (hit-or y q)
@@ -146,7 +149,7 @@ module _ {m : List ℕ} {ps : List ℕ} {L : Lists} {W : View} {hs : List ℕ} {
         ap (count z) (new-list 5 (omega arith) (omega arith)),
         ap (count z) (new-list 6 (omega arith) (omega arith)),
         sum-ext z grown A (uses ps) (λ a h. at-old a (in-uses ps a h)),
-        sum-upd z L 247 P (uses ps) (procs-once s .here),
+        sum-upd z L processorList P (uses ps) (procs-once s .here),
         count-P z,
         ap (count z) (s .procs),
       )
@@ -158,7 +161,7 @@ module _ {m : List ℕ} {ps : List ℕ} {L : Lists} {W : View} {hs : List ℕ} {
         rw pn at (queues-sum ps q [] z grown),
         ap (count z) (new-list 4 (omega arith) (omega arith)),
         sum-ext z grown A (queues ps) (λ a h. at-old a (in-queues ps a h)),
-        sum-skip z L 247 P (queues ps) (procs-once s .away),
+        sum-skip z L processorList P (queues ps) (procs-once s .away),
       )
 
   idle-q : sum q L (queues ps) ≡ 0
@@ -166,7 +169,7 @@ module _ {m : List ℕ} {ps : List ℕ} {L : Lists} {W : View} {hs : List ℕ} {
 
   pub grow-sep : Sep P grown
   grow-sep = record {
-    procs = at-old 247 (in-procs ps) ∙ upd-same L 247 P;
+    procs = at-old processorList (in-procs ps) ∙ upd-same L processorList P;
     most = λ z. omega (arith, sum-uses z, b .all z);
     waits = λ z. omega (arith, sum-queues z, s .waits z, count-P z);
   }
@@ -179,14 +182,14 @@ module _ {m : List ℕ} {ps : List ℕ} {L : Lists} {W : View} {hs : List ℕ} {
   other-name k h = hit-other k (W .label q % 16) (λ e. omega (arith, ap (bearers (W .label) ps) e, n .unnamed))
 
   abbrev X : View
-  X = withSem W (put1 (W .sem) (q * 32 + 3) 0)
+  X = withSem W (put1 (W .sem) (place q ownSemaphore) 0)
 
   pub grow-facts : Facts P grown X g
   grow-facts =
       let f = b .facts in
-      let wk : (k : ℕ) → k < 54 → grown (132 + 2 * k) ≡ L (132 + 2 * k) = λ k h. at-same (132 + 2 * k) (in-queues ps (132 + 2 * k) (int-queue ps k h))
+      let wk : (k : ℕ) → k < interrupts → grown (headerAfter k) ≡ L (headerAfter k) = λ k h. at-same (headerAfter k) (in-queues ps (headerAfter k) (int-queue ps k h))
       (omega arith) in
-      let wa = at-same 246 (in-asking ps) (omega arith) in
+      let wa = at-same pageQueue (in-asking ps) (omega arith) in
       record {
         sep = grow-sep;
         names = record { differ = λ y h. differ y (which-proc y h); range = λ y h. range y (which-proc y h) };
@@ -201,16 +204,16 @@ module _ {m : List ℕ} {ps : List ℕ} {L : Lists} {W : View} {hs : List ℕ} {
         sems = λ a h. sems a (which-queue (a + 1) h);
         granted = record {
           bare = λ y c.
-              rw (at-same 244 (in-free ps) (omega arith), at-same (320 + W .label y % 16) (in-grant ps (W .label y % 16) (omega arith)) (omega arith))
+              rw (at-same freeList (in-free ps) (omega arith), at-same (320 + W .label y % 16) (in-grant ps (W .label y % 16) (omega arith)) (omega arith))
               (f .granted .bare y (rw wa at c));
           known = λ k h d c.
-              let t = f .granted .known k h d (rw (at-same (320 + k) (in-grant ps k h) (omega arith)) at c) in
+              let t = f .granted .known k h d (rw (at-same (grantFor k) (in-grant ps k h) (omega arith)) at c) in
               omega (arith, named k, other-name k (omega arith));
         };
         mail = λ y w h u v x c. mail y w u v x c (which-proc y h);
         runs = record {
           idle = f .runs .idle;
-          listed = λ d. let t = f .runs .listed d in omega (arith, count-P (W .low 248), hit-other (W .low 248) q (not-q (W .low 248) (omega arith)));
+          listed = λ d. let t = f .runs .listed d in omega (arith, count-P (W .low runningPage), hit-other (W .low runningPage) q (not-q (W .low runningPage) (omega arith)));
           tag = f .runs .tag;
         };
         codes = f .codes;
@@ -238,75 +241,75 @@ module _ {m : List ℕ} {ps : List ℕ} {L : Lists} {W : View} {hs : List ℕ} {
       quiet y z (inl h) = b .facts .seats .quiet y h z
       quiet y z (inr e) = rw e (n .reason)
 
-      own : (y x : ℕ) → 1 ≤ count x (grown (y * 32 + 4)) → (1 ≤ count y ps) ⊎ (y ≡ q) → Waits (W .reason y) (W .note) (grown (y * 32 + 5)) y x
+      own : (y x : ℕ) → 1 ≤ count x (grown (place y ownQueue)) → (1 ≤ count y ps) ⊎ (y ≡ q) → Waits (W .reason y) (W .note) (grown (place y q1)) y x
       own y x c (inl h) =
           let t = proc-page s y h in
-          rw (at-same (y * 32 + 5) (in-q ps y 5 (omega arith) (omega arith) h) (omega arith))
-          (b .facts .own y h x (rw (at-same (y * 32 + 4) (in-own ps y h) (omega arith)) at c))
+          rw (at-same (place y q1) (in-q ps y 5 (omega arith) (omega arith) h) (omega arith))
+          (b .facts .own y h x (rw (at-same (place y ownQueue) (in-own ps y h) (omega arith)) at c))
       own y x c (inr e) = let z = rw (e, new-list 4 (omega arith) (omega arith)) at c in absurd (omega arith)
 
-      sems : (a : ℕ) → (1 ≤ count (a + 1) (queues ps)) ⊎ (a + 1 ≡ q * 32 + 4) → put1 (W .sem) (q * 32 + 3) 0 a ≡ less (stock grown a) (length (grown (a + 1)))
+      sems : (a : ℕ) → (1 ≤ count (a + 1) (queues ps)) ⊎ (a + 1 ≡ place q ownQueue) → put1 (W .sem) (place q ownSemaphore) 0 a ≡ less (stock grown a) (length (grown (a + 1)))
       sems a (inl h) =
           let d : a ≢ q * 32 + 3 = λ e. head-off s q 4 (a + 1) pg (omega arith) out (in-queues ps (a + 1) h) (omega arith) in
-          let d7 : a + 1 ≢ 247 = λ e. omega (arith, ap (λ (y : ℕ). count y (queues ps)) e, procs-once s .away) in
+          let d7 : a + 1 ≢ processorList = λ e. omega (arith, ap (λ (y : ℕ). count y (queues ps)) e, procs-once s .away) in
           rw (
-            put1-other (W .sem) (q * 32 + 3) 0 a d,
+            put1-other (W .sem) (place q ownSemaphore) 0 a d,
             at-same (a + 1) (in-queues ps (a + 1) h) d7,
-            stock-same L grown (at-same 244 (in-free ps)
+            stock-same L grown (at-same freeList (in-free ps)
                 (omega arith)) a,
           )
           (b .facts .sems a h)
       sems a (inr e) =
           let d : a ≡ q * 32 + 3 = omega arith in
-          rw (put1-same (W .sem) (q * 32 + 3) 0 a d, e, new-list 4 (omega arith) (omega arith), stock-else grown a (omega arith))
+          rw (put1-same (W .sem) (place q ownSemaphore) 0 a d, e, new-list 4 (omega arith) (omega arith), stock-else grown a (omega arith))
 
-      mail : (y w : ℕ) → 5 ≤ w → w ≤ 6 → (x : ℕ) → 1 ≤ count x (grown (y * 32 + w)) → (1 ≤ count y ps) ⊎ (y ≡ q) → Message (W .note x) (W .reason x)
+      mail : (y w : ℕ) → 5 ≤ w → w ≤ 6 → (x : ℕ) → 1 ≤ count x (grown (place y w)) → (1 ≤ count y ps) ⊎ (y ≡ q) → Message (W .note x) (W .reason x)
       mail y w u v x c (inl h) =
           let t = proc-page s y h in
-          b .facts .mail y w h u v x (rw (at-same (y * 32 + w) (in-q ps y w u v h) (omega arith)) at c)
+          b .facts .mail y w h u v x (rw (at-same (place y w) (in-q ps y w u v h) (omega arith)) at c)
       mail y w u v x c (inr e) = let z = rw (e, new-list w (omega arith) v) at c in absurd (omega arith)
 
   -- ---- the memory
   abbrev c : ℕ
-  c = last 1 247 ps
+  c = last 1 processorList ps
 
   abbrev m1 : List ℕ
-  m1 = set m (q * 32 + 1) 0
+  m1 = store m q listLink 0
 
   abbrev m2 : List ℕ
   m2 = set m1 c q
 
-  joined : join m 247 1 q ≡ m2
+  joined : join m processorList 1 q ≡ m2
   joined =
-      let h : Head ps 247 = (in-procs ps, grant-low 247 (omega arith)) in
-      let ch = rw (link-procs, s .procs) at (b .mem .holds .rep 247 h) in
-      join-is m 1 247 q ps ch (omega (arith, ap length (s .procs), list-short s 247 (in-procs ps))) (omega (arith, pg)) (off-page q 1 1 ps (omega arith)
+      let h : Head ps processorList = (in-procs ps, grant-low processorList (omega arith)) in
+      let ch = rw (link-procs, s .procs) at (b .mem .holds .rep processorList h) in
+      join-is m 1 processorList q ps ch (omega (arith, ap length (s .procs), list-short s processorList (in-procs ps))) (omega (arith, pg)) (off-page q 1 1 ps (omega arith)
       (omega arith) out)
 
   -- a word that is neither q's word 1, nor word 1 of a processor, nor 247
-  same : (a : ℕ) → a ≢ q * 32 + 1 → a ≢ 247 → ((z : ℕ) → 1 ≤ count z ps → a ≢ z * 32 + 1) → getD m2 a 0 ≡ getD m a 0
-  same a n1 n7 nz = other m1 c q a (last-not 1 247 ps a n7 nz) ∙ other m (q * 32 + 1) 0 a n1
+  same : (a : ℕ) → a ≢ place q listLink → a ≢ processorList → ((z : ℕ) → 1 ≤ count z ps → a ≢ place z 1) → getD m2 a 0 ≡ getD m a 0
+  same a n1 n7 nz = other m1 c q a (last-not 1 processorList ps a n7 nz) ∙ other m (place q listLink) 0 a n1
 
   -- word j of a page, but 1
-  same-word : (y j : ℕ) → Page y → j < 32 → j ≢ 1 → getD m2 (y * 32 + j) 0 ≡ getD m (y * 32 + j) 0
-  same-word y j h l d = same (y * 32 + j) (omega arith) (omega (arith, h)) (λ z i. omega arith)
+  same-word : (y j : ℕ) → Page y → j < 32 → j ≢ 1 → word m2 y j ≡ word m y j
+  same-word y j h l d = same (place y j) (omega arith) (omega (arith, h)) (λ z i. omega arith)
 
-  same-low : (a : ℕ) → a < 7552 → a ≢ 247 → getD m2 a 0 ≡ getD m a 0
+  same-low : (a : ℕ) → a < guardedLast → a ≢ processorList → getD m2 a 0 ≡ getD m a 0
   same-low a l d = same a (omega (arith, pg)) d (λ z i. let t = proc-page s z i in omega arith)
 
-  pub grow-mem : Mem (join m 247 1 q) P grown X
+  pub grow-mem : Mem (join m processorList 1 q) P grown X
   grow-mem = rw joined (record {
     size = simp length-set (b .mem .size);
     holds = record {
       rep = λ a h. rep a h (which a (h .0));
       grant = λ k h.
-          rw (at-same (320 + k) (in-grant ps k h) (omega arith), same-low (320 + k) (omega arith) (omega arith)) (b .mem .holds .grant k h);
+          rw (at-same (grantFor k) (in-grant ps k h) (omega arith), same-low (grantFor k) (omega arith) (omega arith)) (b .mem .holds .grant k h);
     };
     reads = record {
       words = record {
         note = λ y h i.
             let d = hit-or y q in
-            same (y * 32 + 1) (note y i) (omega (arith, h)) (λ z j e. omega (arith, ap (λ (x : ℕ). count x ps) (row y z e), count-P y))
+            same (place y listLink) (note y i) (omega (arith, h)) (λ z j e. omega (arith, ap (λ (x : ℕ). count x ps) (row y z e), count-P y))
             ∙ b .mem .reads .words .note y h (omega (arith, count-P y));
         reason = λ y h. same-word y 2 h (omega arith) (omega arith) ∙ b .mem .reads .words .reason y h;
         label = λ y h. same-word y 7 h (omega arith) (omega arith) ∙ b .mem .reads .words .label y h;
@@ -318,28 +321,28 @@ module _ {m : List ℕ} {ps : List ℕ} {L : Lists} {W : View} {hs : List ℕ} {
     };
   })
     where
-      row : (y z : ℕ) → y * 32 + 1 ≡ z * 32 + 1 → y ≡ z
+      row : (y z : ℕ) → place y listLink ≡ place z 1 → y ≡ z
       row y z e = omega arith
 
-      note : (y : ℕ) → count y P ≡ 0 → y * 32 + 1 ≢ q * 32 + 1
+      note : (y : ℕ) → count y P ≡ 0 → place y listLink ≢ place q listLink
       note y i e = omega (arith, count-P y, one-hit y q (row y q e))
 
       rep : (a : ℕ) → Head P a → Which a → Chain m2 (linkOf a) a (grown a)
       rep a h (old i) =
-          let j = rep-join m (Head ps) L (b .mem .size) (good s) (apart s) (single s) (b .mem .holds .rep) 247 q (in-procs ps, grant-low 247 (omega arith)) pg
+          let j = rep-join m (Head ps) L (b .mem .size) (good s) (apart s) (single s) (b .mem .holds .rep) processorList q (in-procs ps, grant-low processorList (omega arith)) pg
           (λ d hd e. free d (hd .0)) a (i, h .1) in
           rw (at-old a i) (rw (link-procs, s .procs) at j)
       rep a h (fresh w l u e) =
           rw (e, new-list w l u) (same-word q w pg (omega arith) (omega arith) ∙ n .empty w (omega arith) u)
 
-      sem : (a : ℕ) → (1 ≤ count (a + 1) (queues ps)) ⊎ (a + 1 ≡ q * 32 + 4) → getD m2 a 0 ≡ put1 (W .sem) (q * 32 + 3) 0 a
+      sem : (a : ℕ) → (1 ≤ count (a + 1) (queues ps)) ⊎ (a + 1 ≡ place q ownQueue) → getD m2 a 0 ≡ put1 (W .sem) (place q ownSemaphore) 0 a
       sem a (inl h) =
           let d : a ≢ q * 32 + 3 = λ e. head-off s q 4 (a + 1) pg (omega arith) out (in-queues ps (a + 1) h) (omega arith) in
-          rw (put1-other (W .sem) (q * 32 + 3) 0 a d) (seat-same m m2 (λ x i j. same-low x (omega arith) (omega arith))
+          rw (put1-other (W .sem) (place q ownSemaphore) 0 a d) (seat-same m m2 (λ x i j. same-low x (omega arith) (omega arith))
           (λ y u. same-word y 3 (proc-page s y u) (omega arith) (omega arith)) a (seat-of ps a h) ∙ b .mem .reads .sems a h)
       sem a (inr e) =
           let d : a ≡ q * 32 + 3 = omega arith in
-          rw (put1-same (W .sem) (q * 32 + 3) 0 a d, d) (same-word q 3 pg (omega arith) (omega arith) ∙ n .empty 3 (omega arith) (omega arith))
+          rw (put1-same (W .sem) (place q ownSemaphore) 0 a d, d) (same-word q 3 pg (omega arith) (omega arith) ∙ n .empty 3 (omega arith) (omega arith))
 
-  pub grow-base : Base (join m 247 1 q) P grown X hs g
+  pub grow-base : Base (join m processorList 1 q) P grown X hs g
   grow-base = record { mem = grow-mem; facts = grow-facts; all = λ z. omega (arith, sum-uses z, b .all z) }

@@ -9,6 +9,9 @@ use Prim.Native.Nat.{ℕ, _+_, _-_, _*_, _/_, _%_, _≤_, _<_}
 use native.Mathlib.Omega.{arith}
 use lib.ListN.{length, getD, set, length-append}
 use lib.Dec.{eqb}
+use Rattle.model.specs.Map as Map
+use Rattle.model.specs.Map.{freeList, freeSemaphore, grantFor, ownQueue, pageQueue, place, processorList, q1, size}
+use Rattle.model.specs.Bytes.{word}
 use Rattle.model.specs.Mail.{fits}
 use Rattle.model.specs.Page as Page
 use Rattle.model.specs.Map.{less}
@@ -33,10 +36,10 @@ pub hand-base : {m m′ : List ℕ} {ps : List ℕ} {L : Lists} {W : View} {hs :
 hand-base {m} {m′} {ps} {L} {W} q h o b = record {
   mem = hand-mem o (hand-page b q h) (b .facts .sep) (hand-out b q h) (hand-free b q h) (b .mem);
   facts = facts-off q (hand-out b q h) (λ a i n. hand-free b q h a (in-uses ps a i)) (record {
-    note = λ z n. put1-other (W .note) q (getD m′ (q * 32 + 1) 0) z n;
-    reason = λ z n. put1-other (W .reason) q (getD m′ (q * 32 + 2) 0) z n;
-    label = λ z n. put1-other (W .label) q (getD m′ (q * 32 + 7) 0) z n;
-    state = λ z n. put1-other (W .state) q (getD m′ (q * 32 + 12) 0) z n;
+    note = λ z n. put1-other (W .note) q (word m′ q Map.note) z n;
+    reason = λ z n. put1-other (W .reason) q (word m′ q size) z n;
+    label = λ z n. put1-other (W .label) q (word m′ q Map.label) z n;
+    state = λ z n. put1-other (W .state) q (word m′ q Map.state) z n;
     sem = refl;
     low = refl;
     code = refl;
@@ -47,110 +50,110 @@ hand-base {m} {m′} {ps} {L} {W} q h o b = record {
 }
 
 -- ---- the free list
-module _ {m : List ℕ} {ps : List ℕ} {L : Lists} {W : View} {hs : List ℕ} {g : ℕ} (q : ℕ) (fs : List ℕ) (b : Base m ps L W hs g) (e : L 244 ≡ q ∷ fs) where
+module _ {m : List ℕ} {ps : List ℕ} {L : Lists} {W : View} {hs : List ℕ} {g : ℕ} (q : ℕ) (fs : List ℕ) (b : Base m ps L W hs g) (e : L freeList ≡ q ∷ fs) where
   s : Sep ps L
   s = b .facts .sep
 
   f : Facts ps L W g
   f = b .facts
 
-  less-one : (z : ℕ) → sum z (upd L 244 fs) (uses ps) + hit (eqb z q) ≡ sum z L (uses ps)
-  less-one z = omega (arith, uses-upd s 244 (free-once s) (omega arith) fs z, ap (count z) e)
+  less-one : (z : ℕ) → sum z (upd L freeList fs) (uses ps) + hit (eqb z q) ≡ sum z L (uses ps)
+  less-one z = omega (arith, uses-upd s freeList (free-once s) (omega arith) fs z, ap (count z) e)
 
-  nobody : (p : ℕ) → 1 ≤ count p (L 246) → ⊥
+  nobody : (p : ℕ) → 1 ≤ count p (L pageQueue) → ⊥
   nobody p h = let t = f .granted .bare p h in omega (arith, ap length e)
 
   empty : (xs : List ℕ) → ((p : ℕ) → 1 ≤ count p xs → ⊥) → length xs ≡ 0
   empty [] h = refl
   empty (x ∷ xs) h = absurd (h x (omega (arith, hit-self x)))
 
-  pub take-free : Base (takeFree m q) ps (upd L 244 fs) (withSem W (put1 (W .sem) 245 ((W .sem 245 + 255) % 256))) (q ∷ hs) g
+  pub take-free : Base (takeFree m q) ps (upd L freeList fs) (withSem W (put1 (W .sem) freeSemaphore ((W .sem 245 + 255) % 256))) (q ∷ hs) g
   unfolding Page.takeFree
   take-free =
       let v = (W .sem 245 + 255) % 256 in
-      let o : (c : ℕ) → c ≢ 244 → upd L 244 fs c ≡ L c = λ c n. upd-other L 244 c fs n in
-      let x = leave-mem s (sem-mem s (b .mem) 245 v (page-sem ps)) 244 (in-free ps, grant-low 244 (omega arith)) (omega arith) q [] fs e in
-      rw (b .mem .reads .sems 245 (page-sem ps)) (record {
+      let o : (c : ℕ) → c ≢ freeList → upd L freeList fs c ≡ L c = λ c n. upd-other L freeList c fs n in
+      let x = leave-mem s (sem-mem s (b .mem) freeSemaphore v (page-sem ps)) freeList (in-free ps, grant-low freeList (omega arith)) (omega arith) q [] fs e in
+      rw (b .mem .reads .sems freeSemaphore (page-sem ps)) (record {
         mem = x;
-        facts = facts-uses (upd L 244 fs) (put1 (W .sem) 245 v) (record {
-          sep = uses-sep s 244 (free-once s) (omega arith) fs (λ z. omega (arith, less-one z, s .most z));
-          same = queue-same s 244 (free-once s) (omega arith) fs;
-          sems = λ a h. sems a h (hit-or a 245);
+        facts = facts-uses (upd L freeList fs) (put1 (W .sem) freeSemaphore v) (record {
+          sep = uses-sep s freeList (free-once s) (omega arith) fs (λ z. omega (arith, less-one z, s .most z));
+          same = queue-same s freeList (free-once s) (omega arith) fs;
+          sems = λ a h. sems a h (hit-or a freeSemaphore);
           bare = λ p h. absurd (nobody p h);
-          known = λ k h. rw (o (320 + k) (omega arith)) (f .granted .known k h);
-          mail = λ p w h u v. rw (o (p * 32 + w) (let t = proc-page s p h in omega arith)) (f .mail p w h u v);
-          none = λ p y h i. rw (o (p * 32 + 5) (let t = proc-page s p h in omega arith)) (f .own p h y i .none);
+          known = λ k h. rw (o (grantFor k) (omega arith)) (f .granted .known k h);
+          mail = λ p w h u v. rw (o (place p w) (let t = proc-page s p h in omega arith)) (f .mail p w h u v);
+          none = λ p y h i. rw (o (place p q1) (let t = proc-page s p h in omega arith)) (f .own p h y i .none);
         }) f;
         all = λ z. omega (arith, less-one z, b .all z);
       })
     where
-      sems : (a : ℕ) → 1 ≤ count (a + 1) (queues ps) → (a ≡ 245) ⊎ (a ≢ 245)
-          → put1 (W .sem) 245 ((W .sem 245 + 255) % 256) a ≡ less (stock (upd L 244 fs) a) (length (L (a + 1)))
+      sems : (a : ℕ) → 1 ≤ count (a + 1) (queues ps) → (a ≡ freeSemaphore) ⊎ (a ≢ freeSemaphore)
+          → put1 (W .sem) freeSemaphore ((W .sem 245 + 255) % 256) a ≡ less (stock (upd L freeList fs) a) (length (L (a + 1)))
       sems a h (inl d) =
-          rw (put1-same (W .sem) 245 ((W .sem 245 + 255) % 256) a d, d, stock-page (upd L 244 fs), upd-same, f .sems 245 (page-sem ps), stock-page L)
-          (omega (arith, ap length e, empty (L 246) nobody, list-short s 244 (in-free ps)))
+          rw (put1-same (W .sem) freeSemaphore ((W .sem 245 + 255) % 256) a d, d, stock-page (upd L freeList fs), upd-same, f .sems freeSemaphore (page-sem ps), stock-page L)
+          (omega (arith, ap length e, empty (L pageQueue) nobody, list-short s freeList (in-free ps)))
       sems a h (inr n) =
-          rw (put1-other (W .sem) 245 ((W .sem 245 + 255) % 256) a n, stock-else (upd L 244 fs) a n) (f .sems a h
+          rw (put1-other (W .sem) freeSemaphore ((W .sem 245 + 255) % 256) a n, stock-else (upd L freeList fs) a n) (f .sems a h
           ∙ ap (λ (x : ℕ). less x (length (L (a + 1)))) (stock-else L a n))
 
 module _ {m : List ℕ} {ps : List ℕ} {L : Lists} {W : View} {hs : List ℕ} {g q : ℕ} (b : Base m ps L W (q ∷ hs) g) where
   pub in-hand : 1 ≤ count q (q ∷ hs)
   in-hand = omega (arith, hit-self q)
 
-  pub hand-new : (c : ℕ) → Head ps c → c ≢ 247 → count q (L c) ≡ 0
+  pub hand-new : (c : ℕ) → Head ps c → c ≢ processorList → count q (L c) ≡ 0
   hand-new c h n = hand-free b q in-hand c (h .0)
 
-  pub give-free : L 246 ≡ [] → Base (freePage m q) ps (upd L 244 (L 244 ++ q ∷ [])) (withSem W (put1 (W .sem) 245 ((W .sem 245 + 1) % 256))) hs g
+  pub give-free : L pageQueue ≡ [] → Base (freePage m q) ps (upd L freeList (L 244 ++ q ∷ [])) (withSem W (put1 (W .sem) freeSemaphore ((W .sem 245 + 1) % 256))) hs g
   unfolding Page.freePage
   give-free none =
       let sp = b .facts .sep in
       let fc = b .facts in
       let v = (W .sem 245 + 1) % 256 in
       let K = L 244 ++ q ∷ [] in
-      let o : (c : ℕ) → c ≢ 244 → upd L 244 (L 244 ++ q ∷ []) c ≡ L c = λ c n. upd-other L 244 c (L 244 ++ q ∷ []) n in
-      let more : (z : ℕ) → sum z (upd L 244 (L 244 ++ q ∷ [])) (uses ps) ≡ sum z L (uses ps) + hit (eqb z q) = λ z.
-      omega (arith, uses-upd sp 244 (free-once sp) (omega arith) (L 244 ++ q ∷ []) z, count-append z (L 244) (q ∷ [])) in
-      let x = join-mem sp (sem-mem sp (b .mem) 245 v (page-sem ps)) 244 (in-free ps, grant-low 244 (omega arith)) (omega arith) q (hand-page b q in-hand)
+      let o : (c : ℕ) → c ≢ freeList → upd L freeList (L 244 ++ q ∷ []) c ≡ L c = λ c n. upd-other L freeList c (L 244 ++ q ∷ []) n in
+      let more : (z : ℕ) → sum z (upd L freeList (L 244 ++ q ∷ [])) (uses ps) ≡ sum z L (uses ps) + hit (eqb z q) = λ z.
+      omega (arith, uses-upd sp freeList (free-once sp) (omega arith) (L 244 ++ q ∷ []) z, count-append z (L freeList) (q ∷ [])) in
+      let x = join-mem sp (sem-mem sp (b .mem) freeSemaphore v (page-sem ps)) freeList (in-free ps, grant-low freeList (omega arith)) (omega arith) q (hand-page b q in-hand)
       hand-new in
-      rw (b .mem .reads .sems 245 (page-sem ps)) (record {
+      rw (b .mem .reads .sems freeSemaphore (page-sem ps)) (record {
         mem = x;
-        facts = facts-uses (upd L 244 K) (put1 (W .sem) 245 v) (record {
-          sep = uses-sep sp 244 (free-once sp) (omega arith) K (λ z. omega (arith, more z, b .all z));
-          same = queue-same sp 244 (free-once sp) (omega arith) K;
-          sems = λ a h. sems a h (hit-or a 245);
+        facts = facts-uses (upd L freeList K) (put1 (W .sem) freeSemaphore v) (record {
+          sep = uses-sep sp freeList (free-once sp) (omega arith) K (λ z. omega (arith, more z, b .all z));
+          same = queue-same sp freeList (free-once sp) (omega arith) K;
+          sems = λ a h. sems a h (hit-or a freeSemaphore);
           bare = λ p h. absurd (omega (arith, ap (count p) none));
-          known = λ k h. rw (o (320 + k) (omega arith)) (fc .granted .known k h);
-          mail = λ p w h u v. rw (o (p * 32 + w) (let t = proc-page sp p h in omega arith)) (fc .mail p w h u v);
-          none = λ p y h i. rw (o (p * 32 + 5) (let t = proc-page sp p h in omega arith)) (fc .own p h y i .none);
+          known = λ k h. rw (o (grantFor k) (omega arith)) (fc .granted .known k h);
+          mail = λ p w h u v. rw (o (place p w) (let t = proc-page sp p h in omega arith)) (fc .mail p w h u v);
+          none = λ p y h i. rw (o (place p q1) (let t = proc-page sp p h in omega arith)) (fc .own p h y i .none);
         }) fc;
         all = λ z. omega (arith, more z, b .all z);
       })
     where
-      sems : (a : ℕ) → 1 ≤ count (a + 1) (queues ps) → (a ≡ 245) ⊎ (a ≢ 245)
-          → put1 (W .sem) 245 ((W .sem 245 + 1) % 256) a ≡ less (stock (upd L 244 (L 244 ++ q ∷ [])) a) (length (L (a + 1)))
+      sems : (a : ℕ) → 1 ≤ count (a + 1) (queues ps) → (a ≡ freeSemaphore) ⊎ (a ≢ freeSemaphore)
+          → put1 (W .sem) freeSemaphore ((W .sem 245 + 1) % 256) a ≡ less (stock (upd L freeList (L 244 ++ q ∷ [])) a) (length (L (a + 1)))
       sems a h (inl d) =
           rw (
-            put1-same (W .sem) 245 ((W .sem 245 + 1) % 256) a d,
+            put1-same (W .sem) freeSemaphore ((W .sem 245 + 1) % 256) a d,
             d,
-            stock-page (upd L 244 (L 244 ++ q ∷ [])),
+            stock-page (upd L freeList (L 244 ++ q ∷ [])),
             upd-same,
-            b .facts .sems 245 (page-sem ps),
+            b .facts .sems freeSemaphore (page-sem ps),
             stock-page L,
           )
-          (omega (arith, ap length none, length-append (L 244) (q ∷ []), list-short (b .facts .sep) 244 (in-free ps)))
+          (omega (arith, ap length none, length-append (L freeList) (q ∷ []), list-short (b .facts .sep) freeList (in-free ps)))
       sems a h (inr n) =
-          rw (put1-other (W .sem) 245 ((W .sem 245 + 1) % 256) a n, stock-else (upd L 244 (L 244 ++ q ∷ [])) a n)
+          rw (put1-other (W .sem) freeSemaphore ((W .sem 245 + 1) % 256) a n, stock-else (upd L freeList (L 244 ++ q ∷ [])) a n)
           (b .facts .sems a h ∙ ap (λ (x : ℕ). less x (length (L (a + 1)))) (stock-else L a n))
 
 -- ---- to the end of Q1 or Q2: the sentences, and the model's step
 module _ {ps : List ℕ} {L : Lists} {W : View} {g : ℕ} (q : ℕ) (fc : Facts ps L W g) (room : (z : ℕ) → sum z L (uses ps) + hit (eqb z q) ≤ one z)
     (p w : ℕ) (h : 1 ≤ count p ps) (u : 5 ≤ w) (v : w ≤ 6) (letter : Message (W .note q) (W .reason q))
-    (none : (x : ℕ) → 1 ≤ count x (L (p * 32 + 4)) → w ≡ 5 → fits (W .reason p / 16) (W .reason p % 16) (W .note q) ≡ false) where
+    (none : (x : ℕ) → 1 ≤ count x (L (place p ownQueue)) → w ≡ 5 → fits (W .reason p / 16) (W .reason p % 16) (W .note q) ≡ false) where
   sp : Sep ps L
   sp = fc .sep
 
   abbrev a : ℕ
-  a = p * 32 + w
+  a = place p w
 
   abbrev K : List ℕ
   K = L a ++ q ∷ []
@@ -161,23 +164,23 @@ module _ {ps : List ℕ} {L : Lists} {W : View} {g : ℕ} (q : ℕ) (fc : Facts 
   pub more-mail : (z : ℕ) → sum z (upd L a K) (uses ps) ≡ sum z L (uses ps) + hit (eqb z q)
   more-mail z = omega (arith, uses-upd sp a (q-once sp p w u v h) (omega (arith, low)) K z, count-append z (L a) (q ∷ []))
 
-  mails : (y n : ℕ) → 1 ≤ count y ps → 5 ≤ n → n ≤ 6 → (x : ℕ) → 1 ≤ count x (upd L a K (y * 32 + n))
-      → (y * 32 + n ≡ a) ⊎ (y * 32 + n ≢ a) → (x ≡ q) ⊎ (x ≢ q) → Message (W .note x) (W .reason x)
+  mails : (y n : ℕ) → 1 ≤ count y ps → 5 ≤ n → n ≤ 6 → (x : ℕ) → 1 ≤ count x (upd L a K (place y n))
+      → (place y n ≡ a) ⊎ (place y n ≢ a) → (x ≡ q) ⊎ (x ≢ q) → Message (W .note x) (W .reason x)
   mails y n j l r x c d (inl e) = rw e letter
   mails y n j l r x c (inl d) (inr e) =
       let k = rw (d, upd-same) at c in
       fc .mail p w h u v x (omega (arith, count-append x (L a) (q ∷ []), hit-other x q e))
-  mails y n j l r x c (inr d) (inr e) = fc .mail y n j l r x (rw (upd-other L a (y * 32 + n) K d) at c)
+  mails y n j l r x c (inr d) (inr e) = fc .mail y n j l r x (rw (upd-other L a (place y n) K d) at c)
 
-  nones : (y x : ℕ) → 1 ≤ count y ps → 1 ≤ count x (L (y * 32 + 4)) → (z : ℕ) → 1 ≤ count z (upd L a K (y * 32 + 5))
-      → (y * 32 + 5 ≡ a) ⊎ (y * 32 + 5 ≢ a) → (z ≡ q) ⊎ (z ≢ q) → fits (W .reason y / 16) (W .reason y % 16) (W .note z) ≡ false
+  nones : (y x : ℕ) → 1 ≤ count y ps → 1 ≤ count x (L (place y ownQueue)) → (z : ℕ) → 1 ≤ count z (upd L a K (place y q1))
+      → (place y q1 ≡ a) ⊎ (place y q1 ≢ a) → (z ≡ q) ⊎ (z ≢ q) → fits (W .reason y / 16) (W .reason y % 16) (W .note z) ≡ false
   nones y x j k z c (inl d) (inl e) =
       let t : y ≡ p = omega arith in
       rw (e, t) (none x (rw t at k) (omega arith))
   nones y x j k z c (inl d) (inr e) =
       let l = rw (d, upd-same) at c in
       fc .own y j x k .none z (rw d (omega (arith, count-append z (L a) (q ∷ []), hit-other z q e)))
-  nones y x j k z c (inr d) e = fc .own y j x k .none z (rw (upd-other L a (y * 32 + 5) K d) at c)
+  nones y x j k z c (inr d) e = fc .own y j x k .none z (rw (upd-other L a (place y q1) K d) at c)
 
   pub facts-mail : Facts ps (upd L a K) W g
   facts-mail =
@@ -186,35 +189,35 @@ module _ {ps : List ℕ} {L : Lists} {W : View} {g : ℕ} (q : ℕ) (fc : Facts 
       facts-uses (upd L a K) (W .sem) (record {
         sep = uses-sep sp a i (omega (arith, low)) K (λ z. omega (arith, more-mail z, room z));
         same = queue-same sp a i (omega (arith, low)) K;
-        sems = λ c j. rw (stock-same L (upd L a K) (o 244 (omega (arith, low))) c) (fc .sems c j);
-        bare = λ y j. rw (o 244 (omega (arith, low)), o (320 + W .label y % 16) (omega (arith, low))) (fc .granted .bare y j);
-        known = λ k j. rw (o (320 + k) (omega (arith, low))) (fc .granted .known k j);
-        mail = λ y n j l r x c. mails y n j l r x c (hit-or (y * 32 + n) a) (hit-or x q);
-        none = λ y x j k z c. nones y x j k z c (hit-or (y * 32 + 5) a) (hit-or z q);
+        sems = λ c j. rw (stock-same L (upd L a K) (o freeList (omega (arith, low))) c) (fc .sems c j);
+        bare = λ y j. rw (o freeList (omega (arith, low)), o (320 + W .label y % 16) (omega (arith, low))) (fc .granted .bare y j);
+        known = λ k j. rw (o (grantFor k) (omega (arith, low))) (fc .granted .known k j);
+        mail = λ y n j l r x c. mails y n j l r x c (hit-or (place y n) a) (hit-or x q);
+        none = λ y x j k z c. nones y x j k z c (hit-or (place y q1) a) (hit-or z q);
       }) fc
 
 module _ {m : List ℕ} {ps : List ℕ} {L : Lists} {W : View} {hs : List ℕ} {g q : ℕ} (b : Base m ps L W (q ∷ hs) g) where
   pub room : (z : ℕ) → sum z L (uses ps) + hit (eqb z q) ≤ one z
   room z = omega (arith, b .all z)
 
-  pub mail-sep : (p w : ℕ) → 1 ≤ count p ps → 5 ≤ w → w ≤ 6 → Sep ps (upd L (p * 32 + w) (L (p * 32 + w) ++ q ∷ []))
+  pub mail-sep : (p w : ℕ) → 1 ≤ count p ps → 5 ≤ w → w ≤ 6 → Sep ps (upd L (place p w) (L (place p w) ++ q ∷ []))
   mail-sep p w h u v =
       let sp = b .facts .sep in
       let t = proc-page sp p h in
       let i = q-once sp p w u v h in
-      uses-sep sp (p * 32 + w) i (omega arith) (L (p * 32 + w) ++ q ∷ []) (λ z.
-      omega (arith, uses-upd sp (p * 32 + w) i (omega arith) (L (p * 32 + w) ++ q ∷ []) z, count-append z (L (p * 32 + w)) (q ∷ []), room z))
+      uses-sep sp (place p w) i (omega arith) (L (place p w) ++ q ∷ []) (λ z.
+      omega (arith, uses-upd sp (place p w) i (omega arith) (L (place p w) ++ q ∷ []) z, count-append z (L (place p w)) (q ∷ []), room z))
 
   -- the memory with page q at the end of word w of page p
-  pub mail-mem : (p w : ℕ) → 1 ≤ count p ps → 5 ≤ w → w ≤ 6 → Mem (join m (p * 32 + w) 0 q) ps (upd L (p * 32 + w) (L (p * 32 + w) ++ q ∷ [])) W
+  pub mail-mem : (p w : ℕ) → 1 ≤ count p ps → 5 ≤ w → w ≤ 6 → Mem (join m (place p w) 0 q) ps (upd L (place p w) (L (place p w) ++ q ∷ [])) W
   mail-mem p w h u v =
       let sp = b .facts .sep in
       let t = proc-page sp p h in
-      join-mem sp (b .mem) (p * 32 + w) (in-q ps p w u v h, grant-high (p * 32 + w) (omega arith)) (omega arith) q (hand-page b q (in-hand b)) (hand-new b)
+      join-mem sp (b .mem) (place p w) (in-q ps p w u v h, grant-high (place p w) (omega arith)) (omega arith) q (hand-page b q (in-hand b)) (hand-new b)
 
   pub give-mail : (p w : ℕ) → 1 ≤ count p ps → 5 ≤ w → w ≤ 6 → Message (W .note q) (W .reason q)
-      → ((x : ℕ) → 1 ≤ count x (L (p * 32 + 4)) → w ≡ 5 → fits (W .reason p / 16) (W .reason p % 16) (W .note q) ≡ false)
-      → Base (join m (p * 32 + w) 0 q) ps (upd L (p * 32 + w) (L (p * 32 + w) ++ q ∷ [])) W hs g
+      → ((x : ℕ) → 1 ≤ count x (L (place p ownQueue)) → w ≡ 5 → fits (W .reason p / 16) (W .reason p % 16) (W .note q) ≡ false)
+      → Base (join m (place p w) 0 q) ps (upd L (place p w) (L (place p w) ++ q ∷ [])) W hs g
   give-mail p w h u v letter none = record {
     mem = mail-mem p w h u v;
     facts = facts-mail q (b .facts) room p w h u v letter none;
@@ -226,11 +229,11 @@ module _ {m : List ℕ} {ps : List ℕ} {L : Lists} {W : View} {hs : List ℕ} {
   sb : Sep ps L
   sb = b .facts .sep
 
-  pub take-mail : (p w q : ℕ) (xs ys : List ℕ) → 1 ≤ count p ps → 5 ≤ w → w ≤ 6 → L (p * 32 + w) ≡ xs ++ q ∷ ys
-      → Base (leave m (p * 32 + w) 0 q) ps (upd L (p * 32 + w) (xs ++ ys)) W (q ∷ hs) g
+  pub take-mail : (p w q : ℕ) (xs ys : List ℕ) → 1 ≤ count p ps → 5 ≤ w → w ≤ 6 → L (place p w) ≡ xs ++ q ∷ ys
+      → Base (leave m (place p w) 0 q) ps (upd L (place p w) (xs ++ ys)) W (q ∷ hs) g
   take-mail p w q xs ys h u v e =
       let t = proc-page sb p h in
-      let a = p * 32 + w in
+      let a = place p w in
       let i = q-once sb p w u v h in
       record {
         mem = leave-mem sb (b .mem) a (in-q ps p w u v h, grant-high a (omega arith)) (omega arith) q xs ys e;
@@ -238,7 +241,7 @@ module _ {m : List ℕ} {ps : List ℕ} {L : Lists} {W : View} {hs : List ℕ} {
             (rw e (omega (arith, length-append xs ys, length-append xs (q ∷ ys)))) (b .facts);
         all = λ z. omega (
           arith,
-          uses-upd sb (p * 32 + w) i (omega arith) (xs ++ ys) z,
+          uses-upd sb (place p w) i (omega arith) (xs ++ ys) z,
           ap (count z) e,
           count-append z xs ys,
           count-append z xs (q ∷ ys),
@@ -246,9 +249,9 @@ module _ {m : List ℕ} {ps : List ℕ} {L : Lists} {W : View} {hs : List ℕ} {
         );
       }
 
-  pub take-grant : (k q : ℕ) → k < 32 → L (320 + k) ≡ q ∷ [] → Base (set m (320 + k) 0) ps (upd L (320 + k) []) W (q ∷ hs) g
+  pub take-grant : (k q : ℕ) → k < 32 → L (grantFor k) ≡ q ∷ [] → Base (set m (grantFor k) 0) ps (upd L (grantFor k) []) W (q ∷ hs) g
   take-grant k q h e = record {
     mem = grant-mem k 0 h sb (b .mem);
-    facts = facts-less (320 + k) [] (grant-once sb k h) (omega arith) (omega arith) (λ z. omega arith) (omega arith) (b .facts);
-    all = λ z. omega (arith, uses-upd sb (320 + k) (grant-once sb k h) (omega arith) [] z, ap (count z) e, b .all z);
+    facts = facts-less (grantFor k) [] (grant-once sb k h) (omega arith) (omega arith) (λ z. omega arith) (omega arith) (b .facts);
+    all = λ z. omega (arith, uses-upd sb (grantFor k) (grant-once sb k h) (omega arith) [] z, ap (count z) e, b .all z);
   }

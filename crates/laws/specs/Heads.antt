@@ -9,6 +9,8 @@ use native.Mathlib.Omega.{arith}
 use lib.ListN.{length}
 use lib.Dec.{eqb, leb, ltb}
 use borrow.Author.Tests.{leb-true, ltb-true, le-leb, lt-ltb}
+use Rattle.model.specs.Map.{firstControl, freeList, freeSemaphore, headerAfter, interrupts, ownQueue, ownSemaphore, pageQueue, place, processorList, q1, q2}
+use Rattle.model.specs.Map.{semaphoreAfter}
 use Rattle.model.specs.Lists.{hit, count, Lists, sum, range, mails, owns, uses, queues}
 use Rattle.laws.specs.Count.{hit-le, hit-self, hit-other, hit-or, count-append, count-ne, one-hit, zero-or}
 use Rattle.laws.specs.Chain.{Page}
@@ -16,24 +18,24 @@ use Rattle.laws.specs.Queues.{upd, upd-same, upd-other}
 
 -- 1 for a control page
 pub one : ℕ → ℕ
-one z = hit (leb 236 z && ltb z 256)
+one z = hit (leb firstControl z && ltb z 256)
 
 pub one-page : (z : ℕ) → 1 ≤ one z → Page z
 unfolding one
-one-page z h = go (leb 236 z) (ltb z 256) refl refl h
+one-page z h = go (leb firstControl z) (ltb z 256) refl refl h
   where
-    go : (s t : Bool) → leb 236 z ≡ s → ltb z 256 ≡ t → 1 ≤ hit (s && t) → Page z
-    go true true e f h = (leb-true 236 z e, ltb-true z 256 f)
+    go : (s t : Bool) → leb firstControl z ≡ s → ltb z 256 ≡ t → 1 ≤ hit (s && t) → Page z
+    go true true e f h = (leb-true firstControl z e, ltb-true z 256 f)
     go true false e f h = absurd (omega arith)
     go false t e f h = absurd (omega arith)
 
 pub page-one : (z : ℕ) → Page z → one z ≡ 1
 unfolding one
-page-one z p = rw (le-leb 236 z (p .0), lt-ltb z 256 (p .1))
+page-one z p = rw (le-leb firstControl z (p .0), lt-ltb z 256 (p .1))
 
 pub one-le : (z : ℕ) → one z ≤ 1
 unfolding one
-one-le z = hit-le (leb 236 z && ltb z 256)
+one-le z = hit-le (leb firstControl z && ltb z 256)
 
 -- ---- sums
 pub sum-one : (z : ℕ) (L : Lists) (a : ℕ) (hs : List ℕ) → 1 ≤ count a hs → count z (L a) ≤ sum z L hs
@@ -183,22 +185,22 @@ range-none2 n a z h = go (zero-or (count z (range n 2 a)))
     go (inr i) = let r = range2-of n a z i in absurd (omega (arith, r .1, r .2))
 
 -- words 5 and 6, and word 4
-pub mails-at : (p w : ℕ) (ps : List ℕ) → 5 ≤ w → w ≤ 6 → count (p * 32 + w) (mails ps) ≡ count p ps
+pub mails-at : (p w : ℕ) (ps : List ℕ) → 5 ≤ w → w ≤ 6 → count (place p w) (mails ps) ≡ count p ps
 mails-at p w [] h i = refl
 mails-at p w (x ∷ ps) h i = go (mails-at p w ps h i) (hit-or p x) (hit-or w 5)
   where
-    go : count (p * 32 + w) (mails ps) ≡ count p ps → (p ≡ x) ⊎ (p ≢ x) → (w ≡ 5) ⊎ (w ≢ 5) → count (p * 32 + w) (mails (x ∷ ps)) ≡ count p (x ∷ ps)
-    go ih (inl e) (inl f) = omega (arith, ih, one-hit p x e, one-hit (p * 32 + w) (x * 32 + 5) (omega arith), hit-other (p * 32 + w) (x * 32 + 6) (omega arith))
-    go ih (inl e) (inr f) = omega (arith, ih, one-hit p x e, one-hit (p * 32 + w) (x * 32 + 6) (omega arith), hit-other (p * 32 + w) (x * 32 + 5) (omega arith))
-    go ih (inr e) f = omega (arith, ih, hit-other p x e, hit-other (p * 32 + w) (x * 32 + 5) (omega arith), hit-other (p * 32 + w) (x * 32 + 6) (omega arith))
+    go : count (place p w) (mails ps) ≡ count p ps → (p ≡ x) ⊎ (p ≢ x) → (w ≡ 5) ⊎ (w ≢ 5) → count (place p w) (mails (x ∷ ps)) ≡ count p (x ∷ ps)
+    go ih (inl e) (inl f) = omega (arith, ih, one-hit p x e, one-hit (place p w) (place x q1) (omega arith), hit-other (place p w) (place x q2) (omega arith))
+    go ih (inl e) (inr f) = omega (arith, ih, one-hit p x e, one-hit (place p w) (place x q2) (omega arith), hit-other (place p w) (place x q1) (omega arith))
+    go ih (inr e) f = omega (arith, ih, hit-other p x e, hit-other (place p w) (place x q1) (omega arith), hit-other (place p w) (place x q2) (omega arith))
 
-pub owns-at : (p : ℕ) (ps : List ℕ) → count (p * 32 + 4) (owns ps) ≡ count p ps
+pub owns-at : (p : ℕ) (ps : List ℕ) → count (place p ownQueue) (owns ps) ≡ count p ps
 owns-at p [] = refl
 owns-at p (x ∷ ps) = go (owns-at p ps) (hit-or p x)
   where
-    go : count (p * 32 + 4) (owns ps) ≡ count p ps → (p ≡ x) ⊎ (p ≢ x) → count (p * 32 + 4) (owns (x ∷ ps)) ≡ count p (x ∷ ps)
-    go ih (inl e) = omega (arith, ih, one-hit p x e, one-hit (p * 32 + 4) (x * 32 + 4) (omega arith))
-    go ih (inr e) = omega (arith, ih, hit-other p x e, hit-other (p * 32 + 4) (x * 32 + 4) (omega arith))
+    go : count (place p ownQueue) (owns ps) ≡ count p ps → (p ≡ x) ⊎ (p ≢ x) → count (place p ownQueue) (owns (x ∷ ps)) ≡ count p (x ∷ ps)
+    go ih (inl e) = omega (arith, ih, one-hit p x e, one-hit (place p ownQueue) (place x ownQueue) (omega arith))
+    go ih (inr e) = omega (arith, ih, hit-other p x e, hit-other (place p ownQueue) (place x ownQueue) (omega arith))
 
 -- word w of page p, which is a processor's
 pub record Slot (ps : List ℕ) (lo hi a : ℕ) : Type 0 where
@@ -207,56 +209,56 @@ pub record Slot (ps : List ℕ) (lo hi a : ℕ) : Type 0 where
   pub word : ℕ
   pub low : lo ≤ word
   pub high : word ≤ hi
-  pub is : a ≡ page * 32 + word
+  pub is : a ≡ place page word
 
 pub mails-of : (a : ℕ) (ps : List ℕ) → 1 ≤ count a (mails ps) → Slot ps 5 6 a
 mails-of a [] h = absurd (omega arith)
-mails-of a (x ∷ ps) h = go (hit-or a (x * 32 + 5)) (hit-or a (x * 32 + 6)) (mails-of a ps)
+mails-of a (x ∷ ps) h = go (hit-or a (place x q1)) (hit-or a (place x q2)) (mails-of a ps)
   where
-    go : (a ≡ x * 32 + 5) ⊎ (a ≢ x * 32 + 5) → (a ≡ x * 32 + 6) ⊎ (a ≢ x * 32 + 6) → (1 ≤ count a (mails ps) → Slot ps 5 6 a) → Slot (x ∷ ps) 5 6 a
+    go : (a ≡ place x q1) ⊎ (a ≢ place x q1) → (a ≡ place x q2) ⊎ (a ≢ place x q2) → (1 ≤ count a (mails ps) → Slot ps 5 6 a) → Slot (x ∷ ps) 5 6 a
     go (inl e) f ih = record { page = x; proc = omega (arith, hit-self x); word = 5; low = omega arith; high = omega arith; is = e }
     go (inr e) (inl f) ih = record { page = x; proc = omega (arith, hit-self x); word = 6; low = omega arith; high = omega arith; is = f }
     go (inr e) (inr f) ih =
-        let r = ih (omega (arith, hit-other a (x * 32 + 5) e, hit-other a (x * 32 + 6) f)) in
+        let r = ih (omega (arith, hit-other a (place x q1) e, hit-other a (place x q2) f)) in
         record { page = r .page; proc = omega (arith, r .proc); word = r .word; low = r .low; high = r .high; is = r .is }
 
 pub owns-of : (a : ℕ) (ps : List ℕ) → 1 ≤ count a (owns ps) → Slot ps 4 4 a
 owns-of a [] h = absurd (omega arith)
-owns-of a (x ∷ ps) h = go (hit-or a (x * 32 + 4)) (owns-of a ps)
+owns-of a (x ∷ ps) h = go (hit-or a (place x ownQueue)) (owns-of a ps)
   where
-    go : (a ≡ x * 32 + 4) ⊎ (a ≢ x * 32 + 4) → (1 ≤ count a (owns ps) → Slot ps 4 4 a) → Slot (x ∷ ps) 4 4 a
+    go : (a ≡ place x ownQueue) ⊎ (a ≢ place x ownQueue) → (1 ≤ count a (owns ps) → Slot ps 4 4 a) → Slot (x ∷ ps) 4 4 a
     go (inl e) ih = record { page = x; proc = omega (arith, hit-self x); word = 4; low = omega arith; high = omega arith; is = e }
     go (inr e) ih =
-        let r = ih (omega (arith, hit-other a (x * 32 + 4) e)) in
+        let r = ih (omega (arith, hit-other a (place x ownQueue) e)) in
         record { page = r .page; proc = omega (arith, r .proc); word = r .word; low = r .low; high = r .high; is = r .is }
 
 -- a head is an interrupt's, the free list's, the page queue's or the processor list's, a word of page 10, or word 4, 5 or 6 of a processor's page
 pub data Place (ps : List ℕ) (a : ℕ) : Type 0 where
-  int : (k : ℕ) → k < 54 → a ≡ 132 + 2 * k → Place ps a
-  three : 244 ≤ a → a ≤ 247 → a ≢ 245 → Place ps a
+  int : (k : ℕ) → k < interrupts → a ≡ headerAfter k → Place ps a
+  three : freeList ≤ a → a ≤ processorList → a ≢ freeSemaphore → Place ps a
   grant : 320 ≤ a → a < 352 → Place ps a
   slot : Slot ps 4 6 a → Place ps a
 
 pub uses-place : (ps : List ℕ) (a : ℕ) → 1 ≤ count a (uses ps) → Place ps a
-uses-place ps a h = go (hit-or a 247) (hit-or a 244) (zero-or (count a (mails ps)))
+uses-place ps a h = go (hit-or a processorList) (hit-or a freeList) (zero-or (count a (mails ps)))
   where
-    go : (a ≡ 247) ⊎ (a ≢ 247) → (a ≡ 244) ⊎ (a ≢ 244) → (count a (mails ps) ≡ 0) ⊎ (1 ≤ count a (mails ps)) → Place ps a
+    go : (a ≡ processorList) ⊎ (a ≢ processorList) → (a ≡ freeList) ⊎ (a ≢ freeList) → (count a (mails ps) ≡ 0) ⊎ (1 ≤ count a (mails ps)) → Place ps a
     go (inl e) f i = three (omega arith) (omega arith) (omega arith)
     go (inr e) (inl f) i = three (omega arith) (omega arith) (omega arith)
     go (inr e) (inr f) (inl z) =
-        let r = range1-of 32 320 a (omega (arith, hit-other a 247 e, hit-other a 244 f, count-append a (mails ps) (range 32 1 320))) in
+        let r = range1-of 32 320 a (omega (arith, hit-other a processorList e, hit-other a freeList f, count-append a (mails ps) (range 32 1 320))) in
         grant (r .0) (omega arith)
     go (inr e) (inr f) (inr i) =
         let r = mails-of a ps i in
         slot (record { page = r .page; proc = r .proc; word = r .word; low = omega (arith, r .low); high = r .high; is = r .is })
 
 pub queues-place : (ps : List ℕ) (a : ℕ) → 1 ≤ count a (queues ps) → Place ps a
-queues-place ps a h = go (hit-or a 246) (zero-or (count a (owns ps)))
+queues-place ps a h = go (hit-or a pageQueue) (zero-or (count a (owns ps)))
   where
-    go : (a ≡ 246) ⊎ (a ≢ 246) → (count a (owns ps) ≡ 0) ⊎ (1 ≤ count a (owns ps)) → Place ps a
+    go : (a ≡ pageQueue) ⊎ (a ≢ pageQueue) → (count a (owns ps) ≡ 0) ⊎ (1 ≤ count a (owns ps)) → Place ps a
     go (inl e) i = three (omega arith) (omega arith) (omega arith)
     go (inr e) (inl z) =
-        let r = range2-of 54 132 a (omega (arith, hit-other a 246 e, count-append a (owns ps) (range 54 2 132))) in
+        let r = range2-of interrupts 132 a (omega (arith, hit-other a pageQueue e, count-append a (owns ps) (range interrupts 2 132))) in
         int (r .0) (r .1) (r .2)
     go (inr e) (inr i) =
         let r = owns-of a ps i in
@@ -264,16 +266,16 @@ queues-place ps a h = go (hit-or a 246) (zero-or (count a (owns ps)))
 
 -- a wait queue is known by the address s of its semaphore; its header is the next word
 pub data Seat (ps : List ℕ) (s : ℕ) : Type 0 where
-  line : (k : ℕ) → k < 54 → s ≡ 131 + 2 * k → Seat ps s
-  page : s ≡ 245 → Seat ps s
-  own : (p : ℕ) → 1 ≤ count p ps → s ≡ p * 32 + 3 → Seat ps s
+  line : (k : ℕ) → k < interrupts → s ≡ semaphoreAfter k → Seat ps s
+  page : s ≡ freeSemaphore → Seat ps s
+  own : (p : ℕ) → 1 ≤ count p ps → s ≡ place p ownSemaphore → Seat ps s
 
 pub seat-of : (ps : List ℕ) (s : ℕ) → 1 ≤ count (s + 1) (queues ps) → Seat ps s
-seat-of ps s h = go (hit-or (s + 1) 246) (zero-or (count (s + 1) (owns ps)))
+seat-of ps s h = go (hit-or (s + 1) pageQueue) (zero-or (count (s + 1) (owns ps)))
   where
-    go : (s + 1 ≡ 246) ⊎ (s + 1 ≢ 246) → (count (s + 1) (owns ps) ≡ 0) ⊎ (1 ≤ count (s + 1) (owns ps)) → Seat ps s
+    go : (s + 1 ≡ pageQueue) ⊎ (s + 1 ≢ pageQueue) → (count (s + 1) (owns ps) ≡ 0) ⊎ (1 ≤ count (s + 1) (owns ps)) → Seat ps s
     go (inl e) i = page (omega arith)
     go (inr e) (inl z) =
-        let r = range2-of 54 132 (s + 1) (omega (arith, hit-other (s + 1) 246 e, count-append (s + 1) (owns ps) (range 54 2 132))) in
+        let r = range2-of interrupts 132 (s + 1) (omega (arith, hit-other (s + 1) pageQueue e, count-append (s + 1) (owns ps) (range interrupts 2 132))) in
         line (r .0) (r .1) (omega (arith, r .2))
     go (inr e) (inr i) = let r = owns-of (s + 1) ps i in own (r .page) (r .proc) (omega arith)

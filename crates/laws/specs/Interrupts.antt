@@ -9,6 +9,10 @@ use native.Mathlib.Omega.{arith}
 use lib.ListN.{length, getD, set}
 use lib.Dec.{eqb, ltb}
 use borrow.Author.Tests.{eqb-false, ne-eqb}
+use Rattle.model.specs.Map as Map
+use Rattle.model.specs.Map.{clockLine, headerAfter, interrupts, label, link, ownQueue, pageQueue, place, processorList, runningLabel, runningPage, semaphoreOf}
+use Rattle.model.specs.Map.{wordA}
+use Rattle.model.specs.Bytes.{name, running, word}
 use Rattle.model.specs.Interrupt as Interrupt
 use Rattle.model.specs.Operate as Operate
 use Rattle.model.specs.Bytes as Model
@@ -44,12 +48,12 @@ pub chain-head : (m : List ℕ) (a : ℕ) (xs : List ℕ) → Chain m 0 a xs →
 chain-head m a [] c = c
 chain-head m a (x ∷ xs) c = c .0
 
-chain-next : (m : List ℕ) (a p : ℕ) (xs ys : List ℕ) → Chain m 0 a (xs ++ p ∷ ys) → getD m (p * 32 + 0) 0 ≡ head ys
-chain-next m a p [] ys c = chain-head m (p * 32 + 0) ys (c .2)
-chain-next m a p (x ∷ xs) ys c = chain-next m (x * 32 + 0) p xs ys (c .2)
+chain-next : (m : List ℕ) (a p : ℕ) (xs ys : List ℕ) → Chain m 0 a (xs ++ p ∷ ys) → word m p link ≡ head ys
+chain-next m a p [] ys c = chain-head m (place p link) ys (c .2)
+chain-next m a p (x ∷ xs) ys c = chain-next m (place x link) p xs ys (c .2)
 
 -- ---- a reason in an interrupt queue falls by one
-facts-reason : {ps : List ℕ} {L : Lists} {W : View} {g : ℕ} (k p v : ℕ) → k < 54 → 1 ≤ count p (L (132 + 2 * k)) → 1 ≤ v → v ≤ 255 → Facts ps L W g
+facts-reason : {ps : List ℕ} {L : Lists} {W : View} {g : ℕ} (k p v : ℕ) → k < interrupts → 1 ≤ count p (L (headerAfter k)) → 1 ≤ v → v ≤ 255 → Facts ps L W g
     → Facts ps L (withReason W (put1 (W .reason) p v)) g
 facts-reason {ps} {L} {W} k p v hk i u1 u2 f = record {
   sep = f .sep;
@@ -58,13 +62,13 @@ facts-reason {ps} {L} {W} k p v hk i u1 u2 f = record {
     bit = f .seats .bit;
     zeros = f .seats .zeros;
     served = λ j h x c. served j h x c (hit-or x p);
-    asking = λ x c. rw (kept x (other 246 x (omega arith) (omega arith) c)) (f .seats .asking x c);
+    asking = λ x c. rw (kept x (other pageQueue x (omega arith) (omega arith) c)) (f .seats .asking x c);
     quiet = λ x h z. quiet x h z (hit-or x p);
   };
   own = λ y h x c.
       let t = f .own y h x c in
       let pg = proc-page s y h in
-      let d = other (y * 32 + 4) x (omega (arith, own-once s y h .here)) (omega arith) c in
+      let d = other (place y ownQueue) x (omega (arith, own-once s y h .here)) (omega arith) c in
       rw (kept y (λ e. d (t .owner ∙ e))) t;
   sems = f .sems;
   granted = f .granted;
@@ -79,26 +83,26 @@ facts-reason {ps} {L} {W} k p v hk i u1 u2 f = record {
     s = f .sep
 
     hp : 1 ≤ count p ps
-    hp = wait-page s (132 + 2 * k) p (int-queue ps k hk) i
+    hp = wait-page s (headerAfter k) p (int-queue ps k hk) i
 
     kept : (x : ℕ) → x ≢ p → put1 (W .reason) p v x ≡ W .reason x
     kept x n = put1-other (W .reason) p v x n
 
     -- p is in no other wait queue
-    other : (b x : ℕ) → 1 ≤ count b (queues ps) → b ≢ 132 + 2 * k → 1 ≤ count x (L b) → x ≢ p
+    other : (b x : ℕ) → 1 ≤ count b (queues ps) → b ≢ headerAfter k → 1 ≤ count x (L b) → x ≢ p
     other b x h n c e =
         let d : count p (L b) ≡ count x (L b) = ap (λ (y : ℕ). count y (L b)) (sym e) in
-        omega (arith, sum-two p L (132 + 2 * k) b (queues ps) (λ y. n (sym y)) (int-queue ps k hk) h, s .waits p, proc-once s p)
+        omega (arith, sum-two p L (headerAfter k) b (queues ps) (λ y. n (sym y)) (int-queue ps k hk) h, s .waits p, proc-once s p)
 
-    served : (j : ℕ) → j < 54 → (x : ℕ) → 1 ≤ count x (L (132 + 2 * j)) → (x ≡ p) ⊎ (x ≢ p) → (1 ≤ put1 (W .reason) p v x) × (put1 (W .reason) p v x ≤ 255)
+    served : (j : ℕ) → j < interrupts → (x : ℕ) → 1 ≤ count x (L (headerAfter j)) → (x ≡ p) ⊎ (x ≢ p) → (1 ≤ put1 (W .reason) p v x) × (put1 (W .reason) p v x ≤ 255)
     served j h x c (inl e) = rw (put1-same (W .reason) p v x e) (u1, u2)
     served j h x c (inr n) = rw (kept x n) (f .seats .served j h x c)
 
     quiet : (x : ℕ) → 1 ≤ count x ps → W .state x % 128 / 64 ≡ 0 → (x ≡ p) ⊎ (x ≢ p) → put1 (W .reason) p v x ≡ 0
     quiet x h z (inl e) =
         let c = f .seats .bit x h in
-        let d : count p (L (132 + 2 * k)) ≡ count x (L (132 + 2 * k)) = ap (λ (y : ℕ). count y (L (132 + 2 * k))) (sym e) in
-        absurd (omega (arith, sum-one x L (132 + 2 * k) (queues ps) (int-queue ps k hk)))
+        let d : count p (L (headerAfter k)) ≡ count x (L (headerAfter k)) = ap (λ (y : ℕ). count y (L (headerAfter k))) (sym e) in
+        absurd (omega (arith, sum-one x L (headerAfter k) (queues ps) (int-queue ps k hk)))
     quiet x h z (inr n) = rw (kept x n) (f .seats .quiet x h z)
 
 -- ---- one waiter
@@ -110,7 +114,7 @@ classed-kept m k c p g = go (ltb k 48) (ltb 50 k) refl refl
     go : (x y : Bool) → ltb k 48 ≡ x → ltb 50 k ≡ y → Kept m (classed m k c p)
     go true y e f = rw e (kept-refl m)
     go false true e f = rw (e, f) (kept-refl m)
-    go false false e f = rw (e, f) (kept-set (p * 32 + 8) c (quiet-word p 8 (p * 32 + 8) g (omega arith) (omega arith) (omega arith) refl) (kept-refl m))
+    go false false e f = rw (e, f) (kept-set (place p wordA) c (quiet-word p 8 (place p wordA) g (omega arith) (omega arith) (omega arith) refl) (kept-refl m))
 
 gave-on : {m : List ℕ} {ps : List ℕ} {hs : List ℕ} {g : ℕ} {W X : View} → X .low ≡ W .low → Gave m ps hs g X → Gave m ps hs g W
 gave-on e r = record { lists = r .lists; view = r .view; base = r .base; low = r .low ∙ e }
@@ -121,11 +125,11 @@ pub record Struck (m : List ℕ) (ps : List ℕ) (a : ℕ) (ys : List ℕ) (hs :
   pub before : List ℕ
   pub now : gave .lists (a + 1) ≡ before ++ ys
 
-module _ (k c : ℕ) (k1 : 1 ≤ k) (k2 : k ≤ 54) where
+module _ (k c : ℕ) (k1 : 1 ≤ k) (k2 : k ≤ interrupts) where
   abbrev a : ℕ
-  a = 129 + 2 * k
+  a = semaphoreOf k
 
-  at-head : 132 + 2 * (k - 1) ≡ a + 1
+  at-head : headerAfter (k - 1) ≡ a + 1
   at-head = omega arith
 
   pub seat : (ps : List ℕ) → 1 ≤ count (a + 1) (queues ps)
@@ -145,7 +149,7 @@ module _ (k c : ℕ) (k1 : 1 ≤ k) (k2 : k ≤ 54) where
       pg : Page p
       pg = proc-page s p (wait-page s (a + 1) p (seat ps) inside)
 
-      reason : getD m (p * 32 + 2) 0 ≡ W .reason p
+      reason : word m p Map.reason ≡ W .reason p
       reason = b .mem .reads .words .reason p pg
 
       range : (1 ≤ W .reason p) × (W .reason p ≤ 255)
@@ -186,7 +190,7 @@ module _ (k c : ℕ) (k1 : 1 ≤ k) (k2 : k ≤ 54) where
   from-end zero m = refl
   from-end (suc n) m = refl
 
-  from-next : (n : ℕ) (m : List ℕ) (p : ℕ) → p ≢ 0 → servedFrom (suc n) m k c p ≡ servedFrom n (struck m k c p) k c (getD m (p * 32 + 0) 0)
+  from-next : (n : ℕ) (m : List ℕ) (p : ℕ) → p ≢ 0 → servedFrom (suc n) m k c p ≡ servedFrom n (struck m k c p) k c (word m p link)
   unfolding Interrupt.servedFrom
   from-next n m p h = rw (ne-eqb p 0 h, Interrupt.servedFrom)
 
@@ -228,23 +232,23 @@ module _ (k c : ℕ) (k1 : 1 ≤ k) (k2 : k ≤ 54) where
   serve-base {m} {ps} {L} {W} {hs} {g} b =
       let s = b .facts .sep in
       let ch = chain0 s (b .mem) (a + 1) (seat-head s a (seat ps)) (λ d. not-procs s a (seat ps) (sym d)) in
-      let at1 : 129 + 2 * k + 1 ≡ 130 + 2 * k = omega arith in
+      let at1 : semaphoreOf k + 1 ≡ 130 + 2 * k = omega arith in
       rw (← at1, chain-head m (a + 1) (L (a + 1)) ch) (from-base (L (a + 1)) 20 ps hs g (list-short s (a + 1) (in-queues ps (a + 1) (seat ps))) L W m [] b refl)
 
 -- ---- the clock
-pub clock0 : (l : ℕ → ℕ) (v : ℕ) → suc v ≤ l 251 → Clock l → Clock (put1 l 240 v)
+pub clock0 : (l : ℕ → ℕ) (v : ℕ) → suc v ≤ l Map.divider → Clock l → Clock (put1 l Map.c0 v)
 unfolding put1
 clock0 l v h c = record { c0 = h; c1 = c .c1; c2 = c .c2; c3 = c .c3; divider = c .divider; line = c .line; nought = c .nought }
 
-pub clock1 : (l : ℕ → ℕ) (v : ℕ) → suc v ≤ 10 → Clock l → Clock (put1 l 241 v)
+pub clock1 : (l : ℕ → ℕ) (v : ℕ) → suc v ≤ 10 → Clock l → Clock (put1 l Map.c1 v)
 unfolding put1
 clock1 l v h c = record { c0 = c .c0; c1 = h; c2 = c .c2; c3 = c .c3; divider = c .divider; line = c .line; nought = c .nought }
 
-pub clock2 : (l : ℕ → ℕ) (v : ℕ) → suc v ≤ 60 → Clock l → Clock (put1 l 242 v)
+pub clock2 : (l : ℕ → ℕ) (v : ℕ) → suc v ≤ 60 → Clock l → Clock (put1 l Map.c2 v)
 unfolding put1
 clock2 l v h c = record { c0 = c .c0; c1 = c .c1; c2 = h; c3 = c .c3; divider = c .divider; line = c .line; nought = c .nought }
 
-pub clock3 : (l : ℕ → ℕ) (v : ℕ) → suc v ≤ 60 → Clock l → Clock (put1 l 243 v)
+pub clock3 : (l : ℕ → ℕ) (v : ℕ) → suc v ≤ 60 → Clock l → Clock (put1 l Map.c3 v)
 unfolding put1
 clock3 l v h c = record { c0 = c .c0; c1 = c .c1; c2 = c .c2; c3 = h; divider = c .divider; line = c .line; nought = c .nought }
 
@@ -258,13 +262,13 @@ abbrev pub some-of : {m : List ℕ} {ps : List ℕ} {hs : List ℕ} {g : ℕ} {W
 some-of t = record { lists = t .lists; view = t .view; base = t .base }
 
 module _ {m : List ℕ} {ps : List ℕ} {L : Lists} {W : View} {hs : List ℕ} {g : ℕ} (b : Base m ps L W hs g) where
-  pub counter-at : (c : ℕ) → 239 ≤ c → c ≤ 243 → getD m c 0 ≡ W .low c
+  pub counter-at : (c : ℕ) → clockLine ≤ c → c ≤ Map.c3 → getD m c 0 ≡ W .low c
   counter-at c l u = b .mem .reads .fixed .clock c l u
 
-  pub counter-base : (c v : ℕ) → 240 ≤ c → c ≤ 243 → Clock (put1 (W .low) c v) → Base (set m c v) ps L (withLow W (put1 (W .low) c v)) hs g
+  pub counter-base : (c v : ℕ) → Map.c0 ≤ c → c ≤ Map.c3 → Clock (put1 (W .low) c v) → Base (set m c v) ps L (withLow W (put1 (W .low) c v)) hs g
   counter-base c v l u k =
-      let e8 = put1-other (W .low) c v 248 (omega arith) in
-      let e9 = put1-other (W .low) c v 249 (omega arith) in
+      let e8 = put1-other (W .low) c v runningPage (omega arith) in
+      let e9 = put1-other (W .low) c v runningLabel (omega arith) in
       record {
         mem = clock-mem (b .facts .sep) (b .mem) c v (omega arith) u;
         facts = facts-low (put1 (W .low) c v)
@@ -275,10 +279,10 @@ module _ {m : List ℕ} {ps : List ℕ} {L : Lists} {W : View} {hs : List ℕ} {
 
 -- what is kept by a counter that is set and by an interrupt that is served, the clock keeps
 module _ {ps hs : List ℕ} {g : ℕ} (G : List ℕ → Type 0) (now : (m : List ℕ) → G m → Some m ps hs g)
-    (sets : (m : List ℕ) (t : G m) (c v : ℕ) → 240 ≤ c → c ≤ 243 → Clock (put1 (now m t .view .low) c v) → G (set m c v))
-    (serves : (m : List ℕ) → G m → (k : ℕ) → 1 ≤ k → k ≤ 54 → G (serve m k 0)) where
+    (sets : (m : List ℕ) (t : G m) (c v : ℕ) → Map.c0 ≤ c → c ≤ Map.c3 → Clock (put1 (now m t .view .low) c v) → G (set m c v))
+    (serves : (m : List ℕ) → G m → (k : ℕ) → 1 ≤ k → k ≤ interrupts → G (serve m k 0)) where
   -- a counter c with end e: at its end interrupt k is served and what is behind it goes on, else it counts
-  turned : {m : List ℕ} (t : G m) (c k e : ℕ) (m2 : List ℕ) → 240 ≤ c → c ≤ 243 → 1 ≤ k → k ≤ 54
+  turned : {m : List ℕ} (t : G m) (c k e : ℕ) (m2 : List ℕ) → Map.c0 ≤ c → c ≤ Map.c3 → 1 ≤ k → k ≤ interrupts
       → Clock (put1 (now m t .view .low) c 0) → ((now m t .view .low c + 1) % 256 ≢ e → Clock (put1 (now m t .view .low) c ((now m t .view .low c + 1) % 256)))
       → (G (turns m c k) → G m2) → G (cond (ends m c e) m2 (counts m c))
   unfolding Interrupt.ends Interrupt.turns Interrupt.counts
@@ -297,7 +301,7 @@ module _ {ps hs : List ℕ} {g : ℕ} (G : List ℕ → Type 0) (now : (m : List
   c3-kept {m} t =
       let l = now m t .view .low in
       let k = now m t .base .facts .clock in
-      turned t 243 54 60 (turns m 243 54) (omega arith) (omega arith) (omega arith) (omega arith) (clock3 l 0 (omega arith) k)
+      turned t Map.c3 interrupts 60 (turns m Map.c3 interrupts) (omega arith) (omega arith) (omega arith) (omega arith) (clock3 l 0 (omega arith) k)
       (λ n. clock3 (now m t .view .low) ((now m t .view .low 243 + 1) % 256) (omega (arith, k .c3)) k) (λ x. x)
 
   c2-kept : {m : List ℕ} → G m → G (Model.c2Counts m)
@@ -305,7 +309,7 @@ module _ {ps hs : List ℕ} {g : ℕ} (G : List ℕ → Type 0) (now : (m : List
   c2-kept {m} t =
       let l = now m t .view .low in
       let k = now m t .base .facts .clock in
-      turned t 242 53 60 (Model.c3Counts (turns m 242 53)) (omega arith) (omega arith) (omega arith) (omega arith) (clock2 l 0 (omega arith) k)
+      turned t Map.c2 53 60 (Model.c3Counts (turns m Map.c2 53)) (omega arith) (omega arith) (omega arith) (omega arith) (clock2 l 0 (omega arith) k)
       (λ n. clock2 (now m t .view .low) ((now m t .view .low 242 + 1) % 256) (omega (arith, k .c2)) k) c3-kept
 
   c1-kept : {m : List ℕ} → G m → G (Model.c1Counts m)
@@ -313,7 +317,7 @@ module _ {ps hs : List ℕ} {g : ℕ} (G : List ℕ → Type 0) (now : (m : List
   c1-kept {m} t =
       let l = now m t .view .low in
       let k = now m t .base .facts .clock in
-      turned t 241 52 10 (Model.c2Counts (turns m 241 52)) (omega arith) (omega arith) (omega arith) (omega arith) (clock1 l 0 (omega arith) k)
+      turned t Map.c1 52 10 (Model.c2Counts (turns m Map.c1 52)) (omega arith) (omega arith) (omega arith) (omega arith) (clock1 l 0 (omega arith) k)
       (λ n. clock1 (now m t .view .low) ((now m t .view .low 241 + 1) % 256) (omega (arith, k .c1)) k) c2-kept
 
   c0-kept : {m : List ℕ} → G m → G (Model.c0Counts m)
@@ -321,41 +325,41 @@ module _ {ps hs : List ℕ} {g : ℕ} (G : List ℕ → Type 0) (now : (m : List
   c0-kept {m} t =
       let l = now m t .view .low in
       let k = now m t .base .facts .clock in
-      let end : getD m 251 0 ≡ now m t .view .low 251 = now m t .base .mem .reads .fixed .turn 251 (omega arith) (omega arith) in
-      turned t 240 51 (getD m 251 0) (Model.c1Counts (turns m 240 51)) (omega arith) (omega arith) (omega arith) (omega arith)
+      let end : getD m Map.divider 0 ≡ now m t .view .low Map.divider = now m t .base .mem .reads .fixed .turn Map.divider (omega arith) (omega arith) in
+      turned t Map.c0 51 (getD m Map.divider 0) (Model.c1Counts (turns m Map.c0 51)) (omega arith) (omega arith) (omega arith) (omega arith)
       (clock0 l 0 (omega (arith, k .divider)) k)
       (λ n. clock0 (now m t .view .low) ((now m t .view .low 240 + 1) % 256) (omega (arith, k .c0, k .divider, end)) k) c1-kept
 
   -- "An interrupt on the clock line is served, then C0 counts"
   pub delivered-kept : (m : List ℕ) (k c : ℕ) → G (serve m k c) → G (delivered m k c)
   unfolding Interrupt.delivered
-  delivered-kept m k c t = go (eqb k (getD m 239 0)) refl
+  delivered-kept m k c t = go (eqb k (getD m clockLine 0)) refl
     where
-      go : (x : Bool) → eqb k (getD m 239 0) ≡ x → G (delivered m k c)
+      go : (x : Bool) → eqb k (getD m clockLine 0) ≡ x → G (delivered m k c)
       go true e = rw e (c0-kept t)
       go false e = rw e t
 
-pub delivered-base : {m : List ℕ} {ps : List ℕ} {hs : List ℕ} {g : ℕ} {L : Lists} {W : View} (k c : ℕ) → 1 ≤ k → k ≤ 54 → Base m ps L W hs g
+pub delivered-base : {m : List ℕ} {ps : List ℕ} {hs : List ℕ} {g : ℕ} {L : Lists} {W : View} (k c : ℕ) → 1 ≤ k → k ≤ interrupts → Base m ps L W hs g
     → Some (delivered m k c) ps hs g
 delivered-base {m} {ps} {hs} {g} k c i j b =
     delivered-kept (λ x. Some x ps hs g) (λ x t. t)
     (λ x t c v l u h. record { lists = t .lists; view = withLow (t .view) (put1 (t .view .low) c v); base = counter-base (t .base) c v l u h })
     (λ x t k i j. some-of (serve-base k 0 i j (t .base))) m k c (some-of (serve-base k c i j b))
 
-pub delivered-well : {m : List ℕ} (k c : ℕ) → 1 ≤ k → k ≤ 54 → WellFormed m → WellFormed (whoRuns (delivered m k c))
+pub delivered-well : {m : List ℕ} (k c : ℕ) → 1 ≤ k → k ≤ interrupts → WellFormed m → WellFormed (whoRuns (delivered m k c))
 delivered-well k c i j w = well-formed (who-inv (delivered-base k c i j (invariant w .base) .base) .1)
 
 -- ---- the instructions
-module _ {m : List ℕ} (w : WellFormed m) (d : getD m 248 0 ≢ 0) where
+module _ {m : List ℕ} (w : WellFormed m) (d : running m ≢ 0) where
   open Busy (busy w d) using (base as b, runs as hr, ready)
 
   pub gin-fine : (len : ℕ) → Fine (Model.gin m len)
   unfolding Operate.gin
   gin-fine len =
-      let n = b .facts .names .range (getD m 248 0) hr in
-      done-fine (serve-base (getD m (getD m 248 0 * 32 + 7) 0 % 16) 0 (n .name) (omega arith) b .base) len
+      let n = b .facts .names .range (running m) hr in
+      done-fine (serve-base (name m (running m)) 0 (n .name) (omega arith) b .base) len
 
   pub win-fine : (k c len : ℕ) → c ≤ 255 → Fine (Model.win m k c len)
   win-fine k c len u = win-each (bad w d) k c len (λ g.
-      waits-fine (advance-base b len) (129 + 2 * k) c d (seat k c (g .low) (g .high) (lists m 247)) (omega (arith, ready))
+      waits-fine (advance-base b len) (semaphoreOf k) c d (seat k c (g .low) (g .high) (lists m processorList)) (omega (arith, ready))
       (line-fit (b .facts .sep) k c (g .low) (g .high) (g .count) u))

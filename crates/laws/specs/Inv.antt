@@ -8,6 +8,10 @@ use Prim.Native.Nat.{ℕ, suc, _+_, _-_, _*_, _/_, _%_, _≤_, _<_}
 use lib.ListN.{length, getD}
 use lib.Dec.{eqb}
 use borrow.Author.Tests.{ne-eqb}
+use Rattle.model.specs.Map as Map
+use Rattle.model.specs.Map.{clockLine, codeWord, entryAfter, freeList, freeSemaphore, grantFor, headerAfter, interrupts, longest, memorySize, ownQueue, pageQueue}
+use Rattle.model.specs.Map.{place, q1, runningLabel, runningPage, zeroWord}
+use Rattle.model.specs.Bytes as Memory
 use Rattle.model.specs.Map.{less, lastFault}
 use Rattle.model.specs.Mail.{fits}
 use Rattle.model.specs.Lists.{count, Lists, sum, each-of, some, uses, queues}
@@ -30,33 +34,33 @@ pub record View : Type 0 where
 
 abbrev pub view : List ℕ → View
 view m = record {
-  note = λ p. getD m (p * 32 + 1) 0;
-  reason = λ p. getD m (p * 32 + 2) 0;
-  label = λ p. getD m (p * 32 + 7) 0;
-  state = λ p. getD m (p * 32 + 12) 0;
+  note = λ p. Memory.word m p 1;
+  reason = λ p. Memory.word m p 2;
+  label = λ p. Memory.word m p Map.label;
+  state = λ p. Memory.word m p Map.state;
   sem = λ s. getD m s 0;
   low = λ a. getD m a 0;
-  code = λ c. getD m (256 + 2 * c) 0;
+  code = λ c. getD m (codeWord c) 0;
   next = getD m 288 0;
-  entry = λ i. getD m (289 + i) 0;
+  entry = λ i. getD m (entryAfter i) 0;
 }
 
 -- word k of each control page
 abbrev pub Col : List ℕ → ℕ → (ℕ → ℕ) → Type 0
-Col m k f = (p : ℕ) → Page p → getD m (p * 32 + k) 0 ≡ f p
+Col m k f = (p : ℕ) → Page p → Memory.word m p k ≡ f p
 
 pub record Words (m : List ℕ) (ps : List ℕ) (n r l t : ℕ → ℕ) : Type 0 where
-  pub note : (p : ℕ) → Page p → count p ps ≡ 0 → getD m (p * 32 + 1) 0 ≡ n p
+  pub note : (p : ℕ) → Page p → count p ps ≡ 0 → Memory.word m p 1 ≡ n p
   pub reason : Col m 2 r
   pub label : Col m 7 l
   pub state : Col m 12 t
 
 pub record Fixed (m : List ℕ) (l c : ℕ → ℕ) (n : ℕ) (e : ℕ → ℕ) : Type 0 where
-  pub clock : (a : ℕ) → 239 ≤ a → a ≤ 243 → getD m a 0 ≡ l a
-  pub turn : (a : ℕ) → 248 ≤ a → a ≤ 251 → getD m a 0 ≡ l a
-  pub code : (k : ℕ) → k < 16 → getD m (256 + 2 * k) 0 ≡ c k
+  pub clock : (a : ℕ) → clockLine ≤ a → a ≤ Map.c3 → getD m a 0 ≡ l a
+  pub turn : (a : ℕ) → runningPage ≤ a → a ≤ Map.divider → getD m a 0 ≡ l a
+  pub code : (k : ℕ) → k < 16 → getD m (codeWord k) 0 ≡ c k
   pub next : getD m 288 0 ≡ n
-  pub entry : (i : ℕ) → i < 31 → getD m (289 + i) 0 ≡ e i
+  pub entry : (i : ℕ) → i < 31 → getD m (entryAfter i) 0 ≡ e i
 
 pub record Reads (m : List ℕ) (ps : List ℕ) (W : View) : Type 0 where
   pub words : Words m ps (W .note) (W .reason) (W .label) (W .state)
@@ -81,8 +85,8 @@ pub record Names (ps : List ℕ) (l : ℕ → ℕ) : Type 0 where
 pub record Seats (ps : List ℕ) (L : Lists) (t r : ℕ → ℕ) : Type 0 where
   pub bit : (p : ℕ) → 1 ≤ count p ps → sum p L (queues ps) ≡ t p % 128 / 64
   pub zeros : (p : ℕ) → 1 ≤ count p ps → t p % 64 / 16 ≡ 0
-  pub served : (k : ℕ) → k < 54 → (p : ℕ) → 1 ≤ count p (L (132 + 2 * k)) → (1 ≤ r p) × (r p ≤ 255)
-  pub asking : (p : ℕ) → 1 ≤ count p (L 246) → r p ≡ 0
+  pub served : (k : ℕ) → k < interrupts → (p : ℕ) → 1 ≤ count p (L (headerAfter k)) → (1 ≤ r p) × (r p ≤ 255)
+  pub asking : (p : ℕ) → 1 ≤ count p (L pageQueue) → r p ≡ 0
   pub quiet : (p : ℕ) → 1 ≤ count p ps → t p % 128 / 64 ≡ 0 → r p ≡ 0
 
 -- "a message wait holds its owner only, reason flag 0-7, and matches nothing in its Q1": page x in the wait of p, whose reason is r and whose Q1 is qs
@@ -93,21 +97,21 @@ pub record Waits (r : ℕ) (n : ℕ → ℕ) (qs : List ℕ) (p x : ℕ) : Type 
 
 -- what counts for the semaphore at s beside its waiters: the free pages, for that of the page queue
 unfoldable pub stock : Lists → ℕ → ℕ
-stock L s = cond (eqb s 245) (length (L 244)) 0
+stock L s = cond (eqb s freeSemaphore) (length (L freeList)) 0
 
-pub stock-page : (L : Lists) → stock L 245 ≡ length (L 244)
+pub stock-page : (L : Lists) → stock L freeSemaphore ≡ length (L freeList)
 unfolding stock
 stock-page L = refl
 
-pub stock-else : (L : Lists) (s : ℕ) → s ≢ 245 → stock L s ≡ 0
+pub stock-else : (L : Lists) (s : ℕ) → s ≢ freeSemaphore → stock L s ≡ 0
 unfolding stock
-stock-else L s n = rw (ne-eqb s 245 n)
+stock-else L s n = rw (ne-eqb s freeSemaphore n)
 
 -- "free list empty if anyone waits for a page, who then holds no grant; grants only to existing names"; g is the name that is being deleted, whose
 -- grant is given back last, and 32 if none is
 pub record Granted (ps : List ℕ) (L : Lists) (l : ℕ → ℕ) (g : ℕ) : Type 0 where
-  pub bare : (p : ℕ) → 1 ≤ count p (L 246) → (length (L 244) ≡ 0) × (length (L (320 + l p % 16)) ≡ 0)
-  pub known : (k : ℕ) → k < 32 → k ≢ g → length (L (320 + k)) ≢ 0 → bearers l ps k ≡ 1
+  pub bare : (p : ℕ) → 1 ≤ count p (L pageQueue) → (length (L freeList) ≡ 0) × (length (L (320 + l p % 16)) ≡ 0)
+  pub known : (k : ℕ) → k < 32 → k ≢ g → length (L (grantFor k)) ≢ 0 → bearers l ps k ≡ 1
 
 -- "senders 1-15, flags 1-7, word 2 of a message 0-29 or 128"
 pub record Message (n w : ℕ) : Type 0 where
@@ -115,18 +119,18 @@ pub record Message (n w : ℕ) : Type 0 where
   pub known : n / 16 ≤ 15
   pub flag : 1 ≤ n % 16
   pub small : n % 16 ≤ 7
-  pub long : w ≢ 128 → w ≤ 29
+  pub long : w ≢ 128 → w ≤ longest
 
 -- "word 25 of page 7 is the running one's word 7"
 pub record Runs (ps : List ℕ) (l b : ℕ → ℕ) : Type 0 where
-  pub idle : l 248 ≡ 0 → l 249 ≡ 0
-  pub listed : l 248 ≢ 0 → count (l 248) ps ≡ 1
-  pub tag : l 248 ≢ 0 → l 249 ≡ b (l 248)
+  pub idle : l runningPage ≡ 0 → l runningLabel ≡ 0
+  pub listed : l runningPage ≢ 0 → count (l runningPage) ps ≡ 1
+  pub tag : l runningPage ≢ 0 → l runningLabel ≡ b (l runningPage)
 
 -- "the running one is ready and none ready is higher, idle only if none is ready"
 pub record Best (ps : List ℕ) (W : View) : Type 0 where
-  pub ready : W .low 248 ≢ 0 → suc (W .state (W .low 248)) ≤ 64
-  pub top : (p : ℕ) → 1 ≤ count p ps → suc (W .state p) ≤ 64 → W .label p / 16 ≤ W .low 249 / 16
+  pub ready : W .low runningPage ≢ 0 → suc (W .state (W .low runningPage)) ≤ 64
+  pub top : (p : ℕ) → 1 ≤ count p ps → suc (W .state p) ≤ 64 → W .label p / 16 ≤ W .low runningLabel / 16
 
 -- "kinds 0-2, codes 0, 1 built in, 15 absent or own"
 pub record Codes (c : ℕ → ℕ) : Type 0 where
@@ -137,13 +141,13 @@ pub record Codes (c : ℕ → ℕ) : Type 0 where
 
 -- "counters below their ends, divider 1-255, line 16-47"; "page 7 word 26 zero"
 pub record Clock (l : ℕ → ℕ) : Type 0 where
-  pub c0 : suc (l 240) ≤ l 251
-  pub c1 : suc (l 241) ≤ 10
-  pub c2 : suc (l 242) ≤ 60
-  pub c3 : suc (l 243) ≤ 60
-  pub divider : (1 ≤ l 251) × (l 251 ≤ 255)
-  pub line : (16 ≤ l 239) × (l 239 ≤ 47)
-  pub nought : l 250 ≡ 0
+  pub c0 : suc (l Map.c0) ≤ l Map.divider
+  pub c1 : suc (l Map.c1) ≤ 10
+  pub c2 : suc (l Map.c2) ≤ 60
+  pub c3 : suc (l Map.c3) ≤ 60
+  pub divider : (1 ≤ l Map.divider) × (l Map.divider ≤ 255)
+  pub line : (16 ≤ l clockLine) × (l clockLine ≤ 47)
+  pub nought : l zeroWord ≡ 0
 
 -- "page 9 in range with names 1-15, faults 1-12, unused zero"
 pub record Entry (w : ℕ) : Type 0 where
@@ -159,10 +163,10 @@ pub record Facts (ps : List ℕ) (L : Lists) (W : View) (g : ℕ) : Type 0 where
   pub sep : Sep ps L
   pub names : Names ps (W .label)
   pub seats : Seats ps L (W .state) (W .reason)
-  pub own : (p : ℕ) → 1 ≤ count p ps → (x : ℕ) → 1 ≤ count x (L (p * 32 + 4)) → Waits (W .reason p) (W .note) (L (p * 32 + 5)) p x
+  pub own : (p : ℕ) → 1 ≤ count p ps → (x : ℕ) → 1 ≤ count x (L (place p ownQueue)) → Waits (W .reason p) (W .note) (L (place p q1)) p x
   pub sems : (s : ℕ) → 1 ≤ count (s + 1) (queues ps) → W .sem s ≡ less (stock L s) (length (L (s + 1)))
   pub granted : Granted ps L (W .label) g
-  pub mail : (p w : ℕ) → 1 ≤ count p ps → 5 ≤ w → w ≤ 6 → (q : ℕ) → 1 ≤ count q (L (p * 32 + w)) → Message (W .note q) (W .reason q)
+  pub mail : (p w : ℕ) → 1 ≤ count p ps → 5 ≤ w → w ≤ 6 → (q : ℕ) → 1 ≤ count q (L (place p w)) → Message (W .note q) (W .reason q)
   pub runs : Runs ps (W .low) (W .label)
   pub codes : Codes (W .code)
   pub clock : Clock (W .low)
@@ -171,10 +175,10 @@ pub record Facts (ps : List ℕ) (L : Lists) (W : View) (g : ℕ) : Type 0 where
 -- ---- the memory
 pub record Holds (m : List ℕ) (ps : List ℕ) (L : Lists) : Type 0 where
   pub rep : Rep m (Head ps) L
-  pub grant : (k : ℕ) → k < 32 → L (320 + k) ≡ some (getD m (320 + k) 0)
+  pub grant : (k : ℕ) → k < 32 → L (grantFor k) ≡ some (getD m (grantFor k) 0)
 
 pub record Mem (m : List ℕ) (ps : List ℕ) (L : Lists) (W : View) : Type 0 where
-  pub size : length m ≡ 8192
+  pub size : length m ≡ memorySize
   pub holds : Holds m ps L
   pub reads : Reads m ps W
 

@@ -5,6 +5,10 @@ use mathlib.Core.List.{List, [], _∷_}
 use Prim.Native.Nat.{ℕ, _+_, _-_, _*_, _%_, _≤_, _<_}
 use native.Mathlib.Omega.{arith}
 use lib.ListN.{length, getD}
+use Rattle.model.specs.Map as Map
+use Rattle.model.specs.Map.{clockLine, firstControl, freeList, freeSemaphore, grantFor, headerAfter, interrupts, label, memorySize, ownQueue, ownSemaphore, pageQueue}
+use Rattle.model.specs.Map.{place, processorList, runningLabel, runningPage, semaphoreAfter, zeroWord}
+use Rattle.model.specs.Bytes.{name, word}
 use Rattle.model.specs.Store.{bytes}
 use Rattle.model.specs.Map.{less}
 use Rattle.model.specs.Bytes.{lists, judged}
@@ -32,7 +36,7 @@ walked-short {m} {L = L} x a h l = go (isGrant a) refl
     go : (b : Bool) → isGrant a ≡ b → lists m a ≡ L a
     go true e =
         let r = grant-of a e in
-        let q : 320 + (a - 320) ≡ a = omega arith in
+        let q : grantFor (a - 320) ≡ a = omega arith in
         lists-some m a e ∙ sym (rw q at (x .holds .grant (a - 320) (omega arith)))
     go false e = lists-walk m a e ∙ walk-chain 21 m (linkOf a) a (L a) (x .holds .rep a (h, e)) (omega arith)
 
@@ -43,9 +47,9 @@ module _ {m : List ℕ} {ps : List ℕ} {L : Lists} {W : View} {hs : List ℕ} {
   pub walked : (a : ℕ) → Among ps a → lists m a ≡ L a
   walked a h = walked-short (i .mem) a h (list-short s a h)
 
-  bearers-is : (k : ℕ) → bearers (λ p. getD m (p * 32 + 7) 0) ps k ≡ bearers (W .label) ps k
+  bearers-is : (k : ℕ) → bearers (λ p. word m p label) ps k ≡ bearers (W .label) ps k
   bearers-is k =
-      ap (count k) (each-ext (λ p. getD m (p * 32 + 7) 0 % 16) (λ p. W .label p % 16) ps
+      ap (count k) (each-ext (λ p. name m p) (λ p. W .label p % 16) ps
       (λ p h. ap (λ (x : ℕ). x % 16) (i .mem .reads .words .label p (proc-page s p h))))
 
   pub sums : (z : ℕ) → (sum z (lists m) (uses ps) ≡ sum z L (uses ps)) × (sum z (lists m) (queues ps) ≡ sum z L (queues ps))
@@ -54,32 +58,32 @@ module _ {m : List ℕ} {ps : List ℕ} {L : Lists} {W : View} {hs : List ℕ} {
   at-queue : (a : ℕ) → 1 ≤ count a (queues ps) → lists m a ≡ L a
   at-queue a h = walked a (in-queues ps a h)
 
-  at-own : (p : ℕ) → 1 ≤ count p ps → lists m (p * 32 + 4) ≡ L (p * 32 + 4)
-  at-own p h = walked (p * 32 + 4) (in-own ps p h)
+  at-own : (p : ℕ) → 1 ≤ count p ps → lists m (place p ownQueue) ≡ L (place p ownQueue)
+  at-own p h = walked (place p ownQueue) (in-own ps p h)
 
-  at-mail : (p w : ℕ) → 5 ≤ w → w ≤ 6 → 1 ≤ count p ps → lists m (p * 32 + w) ≡ L (p * 32 + w)
-  at-mail p w u v h = walked (p * 32 + w) (in-q ps p w u v h)
+  at-mail : (p w : ℕ) → 5 ≤ w → w ≤ 6 → 1 ≤ count p ps → lists m (place p w) ≡ L (place p w)
+  at-mail p w u v h = walked (place p w) (in-q ps p w u v h)
 
-  at-grant : (k : ℕ) → k < 32 → lists m (320 + k) ≡ L (320 + k)
-  at-grant k h = walked (320 + k) (in-grant ps k h)
+  at-grant : (k : ℕ) → k < 32 → lists m (grantFor k) ≡ L (grantFor k)
+  at-grant k h = walked (grantFor k) (in-grant ps k h)
 
   stock-is : (a : ℕ) → stock (lists m) a ≡ stock L a
   unfolding stock
-  stock-is a = rw (walked 244 (in-free ps))
+  stock-is a = rw (walked freeList (in-free ps))
 
   pub facts-here : Facts ps (lists m) (view m) g
   facts-here =
       let f = i .facts in
       let r = i .mem .reads in
       let pg = proc-page s in
-      let wf = walked 244 (in-free ps) in
-      let wa = walked 246 (in-asking ps) in
-      let l8 = r .fixed .turn 248 (omega arith) (omega arith) in
-      let l9 = r .fixed .turn 249 (omega arith) (omega arith) in
-      let d = r .fixed .turn 251 (omega arith) (omega arith) in
+      let wf = walked freeList (in-free ps) in
+      let wa = walked pageQueue (in-asking ps) in
+      let l8 = r .fixed .turn runningPage (omega arith) (omega arith) in
+      let l9 = r .fixed .turn runningLabel (omega arith) (omega arith) in
+      let d = r .fixed .turn Map.divider (omega arith) (omega arith) in
       record {
         sep = record {
-          procs = walked 247 (in-procs ps) ∙ s .procs;
+          procs = walked processorList (in-procs ps) ∙ s .procs;
           most = λ z. omega (arith, sums z, s .most z);
           waits = λ z. omega (arith, sums z, s .waits z);
         };
@@ -92,9 +96,9 @@ module _ {m : List ℕ} {ps : List ℕ} {L : Lists} {W : View} {hs : List ℕ} {
           zeros = λ p h. rw (r .words .state p (pg p h)) (f .seats .zeros p h);
           served = λ k h p j.
               let q = int-queue ps k h in
-              let g = rw (at-queue (132 + 2 * k) q) at j in
-              rw (r .words .reason p (pg p (wait-page s (132 + 2 * k) p q g))) (f .seats .served k h p g);
-          asking = λ p j. let g = rw wa at j in rw (r .words .reason p (pg p (wait-page s 246 p (omega arith) g))) (f .seats .asking p g);
+              let g = rw (at-queue (headerAfter k) q) at j in
+              rw (r .words .reason p (pg p (wait-page s (headerAfter k) p q g))) (f .seats .served k h p g);
+          asking = λ p j. let g = rw wa at j in rw (r .words .reason p (pg p (wait-page s pageQueue p (omega arith) g))) (f .seats .asking p g);
           quiet = λ p h z. rw (r .words .reason p (pg p h)) (f .seats .quiet p h (rw (r .words .state p (pg p h)) at z));
         };
         own = λ p h x j. let t = f .own p h x (rw (at-own p h) at j) in record {
@@ -109,7 +113,7 @@ module _ {m : List ℕ} {ps : List ℕ} {L : Lists} {W : View} {hs : List ℕ} {
         granted = record {
           bare = λ p j.
               let c = rw wa at j in
-              let h = wait-page s 246 p (omega arith) c in
+              let h = wait-page s pageQueue p (omega arith) c in
               rw (r .words .label p (pg p h), wf, at-grant (W .label p % 16) (omega arith)) (f .granted .bare p c);
           known = λ k h c n. bearers-is k ∙ f .granted .known k h c (rw (at-grant k h) at n);
         };
@@ -120,7 +124,7 @@ module _ {m : List ℕ} {ps : List ℕ} {L : Lists} {W : View} {hs : List ℕ} {
         runs = record {
           idle = rw (l8, l9) (f .runs .idle);
           listed = rw l8 (f .runs .listed);
-          tag = rw l8 (λ n. let h = pg (W .low 248) (omega (arith, f .runs .listed n)) in l9 ∙ f .runs .tag n ∙ sym (r .words .label (W .low 248) h));
+          tag = rw l8 (λ n. let h = pg (W .low runningPage) (omega (arith, f .runs .listed n)) in l9 ∙ f .runs .tag n ∙ sym (r .words .label (W .low runningPage) h));
         };
         codes = let c = f .codes in record {
           kinds = λ k h. rw (r .fixed .code k h) (c .kinds k h);
@@ -129,13 +133,13 @@ module _ {m : List ℕ} {ps : List ℕ} {L : Lists} {W : View} {hs : List ℕ} {
           last = rw (r .fixed .code 15 (omega arith)) (c .last);
         };
         clock = let c = f .clock in record {
-          c0 = rw (r .fixed .clock 240 (omega arith) (omega arith), d) (c .c0);
-          c1 = rw (r .fixed .clock 241 (omega arith) (omega arith)) (c .c1);
-          c2 = rw (r .fixed .clock 242 (omega arith) (omega arith)) (c .c2);
-          c3 = rw (r .fixed .clock 243 (omega arith) (omega arith)) (c .c3);
+          c0 = rw (r .fixed .clock Map.c0 (omega arith) (omega arith), d) (c .c0);
+          c1 = rw (r .fixed .clock Map.c1 (omega arith) (omega arith)) (c .c1);
+          c2 = rw (r .fixed .clock Map.c2 (omega arith) (omega arith)) (c .c2);
+          c3 = rw (r .fixed .clock Map.c3 (omega arith) (omega arith)) (c .c3);
           divider = rw d (c .divider);
-          line = rw (r .fixed .clock 239 (omega arith) (omega arith)) (c .line);
-          nought = rw (r .fixed .turn 250 (omega arith) (omega arith)) (c .nought);
+          line = rw (r .fixed .clock clockLine (omega arith) (omega arith)) (c .line);
+          nought = rw (r .fixed .turn zeroWord (omega arith) (omega arith)) (c .nought);
         };
         faults = let c = f .faults in record {
           range = rw (r .fixed .next) (c .range);
@@ -153,10 +157,10 @@ module _ {m : List ℕ} {ps : List ℕ} {L : Lists} {W : View} (inv : Inv m ps L
       let f = i .facts in
       let r = i .mem .reads in
       let pg = proc-page (i .facts .sep) in
-      let l8 = r .fixed .turn 248 (omega arith) (omega arith) in
-      let l9 = r .fixed .turn 249 (omega arith) (omega arith) in
+      let l8 = r .fixed .turn runningPage (omega arith) (omega arith) in
+      let l9 = r .fixed .turn runningLabel (omega arith) (omega arith) in
       record {
-        ready = rw l8 (λ n. rw (r .words .state (W .low 248) (pg (W .low 248) (omega (arith, f .runs .listed n)))) (inv .best .ready n));
+        ready = rw l8 (λ n. rw (r .words .state (W .low runningPage) (pg (W .low runningPage) (omega (arith, f .runs .listed n)))) (inv .best .ready n));
         top = λ p h c. rw (r .words .label p (pg p h), l9) (inv .best .top p h (rw (r .words .state p (pg p h)) at c));
       }
 
@@ -171,12 +175,12 @@ module _ {m : List ℕ} {ps : List ℕ} {L : Lists} {W : View} (inv : Inv m ps L
       let u = f .sep in
       together (Judge.clock bytes m ps (lists m)) m ps (lists m) (record {
         listed = λ a h. (list-short u a h, λ x j. listed a h x j);
-        usedOnce = λ z h. let r = range1-of 20 236 z h in omega (arith, u .most z, sums i z, i .all z, page-one z (r .0, omega arith));
+        usedOnce = λ z h. let r = range1-of 20 firstControl z h in omega (arith, u .most z, sums i z, i .all z, page-one z (r .0, omega arith));
         names = λ p h. (f .names .differ p h, let l = f .names .range p h in ((l .name, omega arith), (l .low, l .high)));
         waitingBits = (f .seats .bit, λ z h. u .waits z);
         reasons = (f .seats .served, (f .seats .asking, f .seats .quiet));
         messageWaits = λ p h x j. let t = f .own p h x j in (t .owner, (t .flag, t .none));
-        semaphores = (line-sem, (own-sem, f .sems 245 (omega (arith, asking-once u .here)) ∙ page-sem));
+        semaphores = (line-sem, (own-sem, f .sems freeSemaphore (omega (arith, asking-once u .here)) ∙ page-sem));
         pageWaits = f .granted .bare;
         granted = λ k h n. f .granted .known k h (omega arith) n;
         messages = λ p h. (
@@ -189,23 +193,23 @@ module _ {m : List ℕ} {ps : List ℕ} {L : Lists} {W : View} (inv : Inv m ps L
         zeros = (f .seats .zeros, f .clock .nought);
       }) ((f .clock .c0, (f .clock .c1, (f .clock .c2, f .clock .c3))), (f .clock .divider, f .clock .line))
     where
-      listed : (a : ℕ) → Among ps a → (x : ℕ) → 1 ≤ count x (lists m a) → (236 ≤ x) × (x ≤ 255)
+      listed : (a : ℕ) → Among ps a → (x : ℕ) → 1 ≤ count x (lists m a) → (firstControl ≤ x) × (x ≤ 255)
       listed a h x j = let r = all-pages (facts-here i .sep) a x h j in (r .0, omega arith)
 
-      line-sem : (k : ℕ) → k < 54 → getD m (131 + 2 * k) 0 ≡ less 0 (length (lists m (132 + 2 * k)))
+      line-sem : (k : ℕ) → k < interrupts → getD m (semaphoreAfter k) 0 ≡ less 0 (length (lists m (headerAfter k)))
       line-sem k h =
-          let d : 131 + 2 * k + 1 ≡ 132 + 2 * k = omega arith in
+          let d : semaphoreAfter k + 1 ≡ 132 + 2 * k = omega arith in
           let q = int-queue ps k h in
-          rw (stock-else (lists m) (131 + 2 * k) (omega arith), d) at (facts-here i .sems (131 + 2 * k) (rw d q))
+          rw (stock-else (lists m) (semaphoreAfter k) (omega arith), d) at (facts-here i .sems (semaphoreAfter k) (rw d q))
 
-      own-sem : (p : ℕ) → 1 ≤ count p ps → getD m (p * 32 + 3) 0 ≡ less 0 (length (lists m (p * 32 + 4)))
+      own-sem : (p : ℕ) → 1 ≤ count p ps → word m p ownSemaphore ≡ less 0 (length (lists m (place p ownQueue)))
       own-sem p h =
-          let d : p * 32 + 3 + 1 ≡ p * 32 + 4 = omega arith in
+          let d : place p ownSemaphore + 1 ≡ p * 32 + 4 = omega arith in
           let g = proc-page (facts-here i .sep) p h in
           let q = own-once (facts-here i .sep) p h .here in
-          rw (stock-else (lists m) (p * 32 + 3) (omega arith), d) at (facts-here i .sems (p * 32 + 3) (rw d (omega arith)))
+          rw (stock-else (lists m) (place p ownSemaphore) (omega arith), d) at (facts-here i .sems (place p ownSemaphore) (rw d (omega arith)))
 
-      page-sem : less (stock (lists m) 245) (length (lists m 246)) ≡ less (length (lists m 244)) (length (lists m 246))
+      page-sem : less (stock (lists m) freeSemaphore) (length (lists m pageQueue)) ≡ less (length (lists m freeList)) (length (lists m pageQueue))
       page-sem = rw (stock-page (lists m))
 
   pub inv-judge : judged m ≡ true
@@ -214,11 +218,11 @@ module _ {m : List ℕ} {ps : List ℕ} {L : Lists} {W : View} (inv : Inv m ps L
 
 -- ---- what every later law is about
 pub record WellFormed (m : List ℕ) : Type 0 where
-  pub size : length m ≡ 8192
+  pub size : length m ≡ memorySize
   pub accepted : judged m ≡ true
 
 pub well-formed : {m : List ℕ} {ps : List ℕ} {L : Lists} {W : View} → Inv m ps L W → WellFormed m
 well-formed v = record { size = v .base .mem .size; accepted = inv-judge v }
 
-pub invariant : {m : List ℕ} → WellFormed m → Inv m (lists m 247) (lists m) (view m)
+pub invariant : {m : List ℕ} → WellFormed m → Inv m (lists m processorList) (lists m) (view m)
 invariant {m} w = judge-inv m (w .size) (w .accepted)

@@ -9,6 +9,9 @@ use native.Mathlib.Omega.{arith}
 use lib.ListN.{getD}
 use lib.Dec.{eqb}
 use borrow.Author.Tests.{eqb-true, eqb-false}
+use Rattle.model.specs.Map as Map
+use Rattle.model.specs.Map.{freeSemaphore, headerAfter, interrupts, ownQueue, ownSemaphore, pageQueue, place, processorList, runningPage, semaphoreAfter}
+use Rattle.model.specs.Bytes.{word}
 use Rattle.model.specs.Queue as Queue
 use Rattle.model.specs.Queue.{first}
 use Rattle.model.specs.Wait as Wait
@@ -73,63 +76,63 @@ module _ {m : List ℕ} {ps : List ℕ} {L : Lists} {W : View} {hs : List ℕ} {
           absurd (eqb-false (first (eqb p) (L (a + 1))) p (rw q at e) (first-is p (L (a + 1)) i))
 
   -- ---- where it waits
-  seat-hit : (n : ℕ) → queued m (131 + 2 * n) p ≡ true → seat (suc n) m p ≡ 131 + 2 * n
+  seat-hit : (n : ℕ) → queued m (semaphoreAfter n) p ≡ true → seat (suc n) m p ≡ semaphoreAfter n
   unfolding Wait.seat
   seat-hit n e = rw (e, Wait.seat)
 
-  seat-miss : (n : ℕ) → queued m (131 + 2 * n) p ≡ false → seat (suc n) m p ≡ seat n m p
+  seat-miss : (n : ℕ) → queued m (semaphoreAfter n) p ≡ false → seat (suc n) m p ≡ seat n m p
   unfolding Wait.seat
   seat-miss n e = rw (e, Wait.seat)
 
-  seat-page : queued m 245 p ≡ true → seat 0 m p ≡ 245
+  seat-page : queued m freeSemaphore p ≡ true → seat 0 m p ≡ freeSemaphore
   unfolding Wait.seat
   seat-page e = rw (e, Wait.seat)
 
-  seat-own : queued m 245 p ≡ false → seat 0 m p ≡ p * 32 + 3
+  seat-own : queued m freeSemaphore p ≡ false → seat 0 m p ≡ place p ownSemaphore
   unfolding Wait.seat
   seat-own e = rw (e, Wait.seat)
 
   record Found (n t : ℕ) : Type 0 where
     is : 1 ≤ count (t + 1) (queues ps)
-    line : queued m t p ≡ false → (k : ℕ) → k < n → count p (L (132 + 2 * k)) ≡ 0
-    asking : queued m t p ≡ false → count p (L 246) ≡ 0
-    own : queued m t p ≡ false → count p (L (p * 32 + 4)) ≡ 0
+    line : queued m t p ≡ false → (k : ℕ) → k < n → count p (L (headerAfter k)) ≡ 0
+    asking : queued m t p ≡ false → count p (L pageQueue) ≡ 0
+    own : queued m t p ≡ false → count p (L (place p ownQueue)) ≡ 0
 
   no : (t u : ℕ) {A : Type 0} → t ≡ u → queued m u p ≡ true → queued m t p ≡ false → A
   no t u e h f = let z : _≡_ {A = ℕ} 0 1 = cc in absurd (omega arith)
 
-  found : (n : ℕ) → n ≤ 54 → Found n (seat n m p)
-  found zero l = go (queued m 245 p) refl
+  found : (n : ℕ) → n ≤ interrupts → Found n (seat n m p)
+  found zero l = go (queued m freeSemaphore p) refl
     where
-      go : (c : Bool) → queued m 245 p ≡ c → Found 0 (seat 0 m p)
+      go : (c : Bool) → queued m freeSemaphore p ≡ c → Found 0 (seat 0 m p)
       go true e = rw (seat-page e) (record {
         is = page-sem ps;
-        line = λ f k h. no 245 245 refl e f;
-        asking = λ f. no 245 245 refl e f;
-        own = λ f. no 245 245 refl e f;
+        line = λ f k h. no freeSemaphore freeSemaphore refl e f;
+        asking = λ f. no freeSemaphore freeSemaphore refl e f;
+        own = λ f. no freeSemaphore freeSemaphore refl e f;
       })
       go false e =
-          let d : p * 32 + 3 + 1 ≡ p * 32 + 4 = omega arith in
+          let d : place p ownSemaphore + 1 ≡ p * 32 + 4 = omega arith in
           rw (seat-own e) (record {
             is = own-sem s p hp;
             line = λ f k h. absurd (omega arith);
-            asking = λ f. queued-out 245 (page-sem ps) e;
-            own = λ f. rw d at (queued-out (p * 32 + 3) (own-sem s p hp) f);
+            asking = λ f. queued-out freeSemaphore (page-sem ps) e;
+            own = λ f. rw d at (queued-out (place p ownSemaphore) (own-sem s p hp) f);
           })
-  found (suc n) l = go (queued m (131 + 2 * n) p) refl (found n (omega arith))
+  found (suc n) l = go (queued m (semaphoreAfter n) p) refl (found n (omega arith))
     where
-      at1 : 131 + 2 * n + 1 ≡ 132 + 2 * n
+      at1 : semaphoreAfter n + 1 ≡ headerAfter n
       at1 = omega arith
 
-      seat-n : 1 ≤ count (131 + 2 * n + 1) (queues ps)
+      seat-n : 1 ≤ count (semaphoreAfter n + 1) (queues ps)
       seat-n = int-sem ps n (omega arith)
 
-      go : (c : Bool) → queued m (131 + 2 * n) p ≡ c → Found n (seat n m p) → Found (suc n) (seat (suc n) m p)
+      go : (c : Bool) → queued m (semaphoreAfter n) p ≡ c → Found n (seat n m p) → Found (suc n) (seat (suc n) m p)
       go true e ih = rw (seat-hit n e) (record {
         is = seat-n;
-        line = λ f k h. no (131 + 2 * n) (131 + 2 * n) refl e f;
-        asking = λ f. no (131 + 2 * n) (131 + 2 * n) refl e f;
-        own = λ f. no (131 + 2 * n) (131 + 2 * n) refl e f;
+        line = λ f k h. no (semaphoreAfter n) (semaphoreAfter n) refl e f;
+        asking = λ f. no (semaphoreAfter n) (semaphoreAfter n) refl e f;
+        own = λ f. no (semaphoreAfter n) (semaphoreAfter n) refl e f;
       })
       go false e ih = rw (seat-miss n e) (record {
         is = ih .is;
@@ -138,35 +141,35 @@ module _ {m : List ℕ} {ps : List ℕ} {L : Lists} {W : View} {hs : List ℕ} {
         own = ih .own;
       })
         where
-          lines : queued m (seat n m p) p ≡ false → (k : ℕ) → k < suc n → (k ≡ n) ⊎ (k ≢ n) → count p (L (132 + 2 * k)) ≡ 0
-          lines f k h (inl d) = rw d (rw at1 at (queued-out (131 + 2 * n) seat-n e))
+          lines : queued m (seat n m p) p ≡ false → (k : ℕ) → k < suc n → (k ≡ n) ⊎ (k ≢ n) → count p (L (headerAfter k)) ≡ 0
+          lines f k h (inl d) = rw d (rw at1 at (queued-out (semaphoreAfter n) seat-n e))
           lines f k h (inr d) = ih .line f k (omega arith)
 
-  pub seat-is : 1 ≤ count (seat 54 m p + 1) (queues ps)
-  seat-is = found 54 (omega arith) .is
+  pub seat-is : 1 ≤ count (seat interrupts m p + 1) (queues ps)
+  seat-is = found interrupts (omega arith) .is
 
   -- it waits nowhere
-  pub seat-none : queued m (seat 54 m p) p ≡ false → sum p L (queues ps) ≡ 0
+  pub seat-none : queued m (seat interrupts m p) p ≡ false → sum p L (queues ps) ≡ 0
   seat-none f = sum-pos p L (queues ps) (λ a h. none a h (queues-pos ps a (proc-page s) h))
     where
-      t : Found 54 (seat 54 m p)
-      t = found 54 (omega arith)
+      t : Found interrupts (seat interrupts m p)
+      t = found interrupts (omega arith)
 
       none : (a : ℕ) → 1 ≤ count a (queues ps) → 1 ≤ a → count p (L a) ≡ 0
       none a h i = let d : a - 1 + 1 ≡ a = omega arith in rw (← d) (go (a - 1) (seat-of ps (a - 1) (rw d h)))
         where
-          own-wait : (y : ℕ) → 1 ≤ count y ps → (count p (L (y * 32 + 4)) ≡ 0) ⊎ (1 ≤ count p (L (y * 32 + 4))) → count p (L (y * 32 + 4)) ≡ 0
+          own-wait : (y : ℕ) → 1 ≤ count y ps → (count p (L (place y ownQueue)) ≡ 0) ⊎ (1 ≤ count p (L (place y ownQueue))) → count p (L (place y ownQueue)) ≡ 0
           own-wait y u (inl z) = z
           own-wait y u (inr j) = let o = b .facts .own y u p j .owner in rw (← o) (t .own f)
 
           go : (a : ℕ) → Seat ps a → count p (L (a + 1)) ≡ 0
           go a (line k u e) = let d : a + 1 ≡ 132 + 2 * k = omega arith in rw d (t .line f k u)
           go a (page e) = rw e (t .asking f)
-          go a (own y u e) = let d : a + 1 ≡ y * 32 + 4 = omega arith in rw d (own-wait y u (zero-or (count p (L (y * 32 + 4)))))
+          go a (own y u e) = let d : a + 1 ≡ y * 32 + 4 = omega arith in rw d (own-wait y u (zero-or (count p (L (place y ownQueue)))))
 
 -- ---- what the deleted one leaves behind: its page and its mail, in hand, and the chains of its mail
 pub record Letters (m : List ℕ) (xs : List ℕ) : Type 0 where
-  pub at : (x : ℕ) → 1 ≤ count x xs → Message (getD m (x * 32 + 1) 0) (getD m (x * 32 + 2) 0)
+  pub at : (x : ℕ) → 1 ≤ count x xs → Message (word m x 1) (word m x 2)
 
 pub record Bag (m : List ℕ) (p : ℕ) (g : ℕ) : Type 0 where
   pub procs : List ℕ
@@ -175,14 +178,14 @@ pub record Bag (m : List ℕ) (p : ℕ) (g : ℕ) : Type 0 where
   pub q1 : List ℕ
   pub q2 : List ℕ
   pub base : Base m procs lists view (q2 ++ q1 ++ p ∷ []) g
-  pub chain1 : Chain m 0 (p * 32 + 5) q1
-  pub chain2 : Chain m 0 (p * 32 + 6) q2
+  pub chain1 : Chain m 0 (place p Map.q1) q1
+  pub chain2 : Chain m 0 (place p Map.q2) q2
   pub letters1 : Letters m q1
   pub letters2 : Letters m q2
 
 -- it waits nowhere: Z is what the memory holds, X what the sentences are about, and they differ at its page at most
 module _ (xs : List ℕ) (p : ℕ) (ys : List ℕ) {m : List ℕ} {K : Lists} {Z X : View} (x : Mem m (xs ++ p ∷ ys) K Z) (f : Facts (xs ++ p ∷ ys) K X 32)
-    (idle : sum p K (queues (xs ++ p ∷ ys)) ≡ 0) (runs : X .low 248 ≢ p) (off : Off p X Z) where
+    (idle : sum p K (queues (xs ++ p ∷ ys)) ≡ 0) (runs : X .low runningPage ≢ p) (off : Off p X Z) where
   sf : Sep (xs ++ p ∷ ys) K
   sf = f .sep
 
@@ -202,22 +205,22 @@ module _ (xs : List ℕ) (p : ℕ) (ys : List ℕ) {m : List ℕ} {K : Lists} {Z
     entry = off .entry;
   }
 
-  mem-Y : Mem (leave m 247 1 p) (xs ++ ys) (upd K 247 (xs ++ ys)) Y
+  mem-Y : Mem (leave m processorList 1 p) (xs ++ ys) (upd K processorList (xs ++ ys)) Y
   mem-Y = shrink-mem xs p ys sf x
 
-  facts-Y : Facts (xs ++ ys) (upd K 247 (xs ++ ys)) Y (X .label p % 16)
+  facts-Y : Facts (xs ++ ys) (upd K processorList (xs ++ ys)) Y (X .label p % 16)
   facts-Y = facts-off p (gone xs p ys sf) (λ a h d.
-      rw (upd-other K 247 a (xs ++ ys) d)
+      rw (upd-other K processorList a (xs ++ ys) d)
       (omega (
         arith,
-        sum-two p K 247 a (uses (xs ++ p ∷ ys)) (λ e. d (sym e)) (omega arith) (omega (arith, h, uses-more xs p ys a)),
+        sum-two p K processorList a (uses (xs ++ p ∷ ys)) (λ e. d (sym e)) (omega arith) (omega (arith, h, uses-more xs p ys a)),
         sf .most p,
         one-le p,
         ap (count p) (sf .procs),
         in-P xs p ys,
       ))) off-Y (shrink-facts xs p ys sf f idle runs)
 
-  letters : (w : ℕ) → 5 ≤ w → w ≤ 6 → Letters (leave m 247 1 p) (K (p * 32 + w))
+  letters : (w : ℕ) → 5 ≤ w → w ≤ 6 → Letters (leave m processorList 1 p) (K (place p w))
   letters w u v = record {
     at = λ z h.
         let t = q-free sf p w z u v (in-P xs p ys) h in
@@ -227,13 +230,13 @@ module _ (xs : List ℕ) (p : ℕ) (ys : List ℕ) {m : List ℕ} {K : Lists} {Z
         (f .mail p w (in-P xs p ys) u v z h);
   }
 
-  left-bag : ((z : ℕ) → sum z K (uses (xs ++ p ∷ ys)) ≡ one z) → Bag (leave m 247 1 p) p (X .label p % 16)
+  left-bag : ((z : ℕ) → sum z K (uses (xs ++ p ∷ ys)) ≡ one z) → Bag (leave m processorList 1 p) p (X .label p % 16)
   left-bag all = record {
     procs = xs ++ ys;
-    lists = upd K 247 (xs ++ ys);
+    lists = upd K processorList (xs ++ ys);
     view = Y;
-    q1 = K (p * 32 + 5);
-    q2 = K (p * 32 + 6);
+    q1 = K (place p Map.q1);
+    q2 = K (place p Map.q2);
     base = record {
       mem = mem-Y;
       facts = facts-Y;
@@ -242,9 +245,9 @@ module _ (xs : List ℕ) (p : ℕ) (ys : List ℕ) {m : List ℕ} {K : Lists} {Z
             arith,
             shrunk xs p ys sf z,
             all z,
-            count-append z (K (p * 32 + 6) ++ K (p * 32 + 5)) (p ∷ []),
-            count-append z (K (p * 32 + 6))
-                (K (p * 32 + 5)),
+            count-append z (K (place p Map.q2) ++ K (place p Map.q1)) (p ∷ []),
+            count-append z (K (place p Map.q2))
+                (K (place p Map.q1)),
           );
     };
     chain1 = mail-left xs p ys sf x 5 (omega arith) (omega arith);
@@ -254,7 +257,7 @@ module _ (xs : List ℕ) (p : ℕ) (ys : List ℕ) {m : List ℕ} {K : Lists} {Z
   }
 
 -- ---- the model's step
-unlisted-in : (xs : List ℕ) (p : ℕ) (ys : List ℕ) {m : List ℕ} {L : Lists} {W : View} → Base m (xs ++ p ∷ ys) L W [] 32 → W .low 248 ≢ p
+unlisted-in : (xs : List ℕ) (p : ℕ) (ys : List ℕ) {m : List ℕ} {L : Lists} {W : View} → Base m (xs ++ p ∷ ys) L W [] 32 → W .low runningPage ≢ p
     → Bag (unlisted m p) p (W .label p % 16)
 unfolding Delete.unlisted Wait.leaveWait Wait.unqueue
 unlisted-in xs p ys {m} {L} {W} b runs = go (queued m t p) refl
@@ -266,12 +269,12 @@ unlisted-in xs p ys {m} {L} {W} b runs = go (queued m t p) refl
     hp = in-P xs p ys
 
     t : ℕ
-    t = seat 54 m p
+    t = seat interrupts m p
 
-    h : 1 ≤ count (seat 54 m p + 1) (queues (xs ++ p ∷ ys))
+    h : 1 ≤ count (seat interrupts m p + 1) (queues (xs ++ p ∷ ys))
     h = seat-is b p hp
 
-    go : (c : Bool) → queued m (seat 54 m p) p ≡ c → Bag (unlisted m p) p (W .label p % 16)
+    go : (c : Bool) → queued m (seat interrupts m p) p ≡ c → Bag (unlisted m p) p (W .label p % 16)
     go false e =
         rw e (left-bag xs p ys (b .mem) (b .facts) (seat-none b p hp e) runs
         (record {
@@ -288,7 +291,7 @@ unlisted-in xs p ys {m} {L} {W} b runs = go (queued m t p) refl
         (λ z. omega (arith, b .all z)))
     go true e =
         let sp = b .facts .sep in
-        let a = seat 54 m p in
+        let a = seat interrupts m p in
         let r = split-at-page p (L (a + 1)) (queued-in b p hp a h e) in
         let x1 = sem-mem sp (b .mem) a ((W .sem a + 1) % 256) h in
         let x2 = leave-mem sp x1 (a + 1) (seat-head sp a h) (λ d. not-procs sp a h (sym d)) p (r .0) (r .1) (r .2) in
@@ -307,6 +310,6 @@ unlisted-in xs p ys {m} {L} {W} b runs = go (queued m t p) refl
         })
         (λ z. omega (arith, b .all z, sum-skip z L (a + 1) (r .0 ++ r .1) (uses (xs ++ p ∷ ys)) (queue-once sp a h .away))))
 
-pub unlisted-bag : {m : List ℕ} {ps : List ℕ} {L : Lists} {W : View} (p : ℕ) → 1 ≤ count p ps → W .low 248 ≢ p → Base m ps L W [] 32
+pub unlisted-bag : {m : List ℕ} {ps : List ℕ} {L : Lists} {W : View} (p : ℕ) → 1 ≤ count p ps → W .low runningPage ≢ p → Base m ps L W [] 32
     → Bag (unlisted m p) p (W .label p % 16)
 unlisted-bag {ps = ps} p hp runs b = let r = split-at-page p ps hp in unlisted-in (r .0) p (r .1) (rw (r .2) at b) runs

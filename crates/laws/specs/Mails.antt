@@ -8,6 +8,10 @@ use native.Mathlib.Omega.{arith}
 use lib.ListN.{length, getD, set, length-set}
 use lib.Dec.{eqb}
 use borrow.Author.Tests.{eqb-false}
+use Rattle.model.specs.Map as Map
+use Rattle.model.specs.Map.{freeList, freeSemaphore, label, longest, memorySize, note, ownSemaphore, place, processorList, q1, q2, text}
+use Rattle.model.specs.Address.{wrapped}
+use Rattle.model.specs.Bytes.{name, running, word}
 use Rattle.model.specs.Address as Address
 use Rattle.model.specs.Address.{guarded, clear}
 use Rattle.model.specs.Queue as Queue
@@ -56,33 +60,33 @@ module _ {m : List ℕ} {ps : List ℕ} {L : Lists} {W : View} {hs : List ℕ} {
   pg : Page p
   pg = proc-page (b .facts .sep) p h
 
-  pub mail-chain : Chain m 0 (p * 32 + w) (L (p * 32 + w))
-  mail-chain = chain0 (b .facts .sep) (b .mem) (p * 32 + w) (in-q ps p w u v h, grant-high (p * 32 + w) (omega (arith, pg))) (omega (arith, pg))
+  pub mail-chain : Chain m 0 (place p w) (L (place p w))
+  mail-chain = chain0 (b .facts .sep) (b .mem) (place p w) (in-q ps p w u v h, grant-high (place p w) (omega (arith, pg))) (omega (arith, pg))
 
-  pub mail-queue : queue m (p * 32 + w) ≡ L (p * 32 + w)
-  mail-queue = walk-chain 20 m 0 (p * 32 + w) (L (p * 32 + w)) mail-chain (list-short (b .facts .sep) (p * 32 + w) (in-q ps p w u v h))
+  pub mail-queue : queue m (place p w) ≡ L (place p w)
+  mail-queue = walk-chain 20 m 0 (place p w) (L (place p w)) mail-chain (list-short (b .facts .sep) (place p w) (in-q ps p w u v h))
 
-  pub mail-some : (x : ℕ) → 1 ≤ count x (L (p * 32 + w)) → x ≢ 0
-  mail-some x i = let t = all-pages (b .facts .sep) (p * 32 + w) x (in-q ps p w u v h) i in omega arith
+  pub mail-some : (x : ℕ) → 1 ≤ count x (L (place p w)) → x ≢ 0
+  mail-some x i = let t = all-pages (b .facts .sep) (place p w) x (in-q ps p w u v h) i in omega arith
 
 -- "first match in Q1 to the end of Q2": message q
-pub move-base : {m : List ℕ} {ps : List ℕ} {L : Lists} {W : View} {hs : List ℕ} {g : ℕ} (p q : ℕ) → 1 ≤ count p ps → 1 ≤ count q (L (p * 32 + 5))
+pub move-base : {m : List ℕ} {ps : List ℕ} {L : Lists} {W : View} {hs : List ℕ} {g : ℕ} (p q : ℕ) → 1 ≤ count p ps → 1 ≤ count q (L (place p q1))
     → Base m ps L W hs g → (K : Lists) × Base (move m p q) ps K W hs g
 unfolding Mail.move
 move-base {m} {ps} {L} {W} p q h i b =
-    let t = split-at-page q (L (p * 32 + 5)) i in
+    let t = split-at-page q (L (place p q1)) i in
     let b1 = take-mail b p 5 q (t .0) (t .1) h (omega arith) (omega arith) (t .2) in
-    let K = upd L (p * 32 + 5) (t .0 ++ t .1) in (
-      upd K (p * 32 + 6) (K (p * 32 + 6) ++ q ∷ []),
+    let K = upd L (place p q1) (t .0 ++ t .1) in (
+      upd K (place p q2) (K (place p q2) ++ q ∷ []),
       give-mail b1 p 6 h (omega arith) (omega arith) (b .facts .mail p 5 h (omega arith) (omega arith) q i) (λ x j e. absurd (omega arith)),
     )
 
 -- the first of Q1
 pub first-mail : {m : List ℕ} {ps : List ℕ} {L : Lists} {W : View} {hs : List ℕ} {g : ℕ} → Base m ps L W hs g → (p : ℕ) → 1 ≤ count p ps
-    → getD m (p * 32 + 5) 0 ≢ 0 → (xs : List ℕ) × (L (p * 32 + 5) ≡ getD m (p * 32 + 5) 0 ∷ xs)
-first-mail {m} {L = L} b p h d = go (L (p * 32 + 5)) refl (mail-chain b p 5 h (omega arith) (omega arith))
+    → word m p q1 ≢ 0 → (xs : List ℕ) × (L (place p q1) ≡ word m p q1 ∷ xs)
+first-mail {m} {L = L} b p h d = go (L (place p q1)) refl (mail-chain b p 5 h (omega arith) (omega arith))
   where
-    go : (xs : List ℕ) → L (p * 32 + 5) ≡ xs → Chain m 0 (p * 32 + 5) (L (p * 32 + 5)) → (ys : List ℕ) × (L (p * 32 + 5) ≡ getD m (p * 32 + 5) 0 ∷ ys)
+    go : (xs : List ℕ) → L (place p q1) ≡ xs → Chain m 0 (place p q1) (L (place p q1)) → (ys : List ℕ) × (L (place p q1) ≡ word m p q1 ∷ ys)
     go [] e c = absurd (d (rw e at c))
     go (x ∷ xs) e c = let z = rw e at c in (xs, rw (z .0) e)
 
@@ -92,16 +96,16 @@ pub test-base : {m : List ℕ} {ps : List ℕ} {L : Lists} {W : View} {hs : List
 test-base {m} {ps} {L} {W} {hs} {g} p n f h b =
     test-kept (λ x. (K : Lists) × Base x ps K W hs g) p (λ x t d.
     let r = first-mail (t .1) p h d in
-    move-base p (getD x (p * 32 + 5) 0) h (rw (r .1) (omega (arith, hit-self (getD x (p * 32 + 5) 0)))) (t .1)) 20 m n f (L, b)
+    move-base p (word x p q1) h (rw (r .1) (omega (arith, hit-self (word x p q1)))) (t .1)) 20 m n f (L, b)
 
 -- ---- RME writes to unprotected words
-pub clear-at : (n a : ℕ) → clear n a ≡ true → (i : ℕ) → i < n → guarded ((a + i) % 8192) ≡ false
+pub clear-at : (n a : ℕ) → clear n a ≡ true → (i : ℕ) → i < n → guarded (wrapped a i) ≡ false
 unfolding Address.clear
 clear-at zero a h i l = absurd (omega arith)
-clear-at (suc n) a h i l = go (guarded ((a + n) % 8192)) refl (hit-or i n) (clear-at n a)
+clear-at (suc n) a h i l = go (guarded (wrapped a n)) refl (hit-or i n) (clear-at n a)
   where
-    go : (c : Bool) → guarded ((a + n) % 8192) ≡ c → (i ≡ n) ⊎ (i ≢ n) → (clear n a ≡ true → (i : ℕ) → i < n → guarded ((a + i) % 8192) ≡ false)
-        → guarded ((a + i) % 8192) ≡ false
+    go : (c : Bool) → guarded (wrapped a n) ≡ c → (i ≡ n) ⊎ (i ≢ n) → (clear n a ≡ true → (i : ℕ) → i < n → guarded (wrapped a i) ≡ false)
+        → guarded (wrapped a i) ≡ false
     go true e d ih = let k : clear (suc n) a ≡ false = rw (e, Address.clear) in let z : _≡_ {A = Bool} true false = sym h ∙ k in cc
     go false e (inl d) ih = rw d e
     go false e (inr d) ih = let k : clear (suc n) a ≡ clear n a = rw (e, Address.clear) in ih (sym k ∙ h) i (omega arith)
@@ -109,72 +113,72 @@ clear-at (suc n) a h i l = go (guarded ((a + n) % 8192)) refl (hit-or i n) (clea
 copy-size : (n : ℕ) (m : List ℕ) (a b : ℕ) → length (copy n m a b) ≡ length m
 unfolding Address.copy
 copy-size zero m a b = refl
-copy-size (suc n) m a b = copy-size n (set m b (getD m a 0)) ((a + 1) % 8192) ((b + 1) % 8192) ∙ simp length-set
+copy-size (suc n) m a b = copy-size n (set m b (getD m a 0)) (wrapped a 1) (wrapped b 1) ∙ simp length-set
 
 -- three words and the text: every other word stays
-pub out-far : (m : List ℕ) (q a c : ℕ) → c < 8192 → ((i : ℕ) → i < 3 + getD m (q * 32 + 2) 0 % 128 → c ≢ (a + i) % 8192)
+pub out-far : (m : List ℕ) (q a c : ℕ) → c < memorySize → ((i : ℕ) → i < 3 + word m q Map.size % 128 → c ≢ wrapped a i)
     → getD (copyOut m q a) c 0 ≡ getD m c 0
 unfolding Mail.copyOut
 out-far m q a c u f =
-    let n = getD m (q * 32 + 2) 0 % 128 in
-    let m1 = set m a (getD m (q * 32 + 1) 0 / 16) in
-    let m2 = set m1 ((a + 1) % 8192) (getD m (q * 32 + 1) 0 % 16) in
+    let n = word m q Map.size % 128 in
+    let m1 = set m a (word m q note / 16) in
+    let m2 = set m1 (wrapped a 1) (word m q note % 16) in
     let f0 = f 0 (omega arith) in
-    copy-far n (set m2 ((a + 2) % 8192) n) (q * 32 + 3) ((a + 3) % 8192) c (omega arith)
-    (λ i l. let d : ((a + 3) % 8192 + i) % 8192 ≡ (a + (3 + i)) % 8192 = omega arith in rw d (f (3 + i) (omega arith)))
-    ∙ other m2 ((a + 2) % 8192) _ c (f 2 (omega arith)) ∙ other m1 ((a + 1) % 8192) _ c (f 1 (omega arith)) ∙ other m a _ c (λ z. f0 (omega arith))
+    copy-far n (set m2 (wrapped a 2) n) (place q text) (wrapped a 3) c (omega arith)
+    (λ i l. let d : (wrapped a 3 + i) % memorySize ≡ (a + (3 + i)) % memorySize = omega arith in rw d (f (3 + i) (omega arith)))
+    ∙ other m2 (wrapped a 2) _ c (f 2 (omega arith)) ∙ other m1 (wrapped a 1) _ c (f 1 (omega arith)) ∙ other m a _ c (λ z. f0 (omega arith))
 
-pub out-kept : (m : List ℕ) (q a : ℕ) → clear (3 + getD m (q * 32 + 2) 0 % 128) a ≡ true → Kept m (copyOut m q a)
+pub out-kept : (m : List ℕ) (q a : ℕ) → clear (3 + word m q Map.size % 128) a ≡ true → Kept m (copyOut m q a)
 unfolding Mail.copyOut
 out-kept m q a h = record {
-  size = copy-size (getD m (q * 32 + 2) 0 % 128) _ (q * 32 + 3) ((a + 3) % 8192) ∙ simp length-set;
+  size = copy-size (word m q Map.size % 128) _ (place q text) (wrapped a 3) ∙ simp length-set;
   fixed = λ c l u. out-far m q a c (omega arith) (λ i k e. at i k .between c l u (sym e));
-  words = λ p j g l. out-far m q a (p * 32 + j) (omega (arith, g)) (λ i k. omega (arith, g, at i k .below));
-  state = λ p g. out-far m q a (p * 32 + 12) (omega (arith, g)) (λ i k. omega (arith, g, at i k .below));
+  words = λ p j g l. out-far m q a (place p j) (omega (arith, g)) (λ i k. omega (arith, g, at i k .below));
+  state = λ p g. out-far m q a (place p Map.state) (omega (arith, g)) (λ i k. omega (arith, g, at i k .below));
 }
   where
-    at : (i : ℕ) → i < 3 + getD m (q * 32 + 2) 0 % 128 → Open ((a + i) % 8192)
-    at i l = clear-open ((a + i) % 8192) (clear-at (3 + getD m (q * 32 + 2) 0 % 128) a h i l)
+    at : (i : ℕ) → i < 3 + word m q Map.size % 128 → Open (wrapped a i)
+    at i l = clear-open (wrapped a i) (clear-at (3 + word m q Map.size % 128) a h i l)
 
 -- ---- the instructions, of a well-formed memory where someone runs
-module _ {m : List ℕ} (w : WellFormed m) (d : getD m 248 0 ≢ 0) where
+module _ {m : List ℕ} (w : WellFormed m) (d : running m ≢ 0) where
   open Busy (busy w d) using (base as b, runs as hr, ready)
 
   abbrev r : ℕ
-  r = getD m 248 0
+  r = running m
 
-  idle : getD m (r * 32 + 12) 0 % 128 / 64 ≡ 0
+  idle : word m r Map.state % 128 / 64 ≡ 0
   idle = omega (arith, ready)
 
   -- "with none, they wait in the page queue, LR staying"
-  pub waits-for-page : lists m 244 ≡ [] → length (lists m (320 + getD m (r * 32 + 7) 0 % 16)) ≡ 0 → Fine (Model.waitsForPage m)
+  pub waits-for-page : lists m freeList ≡ [] → length (lists m (320 + name m r)) ≡ 0 → Fine (Model.waitsForPage m)
   unfolding Operate.waitsForPage
-  waits-for-page f g = waits-fine b 245 0 d (page-sem (lists m 247)) idle (page-fit (b .facts .sep) f g)
+  waits-for-page f g = waits-fine b freeSemaphore 0 d (page-sem (lists m processorList)) idle (page-fit (b .facts .sep) f g)
 
-  posted-fine : (n f a l len q : ℕ) (m1 : List ℕ) → 1 ≤ n → n ≤ 15 → 1 ≤ f → f ≤ 7 → l ≤ 29 → Gave m1 (lists m 247) (q ∷ []) 32 (view m)
+  posted-fine : (n f a l len q : ℕ) (m1 : List ℕ) → 1 ≤ n → n ≤ 15 → 1 ≤ f → f ≤ 7 → l ≤ longest → Gave m1 (lists m processorList) (q ∷ []) 32 (view m)
       → Fine (Model.done (Model.posted m1 q n f a l) len)
   unfolding Operate.posted
   posted-fine n f a l len q m1 n1 n2 f1 f2 l2 t = go (eqb (pageOf m1 n) 0) refl
     where
-      run : getD m1 248 0 ≡ getD m 248 0
+      run : running m1 ≡ running m
       run = running-same b t
 
-      in1 : 1 ≤ count (getD m1 248 0) (lists m 247)
+      in1 : 1 ≤ count (running m1) (lists m processorList)
       in1 = rw run hr
 
-      named : Label (getD m1 (getD m1 248 0 * 32 + 7) 0)
-      named = label-in (t .base) (getD m1 248 0) in1
+      named : Label (word m1 (running m1) label)
+      named = label-in (t .base) (running m1) in1
 
       go : (c : Bool) → eqb (pageOf m1 n) 0 ≡ c → Fine (Model.done (Model.posted m1 q n f a l) len)
-      go true e = rw e (done-fine (notice-base (t .base) n f (getD m1 248 0) n1 n2 f1 f2 in1 .base) len)
+      go true e = rw e (done-fine (notice-base (t .base) n f (running m1) n1 n2 f1 f2 in1 .base) len)
       go false e =
-          rw e (done-fine (message-base (t .base) f ((a + 1) % 8192) l (pageOf m1 n) f1 f2 l2 named (named-in (t .base) n
+          rw e (done-fine (message-base (t .base) f (wrapped a 1) l (pageOf m1 n) f1 f2 l2 named (named-in (t .base) n
           (eqb-false (pageOf m1 n) 0 e)) .base) len)
 
-  sent-fine : (n f a l len : ℕ) → 1 ≤ n → n ≤ 15 → 1 ≤ f → f ≤ 7 → l ≤ 29 → Fine (Model.sent m n f a l len)
+  sent-fine : (n f a l len : ℕ) → 1 ≤ n → n ≤ 15 → 1 ≤ f → f ≤ 7 → l ≤ longest → Fine (Model.sent m n f a l len)
   sent-fine n f a l len n1 n2 f1 f2 l2 = go (take-page r hr b)
     where
-      go : Takes m r (lists m 247) (lists m) (view m) [] 32 → Fine (Model.sent m n f a l len)
+      go : Takes m r (lists m processorList) (lists m) (view m) [] 32 → Fine (Model.sent m n f a l len)
       go (gets q m1 e z t k) = sent-each m Fine e n f a l len (λ y. absurd (z y)) (λ y. posted-fine n f a l len q m1 n1 n2 f1 f2 l2 t)
       go (lacks e f2 g2) = sent-each m Fine e n f a l len (λ y. waits-for-page f2 g2) (λ y. absurd (y refl))
 
@@ -183,14 +187,14 @@ module _ {m : List ℕ} (w : WellFormed m) (d : getD m 248 0 ≢ 0) where
       sme-each (bad w d) n f a len (λ g. sent-fine n f a (getD m a 0) len (g .name) (omega arith) (g .flag) (omega arith) (g .length))
 
   -- what a search in Q1 or Q2 of the running one gives
-  found-in : (k n f : ℕ) → 5 ≤ k → k ≤ 6 → first (matches m n f) (queue m (r * 32 + k)) ≢ 0
-      → 1 ≤ count (first (matches m n f) (queue m (r * 32 + k))) (lists m (r * 32 + k))
+  found-in : (k n f : ℕ) → 5 ≤ k → k ≤ 6 → first (matches m n f) (queue m (place r k)) ≢ 0
+      → 1 ≤ count (first (matches m n f) (queue m (place r k))) (lists m (place r k))
   found-in k n f u v z =
       let q = mail-queue b r k hr u v in
-      rw q (first-in (matches m n f) (lists m (r * 32 + k)) (rw q at z) .0)
+      rw q (first-in (matches m n f) (lists m (place r k)) (rw q at z) .0)
 
   -- who waits for a message waits as its own wait must be
-  pub wnm-fit : (n f : ℕ) → f < 8 → Model.inQ1 m n f ≡ 0 → Fit (lists m 247) (lists m) (view m) (r * 32 + 3) r (n * 16 + f)
+  pub wnm-fit : (n f : ℕ) → f < 8 → Model.inQ1 m n f ≡ 0 → Fit (lists m processorList) (lists m) (view m) (place r ownSemaphore) r (n * 16 + f)
   unfolding Mail.matches
   wnm-fit n f hf z = let pg = proc-page (b .facts .sep) r hr in record {
     line = λ k h c. absurd (omega arith);
@@ -198,13 +202,13 @@ module _ {m : List ℕ} (w : WellFormed m) (d : getD m 248 0 ≢ 0) where
     own = λ y h c. own z y c;
   }
     where
-      none : first (matches m n f) (queue m (r * 32 + 5)) ≡ 0 → (q : ℕ) → 1 ≤ count q (lists m (r * 32 + 5)) → fits n f (getD m (q * 32 + 1) 0) ≡ false
+      none : first (matches m n f) (queue m (place r q1)) ≡ 0 → (q : ℕ) → 1 ≤ count q (lists m (place r q1)) → fits n f (word m q note) ≡ false
       none e q h =
-          first-none (matches m n f) (lists m (r * 32 + 5)) (mail-some b r 5 hr (omega arith) (omega arith))
+          first-none (matches m n f) (lists m (place r q1)) (mail-some b r 5 hr (omega arith) (omega arith))
           (rw (mail-queue b r 5 hr (omega arith) (omega arith)) at e) q h
 
-      own : first (matches m n f) (queue m (r * 32 + 5)) ≡ 0 → (y : ℕ) → r * 32 + 3 ≡ y * 32 + 3
-          → Waits (n * 16 + f) (λ q. getD m (q * 32 + 1) 0) (lists m (y * 32 + 5)) y r
+      own : first (matches m n f) (queue m (place r q1)) ≡ 0 → (y : ℕ) → place r ownSemaphore ≡ place y 3
+          → Waits (n * 16 + f) (λ q. word m q note) (lists m (place y q1)) y r
       own z y e =
           let t : y ≡ r = omega arith in
           let c1 : (n * 16 + f) / 16 ≡ n = omega arith in
@@ -213,14 +217,14 @@ module _ {m : List ℕ} (w : WellFormed m) (d : getD m 248 0 ≢ 0) where
 
   pub wnm-fine : (n f len : ℕ) → f < 8 → Fine (Model.wnm m n f len)
   wnm-fine n f len hf =
-      wnm-each m Fine n f len (λ z. waits-fine b (r * 32 + 3) (n * 16 + f) d (own-sem (b .facts .sep) r hr) idle (wnm-fit n f hf z))
+      wnm-each m Fine n f len (λ z. waits-fine b (place r ownSemaphore) (n * 16 + f) d (own-sem (b .facts .sep) r hr) idle (wnm-fit n f hf z))
       (λ z. done-fine (move-base r (Model.inQ1 m n f) hr (found-in 5 n f (omega arith) (omega arith) z) b .1) len)
 
-  received-fine : (q a len : ℕ) → 1 ≤ count q (lists m (r * 32 + 6)) → clear (3 + getD m (q * 32 + 2) 0 % 128) a ≡ true
+  received-fine : (q a len : ℕ) → 1 ≤ count q (lists m (place r q2)) → clear (3 + word m q Map.size % 128) a ≡ true
       → Fine (Model.done (Model.received m q a) len)
   unfolding Operate.received
   received-fine q a len h c =
-      let t = split-at-page q (lists m (r * 32 + 6)) h in
+      let t = split-at-page q (lists m (place r q2)) h in
       let b1 = base-kept (out-kept m q a c) b in
       done-fine (give-back (take-mail b1 r 6 q (t .0) (t .1) hr (omega arith) (omega arith) (t .2)) .base) len
 

@@ -6,6 +6,8 @@ use mathlib.Core.List.{List, [], _∷_, _++_}
 use Prim.Native.Nat.{ℕ, _+_, _*_, _/_, _%_, _≤_}
 use native.Mathlib.Omega.{arith}
 use lib.ListN.{length, getD, length-append}
+use Rattle.model.specs.Map.{freeList, grantFor, label, ownQueue, pageQueue, place, processorList, q1}
+use Rattle.model.specs.Bytes.{name, word}
 use Rattle.model.specs.Bytes.{lists, join, leave, giveBack, deliver, putToWait, wake}
 use Rattle.model.specs.Lists.{count, Lists, some, queues}
 use Rattle.laws.specs.Count.{count-append}
@@ -29,7 +31,7 @@ pub record Becomes (ps : List ℕ) (m m′ : List ℕ) (a : ℕ) (xs : List ℕ)
 
 -- "Joining is at the end": a page in hand joins a list of uses
 pub join-appends : {m : List ℕ} {ps : List ℕ} {L : Lists} {W : View} {hs : List ℕ} {g q : ℕ} → Base m ps L W (q ∷ hs) g → (a : ℕ) → Head ps a → InUses ps a
-    → a ≢ 247 → Becomes ps m (join m a 0 q) a (lists m a ++ q ∷ [])
+    → a ≢ processorList → Becomes ps m (join m a 0 q) a (lists m a ++ q ∷ [])
 join-appends {m} {ps} {L} {W} {hs} {g} {q} b a ha i na =
     let s = b .facts .sep in
     let K = L a ++ q ∷ [] in
@@ -42,7 +44,7 @@ join-appends {m} {ps} {L} {W} {hs} {g} {q} b a ha i na =
 
 -- "a page that leaves": it stood between xs and ys
 pub leave-takes : {m : List ℕ} {ps : List ℕ} {L : Lists} {W : View} {hs : List ℕ} {g : ℕ} → Base m ps L W hs g → (a q : ℕ) (xs ys : List ℕ) → Head ps a
-    → a ≢ 247
+    → a ≢ processorList
     → lists m a ≡ xs ++ q ∷ ys → Becomes ps m (leave m a 0 q) a (xs ++ ys)
 leave-takes {m} {ps} {L} b a q xs ys ha na e =
     let s = b .facts .sep in
@@ -58,46 +60,46 @@ leave-takes {m} {ps} {L} b a q xs ys ha na e =
     }
 
 -- "A page given back": with no waiter, to the end of the free list
-pub give-frees : {m : List ℕ} {ps : List ℕ} {L : Lists} {W : View} {hs : List ℕ} {g q : ℕ} → Base m ps L W (q ∷ hs) g → lists m 246 ≡ []
-    → Becomes ps m (giveBack m q) 244 (lists m 244 ++ q ∷ [])
+pub give-frees : {m : List ℕ} {ps : List ℕ} {L : Lists} {W : View} {hs : List ℕ} {g q : ℕ} → Base m ps L W (q ∷ hs) g → lists m pageQueue ≡ []
+    → Becomes ps m (giveBack m q) freeList (lists m 244 ++ q ∷ [])
 give-frees {m} {ps} {L} {q = q} b e =
-    let e2 = sym (walked b 246 (in-asking ps)) ∙ e in
+    let e2 = sym (walked b pageQueue (in-asking ps)) ∙ e in
     let r = give-free b e2 in
     rw (give-is-free b e2) (record {
-      here = walked r 244 (in-free ps) ∙ upd-same L 244 (L 244 ++ q ∷ []) ∙ ap (λ (l : List ℕ). l ++ q ∷ []) (sym (walked b 244 (in-free ps)));
-      others = λ c h d. walked r c h ∙ upd-other L 244 c (L 244 ++ q ∷ []) d ∙ sym (walked b c h);
+      here = walked r freeList (in-free ps) ∙ upd-same L freeList (L 244 ++ q ∷ []) ∙ ap (λ (l : List ℕ). l ++ q ∷ []) (sym (walked b freeList (in-free ps)));
+      others = λ c h d. walked r c h ∙ upd-other L freeList c (L 244 ++ q ∷ []) d ∙ sym (walked b c h);
     })
 
 -- "to the first waiter as its grant and wakes it": p was the first, ws the others
 pub record Grants (ps : List ℕ) (m m′ : List ℕ) (n q : ℕ) (ws : List ℕ) : Type 0 where
-  pub grant : lists m′ (320 + n) ≡ q ∷ []
-  pub queue : lists m′ 246 ≡ ws
-  pub others : (c : ℕ) → Among ps c → c ≢ 320 + n → c ≢ 246 → lists m′ c ≡ lists m c
+  pub grant : lists m′ (grantFor n) ≡ q ∷ []
+  pub queue : lists m′ pageQueue ≡ ws
+  pub others : (c : ℕ) → Among ps c → c ≢ grantFor n → c ≢ pageQueue → lists m′ c ≡ lists m c
 
 pub give-grants : {m : List ℕ} {ps : List ℕ} {L : Lists} {W : View} {hs : List ℕ} {g q : ℕ} → Base m ps L W (q ∷ hs) g → (p : ℕ) (ws : List ℕ)
-    → lists m 246 ≡ p ∷ ws
-    → Grants ps m (giveBack m q) (getD m (p * 32 + 7) 0 % 16) q ws
+    → lists m pageQueue ≡ p ∷ ws
+    → Grants ps m (giveBack m q) (name m p) q ws
 give-grants {m} {ps} {L} {W} {q = q} b p ws e =
-    let e2 = sym (walked b 246 (in-asking ps)) ∙ e in
+    let e2 = sym (walked b pageQueue (in-asking ps)) ∙ e in
     let n = W .label p % 16 in
     let l = b .mem .reads .words .label p (proc-page (b .facts .sep) p (waiter-proc b p ws e2)) in
     let pq = hand-page b q (in-hand b) in
     let r = give-grant b p ws e2 in
-    let A = upd L 246 ws in
+    let A = upd L pageQueue ws in
     rw (give-is-grant b p ws e2, l) (record {
-      grant = walked r (320 + n) (in-grant ps n (omega arith)) ∙ upd-same A (320 + n) (some q) ∙ some-is q (omega (arith, pq));
-      queue = walked r 246 (in-asking ps) ∙ upd-other A (320 + n) 246 (some q) (omega arith) ∙ upd-same L 246 ws;
-      others = λ c h d1 d2. walked r c h ∙ upd-other A (320 + n) c (some q) d1 ∙ upd-other L 246 c ws d2 ∙ sym (walked b c h);
+      grant = walked r (grantFor n) (in-grant ps n (omega arith)) ∙ upd-same A (grantFor n) (some q) ∙ some-is q (omega (arith, pq));
+      queue = walked r pageQueue (in-asking ps) ∙ upd-other A (grantFor n) pageQueue (some q) (omega arith) ∙ upd-same L pageQueue ws;
+      others = λ c h d1 d2. walked r c h ∙ upd-other A (grantFor n) c (some q) d1 ∙ upd-other L pageQueue c ws d2 ∙ sym (walked b c h);
     })
 
 -- "The page joins NI's Q1; if NI waits for it, NI wakes": p is NI's page; its own wait is the only other list that may change
 pub deliver-appends : {m : List ℕ} {ps : List ℕ} {L : Lists} {W : View} {hs : List ℕ} {g q : ℕ} (b : Base m ps L W (q ∷ hs) g) (p : ℕ) (h : 1 ≤ count p ps)
-    (letter : Message (W .note q) (W .reason q)) → (lists (deliver m p q) (p * 32 + 5) ≡ lists m (p * 32 + 5) ++ q ∷ [])
-    × ((c : ℕ) → Among ps c → c ≢ p * 32 + 5 → c ≢ p * 32 + 4 → lists (deliver m p q) c ≡ lists m c)
+    (letter : Message (W .note q) (W .reason q)) → (lists (deliver m p q) (place p q1) ≡ lists m (place p q1) ++ q ∷ [])
+    × ((c : ℕ) → Among ps c → c ≢ place p q1 → c ≢ place p ownQueue → lists (deliver m p q) c ≡ lists m c)
 deliver-appends {ps = ps} {q = q} b p h letter =
     let t = deliver-all b p h letter in
     let i5 = in-q ps p 5 (omega arith) (omega arith) h in (
-      walked (t .gave .base) (p * 32 + 5) i5 ∙ t .here ∙ ap (λ (l : List ℕ). l ++ q ∷ []) (sym (walked b (p * 32 + 5) i5)),
+      walked (t .gave .base) (place p q1) i5 ∙ t .here ∙ ap (λ (l : List ℕ). l ++ q ∷ []) (sym (walked b (place p q1) i5)),
       λ c i d e. walked (t .gave .base) c i ∙ t .others c d e ∙ sym (walked b c i),
     )
 

@@ -5,6 +5,7 @@ use mathlib.Core.List.{List, [], _∷_, _++_, append-nil}
 use Prim.Native.Nat.{ℕ, _+_, _-_, _*_, _<_}
 use native.Mathlib.Omega.{arith}
 use lib.Dec.{eqb}
+use Rattle.model.specs.Map.{interrupts, ownQueue, place, processorList, q1, q2}
 use Rattle.model.specs.Lists.{hit, count, Lists, sum, each-of, range, mails, owns, uses, queues}
 use Rattle.laws.specs.Count.{count-append}
 use Rattle.laws.specs.Chain.{Page}
@@ -15,11 +16,11 @@ use Rattle.laws.specs.Places.{InUses, none-low}
 
 mails-append : (xs ys : List ℕ) → mails (xs ++ ys) ≡ mails xs ++ mails ys
 mails-append [] ys = refl
-mails-append (x ∷ xs) ys = ap {B = List ℕ} (λ l. (x * 32 + 5) ∷ (x * 32 + 6) ∷ l) (mails-append xs ys)
+mails-append (x ∷ xs) ys = ap {B = List ℕ} (λ l. (place x q1) ∷ (place x q2) ∷ l) (mails-append xs ys)
 
 owns-append : (xs ys : List ℕ) → owns (xs ++ ys) ≡ owns xs ++ owns ys
 owns-append [] ys = refl
-owns-append (x ∷ xs) ys = ap {B = List ℕ} (λ l. (x * 32 + 4) ∷ l) (owns-append xs ys)
+owns-append (x ∷ xs) ys = ap {B = List ℕ} (λ l. (place x ownQueue) ∷ l) (owns-append xs ys)
 
 each-append : (f : ℕ → ℕ) (xs ys : List ℕ) → each-of f (xs ++ ys) ≡ each-of f xs ++ each-of f ys
 each-append f [] ys = refl
@@ -55,23 +56,23 @@ module _ (xs : List ℕ) (p : ℕ) (ys : List ℕ) where
         ap (count k) (append-nil (each-of f (xs ++ ys))),
       )
 
-  pub uses-more : (a : ℕ) → count a (uses (xs ++ p ∷ ys)) ≡ count a (uses (xs ++ ys)) + (hit (eqb a (p * 32 + 5)) + hit (eqb a (p * 32 + 6)))
+  pub uses-more : (a : ℕ) → count a (uses (xs ++ p ∷ ys)) ≡ count a (uses (xs ++ ys)) + (hit (eqb a (place p q1)) + hit (eqb a (place p q2)))
   uses-more a = omega (arith, more (count a) (count-append a) mails mails-append (range 32 1 320))
 
-  pub queues-more : (a : ℕ) → count a (queues (xs ++ p ∷ ys)) ≡ count a (queues (xs ++ ys)) + hit (eqb a (p * 32 + 4))
-  queues-more a = omega (arith, more (count a) (count-append a) owns owns-append (range 54 2 132))
+  pub queues-more : (a : ℕ) → count a (queues (xs ++ p ∷ ys)) ≡ count a (queues (xs ++ ys)) + hit (eqb a (place p ownQueue))
+  queues-more a = omega (arith, more (count a) (count-append a) owns owns-append (range interrupts 2 132))
 
-  pub uses-sum : (z : ℕ) (L : Lists) → sum z L (uses (xs ++ p ∷ ys)) ≡ sum z L (uses (xs ++ ys)) + (count z (L (p * 32 + 5)) + count z (L (p * 32 + 6)))
+  pub uses-sum : (z : ℕ) (L : Lists) → sum z L (uses (xs ++ p ∷ ys)) ≡ sum z L (uses (xs ++ ys)) + (count z (L (place p q1)) + count z (L (place p q2)))
   uses-sum z L = omega (arith, more (sum z L) (sum-append z L) mails mails-append (range 32 1 320))
 
-  pub queues-sum : (z : ℕ) (L : Lists) → sum z L (queues (xs ++ p ∷ ys)) ≡ sum z L (queues (xs ++ ys)) + count z (L (p * 32 + 4))
-  queues-sum z L = omega (arith, more (sum z L) (sum-append z L) owns owns-append (range 54 2 132))
+  pub queues-sum : (z : ℕ) (L : Lists) → sum z L (queues (xs ++ p ∷ ys)) ≡ sum z L (queues (xs ++ ys)) + count z (L (place p ownQueue))
+  queues-sum z L = omega (arith, more (sum z L) (sum-append z L) owns owns-append (range interrupts 2 132))
 
 -- ---- a page that is no processor's has no head
-pub head-off : {ps : List ℕ} {L : Lists} → Sep ps L → (q w a : ℕ) → Page q → w < 32 → count q ps ≡ 0 → Among ps a → a ≢ q * 32 + w
+pub head-off : {ps : List ℕ} {L : Lists} → Sep ps L → (q w a : ℕ) → Page q → w < 32 → count q ps ≡ 0 → Among ps a → a ≢ place q w
 head-off {ps} s q w a g l n h = go (head-place ps a h)
   where
-    go : Place ps a → a ≢ q * 32 + w
+    go : Place ps a → a ≢ place q w
     go (int k u e) = omega arith
     go (three u v x) = omega arith
     go (grant u v) = omega arith
@@ -80,8 +81,8 @@ head-off {ps} s q w a g l n h = go (head-place ps a h)
         omega (arith, t .is, t .high, d)
 
 -- the processor list's header stands once
-pub procs-once : {ps : List ℕ} {L : Lists} → Sep ps L → InUses ps 247
-procs-once {ps} s = let n = none-low 247 ps (proc-page s) (omega arith) in record {
-  here = omega (arith, n, count-append 247 (mails ps) (range 32 1 320), range-low 32 1 320 247 (omega arith));
-  away = omega (arith, n, count-append 247 (owns ps) (range 54 2 132), range-none2 54 132 247 (omega arith));
+pub procs-once : {ps : List ℕ} {L : Lists} → Sep ps L → InUses ps processorList
+procs-once {ps} s = let n = none-low processorList ps (proc-page s) (omega arith) in record {
+  here = omega (arith, n, count-append processorList (mails ps) (range 32 1 320), range-low 32 1 320 processorList (omega arith));
+  away = omega (arith, n, count-append processorList (owns ps) (range interrupts 2 132), range-none2 interrupts 132 processorList (omega arith));
 }

@@ -7,6 +7,7 @@ use Prim.Native.Nat.{ℕ, _+_, _-_, _*_, _≤_, _<_}
 use native.Mathlib.Omega.{arith}
 use lib.Dec.{leb, ltb}
 use borrow.Author.Tests.{leb-true, ltb-true, le-leb, lt-ltb, le-ltb, lt-leb}
+use Rattle.model.specs.Map.{freeList, grantFor, guardedLast, headerAfter, interrupts, ownQueue, pageQueue, place, processorList}
 use Rattle.model.specs.Lists as Model
 use Rattle.model.specs.Lists.{count, Lists, range, mails, owns, uses, queues, isGrant}
 use Rattle.laws.specs.Count.{hit-other, count-append, zero-or}
@@ -21,29 +22,29 @@ in-uses ps a h = omega (arith, count-append a (uses ps) (queues ps))
 pub in-queues : (ps : List ℕ) (a : ℕ) → 1 ≤ count a (queues ps) → Among ps a
 in-queues ps a h = omega (arith, count-append a (uses ps) (queues ps))
 
-pub in-procs : (ps : List ℕ) → Among ps 247
-in-procs ps = in-uses ps 247 (omega arith)
+pub in-procs : (ps : List ℕ) → Among ps processorList
+in-procs ps = in-uses ps processorList (omega arith)
 
-pub in-free : (ps : List ℕ) → Among ps 244
-in-free ps = in-uses ps 244 (omega arith)
+pub in-free : (ps : List ℕ) → Among ps freeList
+in-free ps = in-uses ps freeList (omega arith)
 
-pub in-asking : (ps : List ℕ) → Among ps 246
-in-asking ps = in-queues ps 246 (omega arith)
+pub in-asking : (ps : List ℕ) → Among ps pageQueue
+in-asking ps = in-queues ps pageQueue (omega arith)
 
-pub int-queue : (ps : List ℕ) (k : ℕ) → k < 54 → 1 ≤ count (132 + 2 * k) (queues ps)
-int-queue ps k h = omega (arith, count-append (132 + 2 * k) (owns ps) (range 54 2 132), range2-at 54 132 k h)
+pub int-queue : (ps : List ℕ) (k : ℕ) → k < interrupts → 1 ≤ count (headerAfter k) (queues ps)
+int-queue ps k h = omega (arith, count-append (headerAfter k) (owns ps) (range interrupts 2 132), range2-at interrupts 132 k h)
 
-pub in-own : (ps : List ℕ) (p : ℕ) → 1 ≤ count p ps → Among ps (p * 32 + 4)
-in-own ps p h = in-queues ps (p * 32 + 4) (omega (arith, count-append (p * 32 + 4) (owns ps) (range 54 2 132), owns-at p ps))
+pub in-own : (ps : List ℕ) (p : ℕ) → 1 ≤ count p ps → Among ps (place p ownQueue)
+in-own ps p h = in-queues ps (place p ownQueue) (omega (arith, count-append (place p ownQueue) (owns ps) (range interrupts 2 132), owns-at p ps))
 
-pub in-q : (ps : List ℕ) (p w : ℕ) → 5 ≤ w → w ≤ 6 → 1 ≤ count p ps → Among ps (p * 32 + w)
-in-q ps p w i j h = in-uses ps (p * 32 + w) (omega (arith, count-append (p * 32 + w) (mails ps) (range 32 1 320), mails-at p w ps i j))
+pub in-q : (ps : List ℕ) (p w : ℕ) → 5 ≤ w → w ≤ 6 → 1 ≤ count p ps → Among ps (place p w)
+in-q ps p w i j h = in-uses ps (place p w) (omega (arith, count-append (place p w) (mails ps) (range 32 1 320), mails-at p w ps i j))
 
-pub in-grant : (ps : List ℕ) (k : ℕ) → k < 32 → Among ps (320 + k)
-in-grant ps k h = in-uses ps (320 + k) (omega (
+pub in-grant : (ps : List ℕ) (k : ℕ) → k < 32 → Among ps (grantFor k)
+in-grant ps k h = in-uses ps (grantFor k) (omega (
   arith,
-  count-append (320 + k) (mails ps) (range 32 1 320),
-  range1-at 32 320 (320 + k) (omega arith)
+  count-append (grantFor k) (mails ps) (range 32 1 320),
+  range1-at 32 320 (grantFor k) (omega arith)
       (omega arith),
 ))
 
@@ -56,9 +57,9 @@ pub grant-high : (a : ℕ) → 352 ≤ a → isGrant a ≡ false
 unfolding Model.isGrant
 grant-high a h = rw (le-leb 320 a (omega arith), le-ltb a 352 h)
 
-pub grant-is : (k : ℕ) → k < 32 → isGrant (320 + k) ≡ true
+pub grant-is : (k : ℕ) → k < 32 → isGrant (grantFor k) ≡ true
 unfolding Model.isGrant
-grant-is k h = rw (le-leb 320 (320 + k) (omega arith), lt-ltb (320 + k) 352 (omega arith))
+grant-is k h = rw (le-leb 320 (grantFor k) (omega arith), lt-ltb (grantFor k) 352 (omega arith))
 
 pub grant-of : (a : ℕ) → isGrant a ≡ true → (320 ≤ a) × (a < 352)
 unfolding Model.isGrant
@@ -73,11 +74,11 @@ grant-of a e = go (leb 320 a) (ltb a 352) refl refl e
 -- a message or a free page is no processor's
 pub use-free : {ps : List ℕ} {L : Lists} → Sep ps L → (a q : ℕ) → 1 ≤ count a (others ps) → 1 ≤ count q (L a) → Page q × (count q ps ≡ 0)
 use-free {ps} {L} s a q h i =
-    let e : count q (L 247) ≡ count q ps = ap (count q) (s .procs) in
+    let e : count q (L processorList) ≡ count q ps = ap (count q) (s .procs) in
     (one-page q (omega (arith, s .most q, sum-one q L a (others ps) h)), omega (arith, s .most q, sum-one q L a (others ps) h, one-le q))
 
-pub q-free : {ps : List ℕ} {L : Lists} → Sep ps L → (p w q : ℕ) → 5 ≤ w → w ≤ 6 → 1 ≤ count p ps → 1 ≤ count q (L (p * 32 + w)) → Page q × (count q ps ≡ 0)
-q-free {ps} {L} s p w q l u h i = use-free s (p * 32 + w) q (omega (arith, count-append (p * 32 + w) (mails ps) (range 32 1 320), mails-at p w ps l u)) i
+pub q-free : {ps : List ℕ} {L : Lists} → Sep ps L → (p w q : ℕ) → 5 ≤ w → w ≤ 6 → 1 ≤ count p ps → 1 ≤ count q (L (place p w)) → Page q × (count q ps ≡ 0)
+q-free {ps} {L} s p w q l u h i = use-free s (place p w) q (omega (arith, count-append (place p w) (mails ps) (range 32 1 320), mails-at p w ps l u)) i
 
 pub wait-page : {ps : List ℕ} {L : Lists} → Sep ps L → (a q : ℕ) → 1 ≤ count a (queues ps) → 1 ≤ count q (L a) → 1 ≤ count q ps
 wait-page {ps} {L} s a q h i = omega (arith, s .waits q, sum-one q L a (queues ps) h)
@@ -90,7 +91,7 @@ all-pages {ps} {L} s a x h j = go (zero-or (count a (uses ps)))
     go (inr i) = one-page x (omega (arith, s .most x, sum-one x L a (uses ps) i))
 
 -- ---- which head stands in which sum, and once
-pub none-low : (a : ℕ) (ps : List ℕ) → ((p : ℕ) → 1 ≤ count p ps → Page p) → a < 7552 → (count a (mails ps) ≡ 0) × (count a (owns ps) ≡ 0)
+pub none-low : (a : ℕ) (ps : List ℕ) → ((p : ℕ) → 1 ≤ count p ps → Page p) → a < guardedLast → (count a (mails ps) ≡ 0) × (count a (owns ps) ≡ 0)
 none-low a ps g h = (go (zero-or (count a (mails ps))), go2 (zero-or (count a (owns ps))))
   where
     go : (count a (mails ps) ≡ 0) ⊎ (1 ≤ count a (mails ps)) → count a (mails ps) ≡ 0
@@ -111,108 +112,108 @@ pub record InQueues (ps : List ℕ) (a : ℕ) : Type 0 where
   pub away : count a (uses ps) ≡ 0
 
 module _ {ps : List ℕ} {L : Lists} (s : Sep ps L) where
-  low-none : (a : ℕ) → a < 7552 → (count a (mails ps) ≡ 0) × (count a (owns ps) ≡ 0)
+  low-none : (a : ℕ) → a < guardedLast → (count a (mails ps) ≡ 0) × (count a (owns ps) ≡ 0)
   low-none a h = none-low a ps (proc-page s) h
 
-  pub free-once : InUses ps 244
-  free-once = let n = low-none 244 (omega arith) in record {
-    here = omega (arith, n, count-append 244 (mails ps) (range 32 1 320), range-low 32 1 320 244 (omega arith));
-    away = omega (arith, n, count-append 244 (owns ps) (range 54 2 132), range-none2 54 132 244 (omega arith));
+  pub free-once : InUses ps freeList
+  free-once = let n = low-none freeList (omega arith) in record {
+    here = omega (arith, n, count-append freeList (mails ps) (range 32 1 320), range-low 32 1 320 freeList (omega arith));
+    away = omega (arith, n, count-append freeList (owns ps) (range interrupts 2 132), range-none2 interrupts 132 freeList (omega arith));
   }
 
-  pub asking-once : InQueues ps 246
-  asking-once = let n = low-none 246 (omega arith) in record {
-    here = omega (arith, n, count-append 246 (owns ps) (range 54 2 132), range-none2 54 132 246 (omega arith));
-    away = omega (arith, n, count-append 246 (mails ps) (range 32 1 320), range-low 32 1 320 246 (omega arith));
+  pub asking-once : InQueues ps pageQueue
+  asking-once = let n = low-none pageQueue (omega arith) in record {
+    here = omega (arith, n, count-append pageQueue (owns ps) (range interrupts 2 132), range-none2 interrupts 132 pageQueue (omega arith));
+    away = omega (arith, n, count-append pageQueue (mails ps) (range 32 1 320), range-low 32 1 320 pageQueue (omega arith));
   }
 
-  pub int-once : (k : ℕ) → k < 54 → InQueues ps (132 + 2 * k)
-  int-once k h = let a = 132 + 2 * k in let n = low-none (132 + 2 * k) (omega arith) in record {
-    here = omega (arith, n, count-append (132 + 2 * k) (owns ps) (range 54 2 132), range2-at 54 132 k h, hit-other (132 + 2 * k) 246 (omega arith));
+  pub int-once : (k : ℕ) → k < interrupts → InQueues ps (headerAfter k)
+  int-once k h = let a = headerAfter k in let n = low-none (headerAfter k) (omega arith) in record {
+    here = omega (arith, n, count-append (headerAfter k) (owns ps) (range interrupts 2 132), range2-at interrupts 132 k h, hit-other (headerAfter k) pageQueue (omega arith));
     away = omega (
       arith,
       n,
-      count-append (132 + 2 * k) (mails ps) (range 32 1 320),
-      range-low 32 1 320 (132 + 2 * k) (omega arith),
-      hit-other (132 + 2 * k) 247 (omega arith),
-      hit-other (132 + 2 * k) 244 (omega arith),
+      count-append (headerAfter k) (mails ps) (range 32 1 320),
+      range-low 32 1 320 (headerAfter k) (omega arith),
+      hit-other (headerAfter k) processorList (omega arith),
+      hit-other (headerAfter k) freeList (omega arith),
     );
   }
 
-  pub grant-once : (k : ℕ) → k < 32 → InUses ps (320 + k)
-  grant-once k h = let n = low-none (320 + k) (omega arith) in record {
+  pub grant-once : (k : ℕ) → k < 32 → InUses ps (grantFor k)
+  grant-once k h = let n = low-none (grantFor k) (omega arith) in record {
     here = omega (
       arith,
       n,
-      count-append (320 + k) (mails ps) (range 32 1 320),
-      range1-at 32 320 (320 + k) (omega arith) (omega arith),
-      hit-other (320 + k) 247 (omega arith),
-      hit-other (320 + k) 244 (omega arith),
+      count-append (grantFor k) (mails ps) (range 32 1 320),
+      range1-at 32 320 (grantFor k) (omega arith) (omega arith),
+      hit-other (grantFor k) processorList (omega arith),
+      hit-other (grantFor k) freeList (omega arith),
     );
     away = omega (
       arith,
       n,
-      count-append (320 + k) (owns ps) (range 54 2 132),
-      range-none2 54 132 (320 + k) (omega arith),
-      hit-other (320 + k) 246
+      count-append (grantFor k) (owns ps) (range interrupts 2 132),
+      range-none2 interrupts 132 (grantFor k) (omega arith),
+      hit-other (grantFor k) pageQueue
           (omega arith),
     );
   }
 
-  pub q-once : (p w : ℕ) → 5 ≤ w → w ≤ 6 → 1 ≤ count p ps → InUses ps (p * 32 + w)
-  q-once p w l u h = let g = proc-page s p h in let a = p * 32 + w in record {
+  pub q-once : (p w : ℕ) → 5 ≤ w → w ≤ 6 → 1 ≤ count p ps → InUses ps (place p w)
+  q-once p w l u h = let g = proc-page s p h in let a = place p w in record {
     here = omega (
       arith,
       proc-once s p,
       mails-at p w ps l u,
-      count-append (p * 32 + w) (mails ps) (range 32 1 320),
-      range-none1 32 320 (p * 32 + w)
+      count-append (place p w) (mails ps) (range 32 1 320),
+      range-none1 32 320 (place p w)
           (omega arith),
-      hit-other (p * 32 + w) 247 (omega arith),
-      hit-other (p * 32 + w) 244 (omega arith),
+      hit-other (place p w) processorList (omega arith),
+      hit-other (place p w) freeList (omega arith),
     );
     away = omega (
       arith,
       not-own,
-      count-append (p * 32 + w) (owns ps) (range 54 2 132),
-      range-none2 54 132 (p * 32 + w) (omega arith),
-      hit-other (p * 32 + w) 246 (omega arith),
+      count-append (place p w) (owns ps) (range interrupts 2 132),
+      range-none2 interrupts 132 (place p w) (omega arith),
+      hit-other (place p w) pageQueue (omega arith),
     );
   }
     where
-      not-own : count (p * 32 + w) (owns ps) ≡ 0
-      not-own = go (zero-or (count (p * 32 + w) (owns ps)))
+      not-own : count (place p w) (owns ps) ≡ 0
+      not-own = go (zero-or (count (place p w) (owns ps)))
         where
-          go : (count (p * 32 + w) (owns ps) ≡ 0) ⊎ (1 ≤ count (p * 32 + w) (owns ps)) → count (p * 32 + w) (owns ps) ≡ 0
+          go : (count (place p w) (owns ps) ≡ 0) ⊎ (1 ≤ count (place p w) (owns ps)) → count (place p w) (owns ps) ≡ 0
           go (inl e) = e
-          go (inr i) = let r = owns-of (p * 32 + w) ps i in absurd (omega arith)
+          go (inr i) = let r = owns-of (place p w) ps i in absurd (omega arith)
 
-  pub own-once : (p : ℕ) → 1 ≤ count p ps → InQueues ps (p * 32 + 4)
+  pub own-once : (p : ℕ) → 1 ≤ count p ps → InQueues ps (place p ownQueue)
   own-once p h = let g = proc-page s p h in record {
     here = omega (
       arith,
       proc-once s p,
       owns-at p ps,
-      count-append (p * 32 + 4) (owns ps) (range 54 2 132),
-      range-none2 54 132 (p * 32 + 4) (omega arith),
-      hit-other (p * 32 + 4) 246 (omega arith),
+      count-append (place p ownQueue) (owns ps) (range interrupts 2 132),
+      range-none2 interrupts 132 (place p ownQueue) (omega arith),
+      hit-other (place p ownQueue) pageQueue (omega arith),
     );
     away = omega (
       arith,
       not-mail,
-      count-append (p * 32 + 4) (mails ps) (range 32 1 320),
-      range-none1 32 320 (p * 32 + 4) (omega arith),
-      hit-other (p * 32 + 4) 247 (omega arith),
-      hit-other (p * 32 + 4) 244 (omega arith),
+      count-append (place p ownQueue) (mails ps) (range 32 1 320),
+      range-none1 32 320 (place p ownQueue) (omega arith),
+      hit-other (place p ownQueue) processorList (omega arith),
+      hit-other (place p ownQueue) freeList (omega arith),
     );
   }
     where
-      not-mail : count (p * 32 + 4) (mails ps) ≡ 0
-      not-mail = go (zero-or (count (p * 32 + 4) (mails ps)))
+      not-mail : count (place p ownQueue) (mails ps) ≡ 0
+      not-mail = go (zero-or (count (place p ownQueue) (mails ps)))
         where
-          go : (count (p * 32 + 4) (mails ps) ≡ 0) ⊎ (1 ≤ count (p * 32 + 4) (mails ps)) → count (p * 32 + 4) (mails ps) ≡ 0
+          go : (count (place p ownQueue) (mails ps) ≡ 0) ⊎ (1 ≤ count (place p ownQueue) (mails ps)) → count (place p ownQueue) (mails ps) ≡ 0
           go (inl e) = e
-          go (inr i) = let r = mails-of (p * 32 + 4) ps i in absurd (omega arith)
+          go (inr i) = let r = mails-of (place p ownQueue) ps i in absurd (omega arith)
 
 -- 0 is no head
 pub queues-pos : (ps : List ℕ) (a : ℕ) → ((p : ℕ) → 1 ≤ count p ps → Page p) → 1 ≤ count a (queues ps) → 1 ≤ a
@@ -221,5 +222,5 @@ queues-pos ps a g h = go (zero-or a)
     go : (a ≡ 0) ⊎ (1 ≤ a) → 1 ≤ a
     go (inl e) =
         let n = none-low a ps g (omega arith) in
-        absurd (omega (arith, n, count-append a (owns ps) (range 54 2 132), range-low 54 2 132 a (omega arith), hit-other a 246 (omega arith)))
+        absurd (omega (arith, n, count-append a (owns ps) (range interrupts 2 132), range-low interrupts 2 132 a (omega arith), hit-other a pageQueue (omega arith)))
     go (inr i) = i

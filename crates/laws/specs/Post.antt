@@ -10,6 +10,9 @@ use lib.ListN.{length, getD, set, length-set}
 use lib.Seq.{getD-set-same}
 use lib.Dec.{eqb}
 use borrow.Author.Tests.{ne-eqb}
+use Rattle.model.specs.Map.{label, link, longest, memorySize, note, ownQueue, ownSemaphore, place, q1, reason, size, state}
+use Rattle.model.specs.Map.{text}
+use Rattle.model.specs.Bytes.{name, running, store, word}
 use Rattle.model.specs.Mail as Mail
 use Rattle.model.specs.Mail.{fits}
 use Rattle.model.specs.Bytes.{join, wake, deliver, writeMessage, makeNotice}
@@ -38,10 +41,10 @@ module _ {m : List ℕ} {ps : List ℕ} {L : Lists} {W : View} {hs : List ℕ} {
   pg = proc-page s p h
 
   abbrev a5 : ℕ
-  a5 = p * 32 + 5
+  a5 = place p q1
 
   abbrev a4 : ℕ
-  a4 = p * 32 + 3 + 1
+  a4 = place p ownSemaphore + 1
 
   abbrev K : Lists
   K = upd L a5 (L a5 ++ q ∷ [])
@@ -56,20 +59,20 @@ module _ {m : List ℕ} {ps : List ℕ} {L : Lists} {W : View} {hs : List ℕ} {
   asked = fits (W .reason p / 16) (W .reason p % 16) (W .note q)
 
   -- what `awaits` reads
-  pub reason-at : getD m1 (p * 32 + 2) 0 ≡ W .reason p
+  pub reason-at : word m1 p reason ≡ W .reason p
   reason-at = x1 .reads .words .reason p pg
 
-  pub note-at : getD m1 (q * 32 + 1) 0 ≡ W .note q
+  pub note-at : word m1 q note ≡ W .note q
   note-at = x1 .reads .words .note q (hand-page b q (in-hand b)) (hand-out b q (in-hand b))
 
   -- then Q1 ends with q, and no list changes but it and the own wait of p
   pub record Delivered (M : List ℕ) : Type 0 where
     pub gave : Gave M ps hs g W
-    pub here : gave .lists (p * 32 + 5) ≡ L (p * 32 + 5) ++ q ∷ []
-    pub others : (c : ℕ) → c ≢ p * 32 + 5 → c ≢ p * 32 + 4 → gave .lists c ≡ L c
+    pub here : gave .lists (place p q1) ≡ L (place p q1) ++ q ∷ []
+    pub others : (c : ℕ) → c ≢ place p q1 → c ≢ place p ownQueue → gave .lists c ≡ L c
 
   -- nobody wakes
-  quiet : ((x : ℕ) → 1 ≤ count x (L (p * 32 + 4)) → asked ≡ false) → Delivered m1
+  quiet : ((x : ℕ) → 1 ≤ count x (L (place p ownQueue)) → asked ≡ false) → Delivered m1
   quiet none = record {
     gave = record { lists = K; view = W; base = give-mail b p 5 h (omega arith) (omega arith) letter (λ x i e. none x i); low = refl };
     here = upd-same L a5 (L a5 ++ q ∷ []);
@@ -78,11 +81,11 @@ module _ {m : List ℕ} {ps : List ℕ} {L : Lists} {W : View} {hs : List ℕ} {
 
   -- the owner wakes; L says that its wait holds it alone
   module _ (xs : List ℕ) (e : L a4 ≡ p ∷ xs) where
-    at4 : a4 ≡ p * 32 + 4
+    at4 : a4 ≡ place p ownQueue
     at4 = omega arith
 
-    fw : Facts ps (upd L a4 xs) (woken W (p * 32 + 3) p) g
-    fw = facts-wake (p * 32 + 3) p [] xs (b .facts) (own-sem s p h) e
+    fw : Facts ps (upd L a4 xs) (woken W (place p ownSemaphore) p) g
+    fw = facts-wake (place p ownSemaphore) p [] xs (b .facts) (own-sem s p h) e
 
     not-p : q ≢ p
     not-p d = omega (arith, ap (λ (y : ℕ). count y ps) d, hand-out b q (in-hand b))
@@ -93,29 +96,29 @@ module _ {m : List ℕ} {ps : List ℕ} {L : Lists} {W : View} {hs : List ℕ} {
     letter4 : Message (W .note q) (put1 (W .reason) p 0 q)
     letter4 = rw (put1-other (W .reason) p 0 q not-p) letter
 
-    alone : (x : ℕ) → 1 ≤ count x (upd L a4 xs (p * 32 + 4)) → _≡_ {A = ℕ} 5 5
-        → fits (woken W (p * 32 + 3) p .reason p / 16) (woken W (p * 32 + 3) p .reason p % 16) (W .note q) ≡ false
+    alone : (x : ℕ) → 1 ≤ count x (upd L a4 xs (place p ownQueue)) → _≡_ {A = ℕ} 5 5
+        → fits (woken W (place p ownSemaphore) p .reason p / 16) (woken W (place p ownSemaphore) p .reason p % 16) (W .note q) ≡ false
     alone x i r =
         let o = fw .own p h x i .owner in
         let j = rw (← at4, upd-same, o) at i in
-        absurd (omega (arith, single s (p * 32 + 4) (in-own ps p h, grant-high (p * 32 + 4) (omega (arith, pg))) p, hit-self p, ap (count p) (rw at4 at e)))
+        absurd (omega (arith, single s (place p ownQueue) (in-own ps p h, grant-high (place p ownQueue) (omega (arith, pg))) p, hit-self p, ap (count p) (rw at4 at e)))
 
-    fm : Facts ps (upd (upd L a4 xs) a5 (upd L a4 xs a5 ++ q ∷ [])) (woken W (p * 32 + 3) p) g
+    fm : Facts ps (upd (upd L a4 xs) a5 (upd L a4 xs a5 ++ q ∷ [])) (woken W (place p ownSemaphore) p) g
     fm = facts-mail q fw room4 p 5 h (omega arith) (omega arith) letter4 alone
 
     swap : upd K a4 xs ≡ upd (upd L a4 xs) a5 (upd L a4 xs a5 ++ q ∷ [])
     swap = rw (upd-other L a4 a5 xs (omega arith)) (upd-swap L a5 a4 (L a5 ++ q ∷ []) xs (omega arith))
 
-    wakes : Delivered (wake m1 (p * 32 + 3) p)
+    wakes : Delivered (wake m1 (place p ownSemaphore) p)
     wakes =
         let e2 = upd-other L a5 a4 (L a5 ++ q ∷ []) (omega arith) ∙ e in
         let x5 = upd-other L a4 a5 xs (omega arith) in
         record {
           gave = record {
             lists = upd (upd L a4 xs) a5 (upd L a4 xs a5 ++ q ∷ []);
-            view = woken W (p * 32 + 3) p;
+            view = woken W (place p ownSemaphore) p;
             base = record {
-              mem = rw swap at (wake-mem (p * 32 + 3) p [] xs (mail-sep b p 5 h (omega arith) (omega arith)) (rw swap (fm .sep)) x1 (own-sem s p h) pg e2);
+              mem = rw swap at (wake-mem (place p ownSemaphore) p [] xs (mail-sep b p 5 h (omega arith) (omega arith)) (rw swap (fm .sep)) x1 (own-sem s p h) pg e2);
               facts = fm;
               all = λ z.
                   omega (
@@ -132,29 +135,29 @@ module _ {m : List ℕ} {ps : List ℕ} {L : Lists} {W : View} {hs : List ℕ} {
         }
 
   -- what holds of Q1 with the page, where p does not wait for it, and of p woken, where it does, holds of the memory that is delivered to
-  delivers : (P : List ℕ → Type 0) → (((x : ℕ) → 1 ≤ count x (L (p * 32 + 4)) → asked ≡ false) → P m1)
-      → ((ys : List ℕ) → L a4 ≡ p ∷ ys → P (wake m1 (p * 32 + 3) p)) → P (deliver m p q)
+  delivers : (P : List ℕ → Type 0) → (((x : ℕ) → 1 ≤ count x (L (place p ownQueue)) → asked ≡ false) → P m1)
+      → ((ys : List ℕ) → L a4 ≡ p ∷ ys → P (wake m1 (place p ownSemaphore) p)) → P (deliver m p q)
   unfolding Mail.deliver Mail.heard Mail.awaits Mail.matches
   delivers P stays wakes =
-      go (L (p * 32 + 4)) refl (chain0 (mail-sep b p 5 h (omega arith) (omega arith)) x1 (p * 32 + 4) (
+      go (L (place p ownQueue)) refl (chain0 (mail-sep b p 5 h (omega arith) (omega arith)) x1 (place p ownQueue) (
         in-own ps p h,
-        grant-high (p * 32 + 4)
+        grant-high (place p ownQueue)
             (omega (arith, pg)),
       )
       (omega (arith, pg))) asked refl
     where
-      same : K (p * 32 + 4) ≡ L (p * 32 + 4)
-      same = upd-other L a5 (p * 32 + 4) (L a5 ++ q ∷ []) (omega arith)
+      same : K (place p ownQueue) ≡ L (place p ownQueue)
+      same = upd-other L a5 (place p ownQueue) (L a5 ++ q ∷ []) (omega arith)
 
-      go : (ys : List ℕ) → L (p * 32 + 4) ≡ ys → Chain m1 0 (p * 32 + 4) (K (p * 32 + 4)) → (c : Bool) → asked ≡ c → P (deliver m p q)
-      go [] e c t f = let z : getD m1 (p * 32 + 4) 0 ≡ 0 = rw (same, e) at c in rw z (stays (λ x i. absurd (omega (arith, ap (count x) e))))
+      go : (ys : List ℕ) → L (place p ownQueue) ≡ ys → Chain m1 0 (place p ownQueue) (K (place p ownQueue)) → (c : Bool) → asked ≡ c → P (deliver m p q)
+      go [] e c t f = let z : word m1 p ownQueue ≡ 0 = rw (same, e) at c in rw z (stays (λ x i. absurd (omega (arith, ap (count x) e))))
       go (y ∷ ys) e c false f =
           let z = rw (same, e) at c in
           rw (z .0, ne-eqb y 0 (omega arith), reason-at, note-at, f) (stays (λ x i. f))
       go (y ∷ ys) e c true f =
           let z = rw (same, e) at c in
           let d = b .facts .own p h y (rw e (omega (arith, hit-self y))) .owner in
-          let at4 : p * 32 + 3 + 1 ≡ p * 32 + 4 = omega arith in
+          let at4 : place p ownSemaphore + 1 ≡ p * 32 + 4 = omega arith in
           rw (z .0, ne-eqb y 0 (omega arith), reason-at, note-at, f) (wakes ys (rw (at4, e, d)))
 
   pub deliver-all : Delivered (deliver m p q)
@@ -164,15 +167,15 @@ module _ {m : List ℕ} {ps : List ℕ} {L : Lists} {W : View} {hs : List ℕ} {
   deliver-base = deliver-all .gave
 
   -- which words stay: all but the end of Q1, the link of the page, and of the processor words 0 to 5 and 12
-  pub deliver-frame : (c : ℕ) → ((j : ℕ) → j ≤ 5 → c ≢ p * 32 + j) → c ≢ p * 32 + 12 → c ≢ q * 32 + 0
-      → ((z : ℕ) → 1 ≤ count z (L (p * 32 + 5)) → c ≢ z * 32 + 0) → getD (deliver m p q) c 0 ≡ getD m c 0
+  pub deliver-frame : (c : ℕ) → ((j : ℕ) → j ≤ 5 → c ≢ place p j) → c ≢ place p state → c ≢ place q link
+      → ((z : ℕ) → 1 ≤ count z (L (place p q1)) → c ≢ place z link) → getD (deliver m p q) c 0 ≡ getD m c 0
   deliver-frame c n n12 nq nl = delivers (λ x. getD x c 0 ≡ getD m c 0) (λ f. joined) (λ ys e.
       let same = upd-other L a5 a4 (L a5 ++ q ∷ []) (omega arith) in
       let own : (z : ℕ) → 1 ≤ count z (K a4) → c ≢ z * 32 + 0 = λ z i. rw (b .facts .own p h z (rw (← at4, ← same) i) .owner) (n 0 (omega arith)) in
-      wake-frame (mail-sep b p 5 h (omega arith) (omega arith)) x1 (p * 32 + 3) p [] ys (own-sem s p h) (same ∙ e) c (n 3 (omega arith))
+      wake-frame (mail-sep b p 5 h (omega arith) (omega arith)) x1 (place p ownSemaphore) p [] ys (own-sem s p h) (same ∙ e) c (n 3 (omega arith))
       (rw at4 (n 4 (omega arith))) own (n 2 (omega arith)) n12 ∙ joined)
     where
-      at4 : a4 ≡ p * 32 + 4
+      at4 : a4 ≡ place p ownQueue
       at4 = omega arith
 
       joined : getD m1 c 0 ≡ getD m c 0
@@ -185,22 +188,22 @@ module _ {m : List ℕ} {ps : List ℕ} {L : Lists} {W : View} {hs : List ℕ} {
   hp : Page q
   hp = hand-page b q (in-hand b)
 
-  pub two : (v w : ℕ) → Only q m (set (set m (q * 32 + 1) v) (q * 32 + 2) w)
-  two v w = only-set (q * 32 + 2) w (omega arith) (omega arith) (only-set (q * 32 + 1) v (omega arith) (omega arith) (only-refl q m))
+  pub two : (v w : ℕ) → Only q m (store (store m q note v) q size w)
+  two v w = only-set (place q size) w (omega arith) (omega arith) (only-set (place q note) v (omega arith) (omega arith) (only-refl q m))
 
-  size1 : (v : ℕ) → length (set m (q * 32 + 1) v) ≡ 8192
+  size1 : (v : ℕ) → length (store m q note v) ≡ memorySize
   size1 v = simp length-set (b .mem .size)
 
-  pub word1 : (v w : ℕ) → getD (set (set m (q * 32 + 1) v) (q * 32 + 2) w) (q * 32 + 1) 0 ≡ v
-  word1 v w = other (set m (q * 32 + 1) v) (q * 32 + 2) w (q * 32 + 1) (omega arith) ∙ getD-set-same m (q * 32 + 1) v 0 (omega (arith, hp, b .mem .size))
+  pub word1 : (v w : ℕ) → word (store (store m q note v) q size w) q note ≡ v
+  word1 v w = other (store m q note v) (place q size) w (place q note) (omega arith) ∙ getD-set-same m (place q note) v 0 (omega (arith, hp, b .mem .size))
 
-  pub word2 : (v w : ℕ) → getD (set (set m (q * 32 + 1) v) (q * 32 + 2) w) (q * 32 + 2) 0 ≡ w
-  word2 v w = getD-set-same (set m (q * 32 + 1) v) (q * 32 + 2) w 0 (omega (arith, hp, size1 v))
+  pub word2 : (v w : ℕ) → word (store (store m q note v) q size w) q size ≡ w
+  word2 v w = getD-set-same (store m q note v) (place q size) w 0 (omega (arith, hp, size1 v))
 
   -- the page in hand is written, then delivered
-  module _ {m2 : List ℕ} (o : Only q m m2) (letter : Message (getD m2 (q * 32 + 1) 0) (getD m2 (q * 32 + 2) 0)) where
+  module _ {m2 : List ℕ} (o : Only q m m2) (letter : Message (word m2 q note) (word m2 q size)) where
     pub retold-letter : Message (retold m2 W q .note q) (retold m2 W q .reason q)
-    retold-letter = rw (put1-same (W .note) q (getD m2 (q * 32 + 1) 0) q refl, put1-same (W .reason) q (getD m2 (q * 32 + 2) 0) q refl) letter
+    retold-letter = rw (put1-same (W .note) q (word m2 q note) q refl, put1-same (W .reason) q (word m2 q size) q refl) letter
 
     written-base : (p : ℕ) → 1 ≤ count p ps → Gave (deliver m2 p q) ps hs g W
     written-base p h =
@@ -212,12 +215,12 @@ module _ {m : List ℕ} {ps : List ℕ} {L : Lists} {W : View} {hs : List ℕ} {
   unfolding Mail.makeNotice
   notice-only n f = two (n * 16 + f) 128
 
-  pub notice-words : (n f : ℕ) → (getD (makeNotice m q n f) (q * 32 + 1) 0 ≡ n * 16 + f) × (getD (makeNotice m q n f) (q * 32 + 2) 0 ≡ 128)
+  pub notice-words : (n f : ℕ) → (word (makeNotice m q n f) q note ≡ n * 16 + f) × (word (makeNotice m q n f) q size ≡ 128)
   unfolding Mail.makeNotice
   notice-words n f = (word1 (n * 16 + f) 128, word2 (n * 16 + f) 128)
 
   pub notice-letter : (n f : ℕ) → 1 ≤ n → n ≤ 15 → 1 ≤ f → f ≤ 7
-      → Message (getD (makeNotice m q n f) (q * 32 + 1) 0) (getD (makeNotice m q n f) (q * 32 + 2) 0)
+      → Message (word (makeNotice m q n f) q note) (word (makeNotice m q n f) q size)
   notice-letter n f i j k l =
       rw (notice-words n f .0, notice-words n f .1)
       (record { sender = omega arith; known = omega arith; flag = omega arith; small = omega arith; long = λ z. absurd (z refl) })
@@ -226,30 +229,30 @@ module _ {m : List ℕ} {ps : List ℕ} {L : Lists} {W : View} {hs : List ℕ} {
   notice-base n f p i j k l h = written-base (notice-only n f) (notice-letter n f i j k l) p h
 
   -- "text length at A, text from A+1, to processor NI"
-  module _ (f a l : ℕ) (l2 : l ≤ 29) where
+  module _ (f a l : ℕ) (l2 : l ≤ longest) where
     abbrev v : ℕ
-    v = getD m (getD m 248 0 * 32 + 7) 0 % 16 * 16 + f
+    v = name m (running m) * 16 + f
 
     abbrev mw : List ℕ
-    mw = set (set m (q * 32 + 1) v) (q * 32 + 2) l
+    mw = store (store m q note v) q size l
 
     pub message-only : Only q m (writeMessage m q f a l)
     unfolding Mail.writeMessage
-    message-only = only-copy l mw a (q * 32 + 3) (omega (arith, hp)) (omega arith) (omega arith) (two v l)
+    message-only = only-copy l mw a (place q text) (omega (arith, hp)) (omega arith) (omega arith) (two v l)
 
-    pub message-words : (getD (writeMessage m q f a l) (q * 32 + 1) 0 ≡ v) × (getD (writeMessage m q f a l) (q * 32 + 2) 0 ≡ l)
+    pub message-words : (word (writeMessage m q f a l) q note ≡ v) × (word (writeMessage m q f a l) q size ≡ l)
     unfolding Mail.writeMessage
     message-words = (
-      copy-far l mw a (q * 32 + 3) (q * 32 + 1) (omega (arith, hp)) (λ i u. omega (arith, hp)) ∙ word1 v l,
-      copy-far l mw a (q * 32 + 3) (q * 32 + 2) (omega (arith, hp)) (λ i u. omega (arith, hp)) ∙ word2 v l,
+      copy-far l mw a (place q text) (place q note) (omega (arith, hp)) (λ i u. omega (arith, hp)) ∙ word1 v l,
+      copy-far l mw a (place q text) (place q size) (omega (arith, hp)) (λ i u. omega (arith, hp)) ∙ word2 v l,
     )
 
-    pub message-letter : 1 ≤ f → f ≤ 7 → Label (getD m (getD m 248 0 * 32 + 7) 0)
-        → Message (getD (writeMessage m q f a l) (q * 32 + 1) 0) (getD (writeMessage m q f a l) (q * 32 + 2) 0)
+    pub message-letter : 1 ≤ f → f ≤ 7 → Label (word m (running m) label)
+        → Message (word (writeMessage m q f a l) q note) (word (writeMessage m q f a l) q size)
     message-letter f1 f2 n =
         rw (message-words .0, message-words .1)
         (record { sender = omega (arith, n .name); known = omega arith; flag = omega arith; small = omega arith; long = λ z. l2 })
 
-  pub message-base : (f a l p : ℕ) → 1 ≤ f → f ≤ 7 → l ≤ 29 → Label (getD m (getD m 248 0 * 32 + 7) 0) → 1 ≤ count p ps
+  pub message-base : (f a l p : ℕ) → 1 ≤ f → f ≤ 7 → l ≤ longest → Label (word m (running m) label) → 1 ≤ count p ps
       → Gave (deliver (writeMessage m q f a l) p q) ps hs g W
   message-base f a l p i j k n h = written-base (message-only f a l k) (message-letter f a l k i j n) p h

@@ -9,6 +9,7 @@ use native.Mathlib.Omega.{arith}
 use lib.ListN.{length, getD, set}
 use lib.Dec.{eqb}
 use borrow.Author.Tests.{eq-eqb, ne-eqb}
+use Rattle.model.specs.Map.{firstControl, memorySize, place, processorList}
 use Rattle.model.specs.Lists as Model
 use Rattle.model.specs.Lists.{hit, count, linkOf, Lists}
 use Rattle.laws.specs.Count.{hit-le, hit-self, hit-other, hit-or, count-append, count-mid}
@@ -16,15 +17,15 @@ use Rattle.laws.specs.Chain.{Page, Chain, Off, NoDup, last, last-in, cha
 
 pub link-le : (a : ℕ) → linkOf a ≤ 1
 unfolding Model.linkOf
-link-le a = hit-le (eqb a 247)
+link-le a = hit-le (eqb a processorList)
 
-pub link-procs : linkOf 247 ≡ 1
+pub link-procs : linkOf processorList ≡ 1
 unfolding Model.linkOf
 link-procs = refl
 
-pub link-other : (a : ℕ) → a ≢ 247 → linkOf a ≡ 0
+pub link-other : (a : ℕ) → a ≢ processorList → linkOf a ≡ 0
 unfolding Model.linkOf
-link-other a n = hit-other a 247 n
+link-other a n = hit-other a processorList n
 
 -- a page has no link in a list of another kind, nor in one of its kind where it is not
 pub off-link : (q a b : ℕ) (xs : List ℕ) → (linkOf b ≡ linkOf a → count q xs ≡ 0) → Off (q * 32 + linkOf a) (linkOf b) xs
@@ -70,8 +71,8 @@ Rep m H L = (a : ℕ) → H a → Chain m (linkOf a) a (L a)
 
 -- a header is in the memory, and is no link of a control page
 pub record Header (a : ℕ) : Type 0 where
-  pub fits : a < 8192
-  pub free : (x k : ℕ) → 236 ≤ x → k ≤ 1 → a ≢ x * 32 + k
+  pub fits : a < memorySize
+  pub free : (x k : ℕ) → firstControl ≤ x → k ≤ 1 → a ≢ place x k
 
 abbrev pub Good : (ℕ → Type 0) → Type 0
 Good H = (a : ℕ) → H a → Header a
@@ -85,7 +86,7 @@ Single H L = (a : ℕ) → H a → NoDup (L a)
 
 pub chain-pages : (m : List ℕ) (k a : ℕ) (xs : List ℕ) → Chain m k a xs → (z : ℕ) → 1 ≤ count z xs → Page z
 chain-pages m k a [] c z h = absurd (omega arith)
-chain-pages m k a (x ∷ xs) c z h = go (hit-or z x) (chain-pages m k (x * 32 + k) xs (c .2) z)
+chain-pages m k a (x ∷ xs) c z h = go (hit-or z x) (chain-pages m k (place x k) xs (c .2) z)
   where
     go : (z ≡ x) ⊎ (z ≢ x) → (1 ≤ count z xs → Page z) → Page z
     go (inl e) ih = omega arith
@@ -99,8 +100,8 @@ pub last-cell : (a : ℕ) (xs : List ℕ) → CellOf (last (linkOf a) a xs) a xs
 last-cell a [] = inl refl
 last-cell a (x ∷ xs) = inr (last-in (linkOf a) a x xs)
 
-module _ (m : List ℕ) (H : ℕ → Type 0) (L : Lists) (hm : length m ≡ 8192) (good : Good H) (apart : Apart H L) (single : Single H L) (rep : Rep m H L) where
-  page-of : (a z : ℕ) → H a → 1 ≤ count z (L a) → 236 ≤ z
+module _ (m : List ℕ) (H : ℕ → Type 0) (L : Lists) (hm : length m ≡ memorySize) (good : Good H) (apart : Apart H L) (single : Single H L) (rep : Rep m H L) where
+  page-of : (a z : ℕ) → H a → 1 ≤ count z (L a) → firstControl ≤ z
   page-of a z ia i = chain-pages m (linkOf a) a (L a) (rep a ia) z i .0
 
   -- no header is a link of a page that is in a chain

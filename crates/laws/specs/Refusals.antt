@@ -9,6 +9,8 @@ use native.Mathlib.Omega.{arith}
 use lib.ListN.{length, getD}
 use lib.Dec.{eqb}
 use borrow.Author.Tests.{eq-eqb}
+use Rattle.model.specs.Map.{memorySize}
+use Rattle.model.specs.Bytes.{running}
 use Rattle.model.specs.declared.Registers.{Registers}
 use Rattle.model.specs.declared.Answer.{Answer}
 use Rattle.model.specs.declared.Answer.the-variants.{Done, Waits, HandedOut, Fault, Refused}
@@ -66,13 +68,13 @@ kind-kept m k o (refused j l e) q = rw e
 pub instruction-kept : (m : List ℕ) (k : ℕ) → Kept m k (instruction m)
 unfolding Call.instruction Call.instructionJudged
 instruction-kept m k =
-    head-each (Kept m k) m Refused _ (same m k) (either (Kept m k) (eqb (getD m 248 0) 0) (same m k 22)
+    head-each (Kept m k) m Refused _ (same m k) (either (Kept m k) (eqb (running m) 0) (same m k 22)
     (kind-kept m k (Model.fetched m (lr m)) (fetched-kind m (lr m))))
 
 pub fresh-kept : (m : List ℕ) (line d k : ℕ) → Kept m k (fresh m line d)
 unfolding Call.fresh
 fresh-kept m line d k =
-    either (Kept m k) (eqb (length m) 8192) (either (Kept m k) (startable line d) (changed m (Model.started m line d) k) (same m k 26)) (same m k 20)
+    either (Kept m k) (eqb (length m) memorySize) (either (Kept m k) (startable line d) (changed m (Model.started m line d) k) (same m k 26)) (same m k 20)
 
 pub interrupt-kept : (m : List ℕ) (n c k : ℕ) → Kept m k (interrupt m n c)
 unfolding Call.interrupt Call.interruptJudged
@@ -83,8 +85,8 @@ interrupt-kept m n c k =
 pub set-kept : (m : List ℕ) (r : Registers) (k : ℕ) → Kept m k (setRegisters m r)
 unfolding Call.setRegisters Call.setJudged
 set-kept m r k =
-    head-each (Kept m k) m Refused _ (same m k) (either (Kept m k) (eqb (getD m 248 0) 0) (same m k 22)
-    (either (Kept m k) (inRange r) (changed m (Model.setRegistersOf m (getD m 248 0) r) k) (same m k 26)))
+    head-each (Kept m k) m Refused _ (same m k) (either (Kept m k) (eqb (running m) 0) (same m k 22)
+    (either (Kept m k) (inRange r) (changed m (Model.setRegistersOf m (running m) r) k) (same m k 26)))
 
 -- ---- an instruction that faults is the one step, on the memory as it was
 abbrev pub Faulted : List ℕ → ℕ → ℕ → Step → Type 0
@@ -123,7 +125,7 @@ kind-fault m f n o (refused j l e) q = absurd (no (rw e at q))
 pub instruction-faults : (m : List ℕ) (f n : ℕ) → Faulted m f n (instruction m)
 unfolding Call.instruction Call.instructionJudged
 instruction-faults m f n =
-    head-each (Faulted m f n) m Refused _ (not-fault m f n) (either (Faulted m f n) (eqb (getD m 248 0) 0) (not-fault m f n 22)
+    head-each (Faulted m f n) m Refused _ (not-fault m f n) (either (Faulted m f n) (eqb (running m) 0) (not-fault m f n 22)
     (kind-fault m f n (Model.fetched m (lr m)) (fetched-kind m (lr m))))
 
 -- reading and judging never write
@@ -131,7 +133,7 @@ pub read-kept : (m : List ℕ) → memoryOf (readRegisters m) ≡ m
 unfolding Call.readRegisters Call.readJudged Answer.memoryOf
 read-kept m =
     let P : Answer.Outcome Held (List ℕ) → Type 0 = λ o. memoryOf o ≡ m in
-    head-each P m Held.Refused _ (λ k. refl) (either P (eqb (getD m 248 0) 0) refl refl)
+    head-each P m Held.Refused _ (λ k. refl) (either P (eqb (running m) 0) refl refl)
 
 pub judge-kept : (m : List ℕ) → memoryOf (judge m) ≡ m
 unfolding Call.judge Answer.memoryOf
@@ -178,13 +180,13 @@ kind-never m o (faulted f i j e) q = no (rw e at q)
 kind-never m o (refused j l e) q = other-number m j l (rw e at q)
 
 module _ {m : List ℕ} (h : Sound m) where
-  size-is : eqb (length m) 8192 ≡ true
-  size-is = eq-eqb (length m) 8192 (h .size)
+  size-is : eqb (length m) memorySize ≡ true
+  size-is = eq-eqb (length m) memorySize (h .size)
 
   pub instruction-never : Never (instruction m)
   unfolding Call.head Call.instruction Call.instructionJudged
   instruction-never =
-      rw (unrefused h) (either Never (eqb (getD m 248 0) 0) (other-number m 22 (omega arith)) (kind-never m (Model.fetched m (lr m))
+      rw (unrefused h) (either Never (eqb (running m) 0) (other-number m 22 (omega arith)) (kind-never m (Model.fetched m (lr m))
       (fetched-kind m (lr m))))
 
   pub fresh-never : (line d : ℕ) → Never (fresh m line d)
@@ -201,19 +203,19 @@ module _ {m : List ℕ} (h : Sound m) where
   pub set-never : (r : Registers) → Never (setRegisters m r)
   unfolding Call.head Call.setRegisters Call.setJudged
   set-never r =
-      rw (unrefused h) (either Never (eqb (getD m 248 0) 0) (other-number m 22 (omega arith))
-      (either Never (inRange r) (a-done (Model.setRegistersOf m (getD m 248 0) r)) (other-number m 26 (omega arith))))
+      rw (unrefused h) (either Never (eqb (running m) 0) (other-number m 22 (omega arith))
+      (either Never (inRange r) (a-done (Model.setRegistersOf m (running m) r)) (other-number m 26 (omega arith))))
 
   pub read-never : answerOf (readRegisters m) ≢ Held.Refused 21
   unfolding Call.head Call.readRegisters Call.readJudged Answer.answerOf
   read-never =
       let P : Answer.Outcome Held (List ℕ) → Type 0 = λ o. answerOf o ≢ Held.Refused 21 in
-      rw (unrefused h) (either P (eqb (getD m 248 0) 0) idle has)
+      rw (unrefused h) (either P (eqb (running m) 0) idle has)
     where
       idle : Held.Refused 22 ≢ Held.Refused 21
       idle e = let z : _≡_ {A = ℕ} 22 21 = cc in omega arith
 
-      has : Held.Has (Model.registersOf m (getD m 248 0)) ≢ Held.Refused 21
+      has : Held.Has (Model.registersOf m (running m)) ≢ Held.Refused 21
       has e = let z : _≡_ {A = ℕ} 0 1 = cc in omega arith
 
   pub judge-accepts : answerOf (judge m) ≡ Verdict.WellFormed

@@ -6,6 +6,8 @@ use mathlib.Core.List.{List, [], _∷_}
 use Prim.Native.Nat.{ℕ, _+_, _-_, _%_, _≤_, _<_}
 use native.Mathlib.Omega.{arith}
 use lib.ListN.{getD}
+use Rattle.model.specs.Address.{wrapped}
+use Rattle.model.specs.Bytes.{running}
 use Rattle.model.specs.declared.Arguments.{Arguments}
 use Rattle.model.specs.Instruction as Instruction
 use Rattle.model.specs.Instruction.{shapeFor, arguments, countedArguments}
@@ -48,32 +50,32 @@ pub direct-bound : (m : List ℕ) → Small m → (n c : ℕ) → Bound c (direc
 unfolding Instruction.direct Instruction.directCounted Instruction.directCreating
 direct-bound m s n c = record {
   field = direct-field m n (shapeFor c);
-  count = λ e. rw e (omega (arith, s .at ((n + 3) % 8192)));
-  send = λ e. rw e (omega (arith, s .at ((n + 2) % 8192)));
-  wait = λ e. rw e (omega (arith, s .at ((n + 2) % 8192)));
-  create = λ e. rw e (omega (arith, s .at ((n + 2) % 8192)));
+  count = λ e. rw e (omega (arith, s .at (wrapped n 3)));
+  send = λ e. rw e (omega (arith, s .at (wrapped n 2)));
+  wait = λ e. rw e (omega (arith, s .at (wrapped n 2)));
+  create = λ e. rw e (omega (arith, s .at (wrapped n 2)));
 }
 
 pointed-field : (m : List ℕ) (e s : ℕ) → pointed m e s .field < 16
 unfolding Instruction.pointed Instruction.pointedCreating
 pointed-field m e s =
     seven (λ (x : Arguments). x .field < 16) (arguments 0 0 0 0) (arguments (Model.fourAt m e 0) 0 0 0)
-    (arguments (Model.fourAt m e 0) 0 0 (Model.addressAt m ((e + 1) % 8192))) (countedArguments (argument m e 0) (argument m e 1))
-    (arguments (Model.fourAt m e 0) (Model.flagAt m e) 0 0) (arguments (Model.fourAt m e 0) (Model.flagAt m e) 0 (Model.addressAt m ((e + 2) % 8192)))
+    (arguments (Model.fourAt m e 0) 0 0 (Model.addressAt m (wrapped e 1))) (countedArguments (argument m e 0) (argument m e 1))
+    (arguments (Model.fourAt m e 0) (Model.flagAt m e) 0 0) (arguments (Model.fourAt m e 0) (Model.flagAt m e) 0 (Model.addressAt m (wrapped e 2)))
     (Model.pointedCreating m e) (omega arith) (omega arith) (omega arith) (omega arith) (omega arith) (omega arith) (omega arith) s
 
 pub pointed-bound : (m : List ℕ) → Small m → (c e : ℕ) → Bound c (pointed m e (shapeFor c))
 unfolding Instruction.pointed Instruction.pointedCreating
 pointed-bound m s c e = record {
   field = pointed-field m e (shapeFor c);
-  count = λ q. rw q (omega (arith, s .at ((e + 1) % 8192)));
+  count = λ q. rw q (omega (arith, s .at (wrapped e 1)));
   send = λ q. rw q (omega arith);
   wait = λ q. rw q (omega arith);
   create = λ q. rw q (omega arith);
 }
 
 -- ---- of a well-formed memory where someone runs
-pub fetched-fine : {m : List ℕ} → WellFormed m → getD m 248 0 ≢ 0 → Small m → (n : ℕ) → Fine (fetched m n)
+pub fetched-fine : {m : List ℕ} → WellFormed m → running m ≢ 0 → Small m → (n : ℕ) → Fine (fetched m n)
 unfolding Answer.memoryOf
 fetched-fine {m} w d s = fetched-each {B = Bound} Fine (record {
   direct = direct-bound m s;

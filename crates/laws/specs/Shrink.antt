@@ -8,6 +8,8 @@ use native.Mathlib.Omega.{arith}
 use lib.ListN.{length, getD, set, length-set, length-append}
 use lib.Seq.{getD-set-same}
 use lib.Dec.{eqb}
+use Rattle.model.specs.Map.{freeList, grantFor, guardedLast, headerAfter, listLink, ownQueue, pageQueue, place, processorList, q1, q2, runningPage}
+use Rattle.model.specs.Bytes.{store, word}
 use Rattle.model.specs.Bytes.{leave}
 use Rattle.model.specs.Lists.{hit, count, Lists, sum, uses, queues}
 use Rattle.laws.specs.Count.{hit-self, hit-other, hit-or, count-append, zero-or}
@@ -46,7 +48,7 @@ module _ (xs : List ℕ) (p : ℕ) (ys : List ℕ) where
 
   module _ {L : Lists} (s : Sep P L) where
     abbrev A : Lists
-    A = upd L 247 Q
+    A = upd L processorList Q
 
     pub gone : count p Q ≡ 0
     gone = omega (arith, count-more xs p ys p, hit-self p, proc-once s p)
@@ -54,55 +56,55 @@ module _ (xs : List ℕ) (p : ℕ) (ys : List ℕ) where
     not-p : (y : ℕ) → 1 ≤ count y Q → y ≢ p
     not-p y h e = omega (arith, ap (λ (z : ℕ). count z Q) e, gone)
 
-    at-other : (a : ℕ) → a ≢ 247 → A a ≡ L a
-    at-other a d = upd-other L 247 a Q d
+    at-other : (a : ℕ) → a ≢ processorList → A a ≡ L a
+    at-other a d = upd-other L processorList a Q d
 
     at-queue : (a : ℕ) → 1 ≤ count a (queues P) → A a ≡ L a
     at-queue a h = at-other a (λ e. omega (arith, ap (λ (z : ℕ). count z (queues P)) e, procs-once s .away))
 
     -- all but p, its Q1 and its Q2
-    pub shrunk : (z : ℕ) → sum z A (uses Q) + (hit (eqb z p) + (count z (L (p * 32 + 5)) + count z (L (p * 32 + 6)))) ≡ sum z L (uses P)
+    pub shrunk : (z : ℕ) → sum z A (uses Q) + (hit (eqb z p) + (count z (L (place p q1)) + count z (L (place p q2)))) ≡ sum z L (uses P)
     shrunk z =
         let pg = proc-page s p in-P in
         omega (
           arith,
           uses-sum xs p ys z A,
-          ap (count z) (at-other (p * 32 + 5) (omega (arith, pg))),
-          ap (count z) (at-other (p * 32 + 6) (omega (arith, pg))),
-          sum-upd z L 247 Q (uses P) (procs-once s .here),
+          ap (count z) (at-other (place p q1) (omega (arith, pg))),
+          ap (count z) (at-other (place p q2) (omega (arith, pg))),
+          sum-upd z L processorList Q (uses P) (procs-once s .here),
           count-more xs p ys z,
           ap (count z) (s .procs),
         )
 
     sum-left : (z : ℕ) → sum z A (queues P) ≡ sum z L (queues P)
-    sum-left z = sum-skip z L 247 Q (queues P) (procs-once s .away)
+    sum-left z = sum-skip z L processorList Q (queues P) (procs-once s .away)
 
-    module _ {W : View} (f : Facts P L W 32) (idle : sum p L (queues P) ≡ 0) (runs : W .low 248 ≢ p) where
+    module _ {W : View} (f : Facts P L W 32) (idle : sum p L (queues P) ≡ 0) (runs : W .low runningPage ≢ p) where
       -- its own wait is empty
-      own-empty : (x : ℕ) → 1 ≤ count x (L (p * 32 + 4)) → ⊥
+      own-empty : (x : ℕ) → 1 ≤ count x (L (place p ownQueue)) → ⊥
       own-empty x h =
           let o = f .own p in-P x h .owner in
           let c = rw o at h in
-          omega (arith, sum-one p L (p * 32 + 4) (queues P) (omega (arith, own-once s p in-P .here)), idle)
+          omega (arith, sum-one p L (place p ownQueue) (queues P) (omega (arith, own-once s p in-P .here)), idle)
 
-      none : (z : ℕ) → count z (L (p * 32 + 4)) ≡ 0
-      none z = go (zero-or (count z (L (p * 32 + 4))))
+      none : (z : ℕ) → count z (L (place p ownQueue)) ≡ 0
+      none z = go (zero-or (count z (L (place p ownQueue))))
         where
-          go : (count z (L (p * 32 + 4)) ≡ 0) ⊎ (1 ≤ count z (L (p * 32 + 4))) → count z (L (p * 32 + 4)) ≡ 0
+          go : (count z (L (place p ownQueue)) ≡ 0) ⊎ (1 ≤ count z (L (place p ownQueue))) → count z (L (place p ownQueue)) ≡ 0
           go (inl e) = e
           go (inr h) = absurd (own-empty z h)
 
       sum-Q : (z : ℕ) → sum z A (queues Q) ≡ sum z L (queues P)
       sum-Q z =
           let pg = proc-page s p in-P in
-          omega (arith, queues-sum xs p ys z A, sum-left z, ap (count z) (at-other (p * 32 + 4) (omega (arith, pg))), none z)
+          omega (arith, queues-sum xs p ys z A, sum-left z, ap (count z) (at-other (place p ownQueue) (omega (arith, pg))), none z)
 
       waits : (z : ℕ) → (z ≡ p) ⊎ (z ≢ p) → sum z A (queues Q) ≤ count z Q
       waits z (inl e) = rw e (omega (arith, sum-Q p, idle))
       waits z (inr d) = omega (arith, sum-Q z, s .waits z, count-more xs p ys z, hit-other z p d)
 
       pub shrink-sep : Sep Q A
-      shrink-sep = record { procs = upd-same L 247 Q; most = λ z. omega (arith, shrunk z, s .most z); waits = λ z. waits z (hit-or z p) }
+      shrink-sep = record { procs = upd-same L processorList Q; most = λ z. omega (arith, shrunk z, s .most z); waits = λ z. waits z (hit-or z p) }
 
       named : (k : ℕ) → bearers (W .label) P k ≡ bearers (W .label) Q k + hit (eqb k (W .label p % 16))
       named k = names-more xs p ys (λ y. W .label y % 16) k
@@ -121,24 +123,24 @@ module _ (xs : List ℕ) (p : ℕ) (ys : List ℕ) where
         seats = record {
           bit = λ y h. sum-Q y ∙ f .seats .bit y (left y h);
           zeros = λ y h. f .seats .zeros y (left y h);
-          served = λ k h y c. f .seats .served k h y (rw (at-other (132 + 2 * k) (omega arith)) at c);
-          asking = λ y c. f .seats .asking y (rw (at-other 246 (omega arith)) at c);
+          served = λ k h y c. f .seats .served k h y (rw (at-other (headerAfter k) (omega arith)) at c);
+          asking = λ y c. f .seats .asking y (rw (at-other pageQueue (omega arith)) at c);
           quiet = λ y h z. f .seats .quiet y (left y h) z;
         };
         own = λ y h x c.
             let t = proc-page s y (left y h) in
-            rw (at-other (y * 32 + 5) (omega arith)) (f .own y (left y h) x (rw (at-other (y * 32 + 4) (omega arith)) at c));
-        sems = λ a h. rw (at-queue (a + 1) (queue-left (a + 1) h), stock-same L A (at-other 244 (omega arith)) a) (f .sems a (queue-left (a + 1) h));
+            rw (at-other (place y q1) (omega arith)) (f .own y (left y h) x (rw (at-other (place y ownQueue) (omega arith)) at c));
+        sems = λ a h. rw (at-queue (a + 1) (queue-left (a + 1) h), stock-same L A (at-other freeList (omega arith)) a) (f .sems a (queue-left (a + 1) h));
         granted = record {
           bare = λ y c.
-              rw (at-other 244 (omega arith), at-other (320 + W .label y % 16) (omega arith)) (f .granted .bare y (rw (at-other 246 (omega arith)) at c));
+              rw (at-other freeList (omega arith), at-other (320 + W .label y % 16) (omega arith)) (f .granted .bare y (rw (at-other pageQueue (omega arith)) at c));
           known = λ k h d c.
-              omega (arith, named k, hit-other k (W .label p % 16) d, f .granted .known k h (omega arith) (rw (at-other (320 + k) (omega arith)) at c));
+              omega (arith, named k, hit-other k (W .label p % 16) d, f .granted .known k h (omega arith) (rw (at-other (grantFor k) (omega arith)) at c));
         };
-        mail = λ y w h u v x c. let t = proc-page s y (left y h) in f .mail y w (left y h) u v x (rw (at-other (y * 32 + w) (omega arith)) at c);
+        mail = λ y w h u v x c. let t = proc-page s y (left y h) in f .mail y w (left y h) u v x (rw (at-other (place y w) (omega arith)) at c);
         runs = record {
           idle = f .runs .idle;
-          listed = λ d. omega (arith, f .runs .listed d, count-more xs p ys (W .low 248), hit-other (W .low 248) p runs);
+          listed = λ d. omega (arith, f .runs .listed d, count-more xs p ys (W .low runningPage), hit-other (W .low runningPage) p runs);
           tag = f .runs .tag;
         };
         codes = f .codes;
@@ -151,47 +153,47 @@ module _ (xs : List ℕ) (p : ℕ) (ys : List ℕ) where
       pg : Page p
       pg = proc-page s p in-P
 
-      h7 : Head P 247
-      h7 = (in-procs P, grant-low 247 (omega arith))
+      h7 : Head P processorList
+      h7 = (in-procs P, grant-low processorList (omega arith))
 
       abbrev c : ℕ
-      c = last 1 247 xs
+      c = last 1 processorList xs
 
       abbrev v : ℕ
-      v = getD m (p * 32 + 1) 0
+      v = word m p listLink
 
       abbrev m2 : List ℕ
-      m2 = set (set m c v) (p * 32 + 1) 0
+      m2 = store (set m c v) p listLink 0
 
-      chain7 : Chain m 1 247 (xs ++ p ∷ ys)
-      chain7 = rw (link-procs, s .procs) at (x .holds .rep 247 h7)
+      chain7 : Chain m 1 processorList (xs ++ p ∷ ys)
+      chain7 = rw (link-procs, s .procs) at (x .holds .rep processorList h7)
 
-      pub left-is : leave m 247 1 p ≡ m2
+      pub left-is : leave m processorList 1 p ≡ m2
       left-is =
-          leave-is m 1 247 p xs ys chain7 (omega (arith, ap length (s .procs), list-short s 247 (in-procs P), length-append xs (p ∷ ys)))
+          leave-is m 1 processorList p xs ys chain7 (omega (arith, ap length (s .procs), list-short s processorList (in-procs P), length-append xs (p ∷ ys)))
           (omega (arith, proc-once s p, count-append p xs (p ∷ ys), hit-self p))
 
       -- the chains of all the heads of before
       rep-P : Rep m2 (Head P) A
-      rep-P = rw link-procs at (rep-leave m (Head P) L (x .size) (good s) (apart s) (single s) (x .holds .rep) 247 p xs ys h7 (s .procs))
+      rep-P = rw link-procs at (rep-leave m (Head P) L (x .size) (good s) (apart s) (single s) (x .holds .rep) processorList p xs ys h7 (s .procs))
 
-      pub same : (a : ℕ) → a ≢ 247 → ((z : ℕ) → 1 ≤ count z P → a ≢ z * 32 + 1) → getD m2 a 0 ≡ getD m a 0
+      pub same : (a : ℕ) → a ≢ processorList → ((z : ℕ) → 1 ≤ count z P → a ≢ place z 1) → getD m2 a 0 ≡ getD m a 0
       same a n7 nz =
-          other (set m c v) (p * 32 + 1) 0 a (nz p in-P)
-          ∙ other m c v a (last-not 1 247 xs a n7 (λ z i. nz z (omega (arith, count-append z xs (p ∷ ys)))))
+          other (set m c v) (place p listLink) 0 a (nz p in-P)
+          ∙ other m c v a (last-not 1 processorList xs a n7 (λ z i. nz z (omega (arith, count-append z xs (p ∷ ys)))))
 
-      same-word : (y j : ℕ) → Page y → j < 32 → j ≢ 1 → getD m2 (y * 32 + j) 0 ≡ getD m (y * 32 + j) 0
-      same-word y j h l d = same (y * 32 + j) (omega (arith, h)) (λ z i. omega arith)
+      same-word : (y j : ℕ) → Page y → j < 32 → j ≢ 1 → word m2 y j ≡ word m y j
+      same-word y j h l d = same (place y j) (omega (arith, h)) (λ z i. omega arith)
 
-      same-low : (a : ℕ) → a < 7552 → a ≢ 247 → getD m2 a 0 ≡ getD m a 0
+      same-low : (a : ℕ) → a < guardedLast → a ≢ processorList → getD m2 a 0 ≡ getD m a 0
       same-low a l d = same a d (λ z i. let t = proc-page s z i in omega arith)
 
-      pub shrink-mem : Mem (leave m 247 1 p) Q A (withWords W (put1 (W .note) p 0) (W .reason) (W .label) (W .state))
+      pub shrink-mem : Mem (leave m processorList 1 p) Q A (withWords W (put1 (W .note) p 0) (W .reason) (W .label) (W .state))
       shrink-mem = rw left-is (record {
         size = simp length-set (x .size);
         holds = record {
           rep = λ a h. rep-P a (head-left a (h .0), h .1);
-          grant = λ k h. rw (at-other (320 + k) (omega arith), same-low (320 + k) (omega arith) (omega arith)) (x .holds .grant k h);
+          grant = λ k h. rw (at-other (grantFor k) (omega arith), same-low (grantFor k) (omega arith) (omega arith)) (x .holds .grant k h);
         };
         reads = record {
           words = record {
@@ -206,20 +208,20 @@ module _ (xs : List ℕ) (p : ℕ) (ys : List ℕ) where
         };
       })
         where
-          note : (y : ℕ) → Page y → count y Q ≡ 0 → (y ≡ p) ⊎ (y ≢ p) → getD m2 (y * 32 + 1) 0 ≡ put1 (W .note) p 0 y
+          note : (y : ℕ) → Page y → count y Q ≡ 0 → (y ≡ p) ⊎ (y ≢ p) → word m2 y 1 ≡ put1 (W .note) p 0 y
           note y h i (inl e) =
-              rw (put1-same (W .note) p 0 y e, e) (getD-set-same (set m c v) (p * 32 + 1) 0 0 (simp length-set (omega (arith, pg, x .size))))
+              rw (put1-same (W .note) p 0 y e, e) (getD-set-same (set m c v) (place p listLink) 0 0 (simp length-set (omega (arith, pg, x .size))))
           note y h i (inr d) =
               let out : count y P ≡ 0 = omega (arith, count-more xs p ys y, hit-other y p d) in
               rw (put1-other (W .note) p 0 y d)
-              (same (y * 32 + 1) (omega (arith, h)) (λ z j e. let t : y ≡ z = omega arith in omega (arith, ap (λ (w : ℕ). count w P) t, out))
+              (same (place y 1) (omega (arith, h)) (λ z j e. let t : y ≡ z = omega arith in omega (arith, ap (λ (w : ℕ). count w P) t, out))
               ∙ x .reads .words .note y h out)
 
           sem : (a : ℕ) → Seat P a → getD m2 a 0 ≡ getD m a 0
           sem = seat-same m m2 (λ a i j. same-low a (omega arith) (omega arith)) (λ y u. same-word y 3 (proc-page s y u) (omega arith) (omega arith))
 
       -- its mail hangs there still
-      pub mail-left : (w : ℕ) → 5 ≤ w → w ≤ 6 → Chain (leave m 247 1 p) 0 (p * 32 + w) (L (p * 32 + w))
+      pub mail-left : (w : ℕ) → 5 ≤ w → w ≤ 6 → Chain (leave m processorList 1 p) 0 (place p w) (L (place p w))
       mail-left w u k =
-          let r = rep-P (p * 32 + w) (in-q P p w u k in-P, grant-high (p * 32 + w) (omega (arith, pg))) in
-          rw left-is (rw (link-other (p * 32 + w) (omega (arith, pg)), at-other (p * 32 + w) (omega (arith, pg))) at r)
+          let r = rep-P (place p w) (in-q P p w u k in-P, grant-high (place p w) (omega (arith, pg))) in
+          rw left-is (rw (link-other (place p w) (omega (arith, pg)), at-other (place p w) (omega (arith, pg))) at r)

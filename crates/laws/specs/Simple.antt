@@ -9,6 +9,9 @@ use native.Mathlib.Omega.{arith}
 use lib.ListN.{getD, set}
 use lib.Dec.{eqb, ltb, leb}
 use borrow.Author.Tests.{eqb-true, ltb-true, ltb-false, leb-false}
+use Rattle.model.specs.Map as Map
+use Rattle.model.specs.Map.{codeWord, guardedLast, highLr, label, lowLr, place, wordA, wordS}
+use Rattle.model.specs.Bytes.{running, store, word}
 use Rattle.model.specs.declared.Registers.{Registers}
 use Rattle.model.specs.Map.{threeFlags, lastFault}
 use Rattle.model.specs.Address as Address
@@ -64,7 +67,7 @@ first-same f g (z ∷ zs) h = go (g z) refl (h z (omega (arith, hit-self z))) (f
     go true e d ih = first-yes f z zs (d ∙ e) ∙ sym (first-yes g z zs e)
     go false e d ih = first-no f z zs (d ∙ e) ∙ ih ∙ sym (first-no g z zs e)
 
-pub named-same : (m m1 : List ℕ) (n : ℕ) (zs : List ℕ) → ((z : ℕ) → 1 ≤ count z zs → getD m1 (z * 32 + 7) 0 ≡ getD m (z * 32 + 7) 0)
+pub named-same : (m m1 : List ℕ) (n : ℕ) (zs : List ℕ) → ((z : ℕ) → 1 ≤ count z zs → word m1 z label ≡ word m z label)
     → first (isNamed m1 n) zs ≡ first (isNamed m n) zs
 unfolding Processor.isNamed
 named-same m m1 n zs h = first-same (isNamed m1 n) (isNamed m n) zs (λ z i. rw (h z i))
@@ -87,14 +90,14 @@ module _ {m : List ℕ} {ps : List ℕ} {L : Lists} {W : View} {hs : List ℕ} {
 -- where an unprotected word stands
 pub record Open (a : ℕ) : Type 0 where
   pub above : 16 ≤ a
-  pub below : a < 7552
+  pub below : a < guardedLast
   pub between : (b : ℕ) → 128 ≤ b → b < 352 → a ≢ b
 
 pub clear-open : (a : ℕ) → guarded a ≡ false → Open a
 unfolding Address.guarded
-clear-open a h = go (ltb a 16) (ltb a 128) (ltb a 352) (leb 7552 a) refl refl refl refl
+clear-open a h = go (ltb a 16) (ltb a 128) (ltb a 352) (leb guardedLast a) refl refl refl refl
   where
-    go : (x y z t : Bool) → ltb a 16 ≡ x → ltb a 128 ≡ y → ltb a 352 ≡ z → leb 7552 a ≡ t → Open a
+    go : (x y z t : Bool) → ltb a 16 ≡ x → ltb a 128 ≡ y → ltb a 352 ≡ z → leb guardedLast a ≡ t → Open a
     go true y z t e f i j = let c = rw e at h in let k : _≡_ {A = ℕ} 0 1 = cc in absurd (omega arith)
     go false true z t e f i j =
         let l = ltb-false a 16 e in
@@ -104,7 +107,7 @@ clear-open a h = go (ltb a 16) (ltb a 128) (ltb a 352) (leb 7552 a) refl refl re
     go false false false true e f i j = let c = rw (e, f, i, j) at h in let k : _≡_ {A = ℕ} 0 1 = cc in absurd (omega arith)
     go false false false false e f i j =
         let l = ltb-false a 352 i in
-        let u = leb-false 7552 a j in
+        let u = leb-false guardedLast a j in
         record { above = omega arith; below = omega arith; between = λ b c d. omega arith }
 
 pub quiet-clear : (a : ℕ) → guarded a ≡ false → Quiet a
@@ -156,7 +159,7 @@ code-base {W = W} c k a l u o b = record {
     kind (inr e) = omega arith
 
 -- ---- the instructions, of a well-formed memory where someone runs
-module _ {m : List ℕ} (w : WellFormed m) (d : getD m 248 0 ≢ 0) where
+module _ {m : List ℕ} (w : WellFormed m) (d : running m ≢ 0) where
   open Busy (busy w d) using (base as b, runs as hr, ready)
 
   pub fails : (f : ℕ) → 1 ≤ f → f ≤ lastFault → Fine (Model.fault m f)
@@ -172,8 +175,8 @@ module _ {m : List ℕ} (w : WellFormed m) (d : getD m 248 0 ≢ 0) where
   pub cvi-fine : (c a n : ℕ) → c < 16 → Fine (Model.cvi m c a n)
   cvi-fine c a n l = cvi-each bad c a n (λ z.
       let k = b .facts .codes in
-      let n0 : c ≢ 0 = λ q. (let t = ap (λ (y : ℕ). getD m (256 + 2 * y) 0 / 32) q in omega (arith, k .zero)) in
-      let n1 : c ≢ 1 = λ q. (let t = ap (λ (y : ℕ). getD m (256 + 2 * y) 0 / 32) q in omega (arith, k .one)) in
+      let n0 : c ≢ 0 = λ q. (let t = ap (λ (y : ℕ). getD m (codeWord y) 0 / 32) q in omega (arith, k .zero)) in
+      let n1 : c ≢ 1 = λ q. (let t = ap (λ (y : ℕ). getD m (codeWord y) 0 / 32) q in omega (arith, k .one)) in
       done-fine (code-base c 2 a (omega arith) l (inr refl) b) n)
 
   pub dvi-fine : (c n : ℕ) → c < 16 → Fine (Model.dvi m c n)
@@ -186,8 +189,8 @@ module _ {m : List ℕ} (w : WellFormed m) (d : getD m 248 0 ≢ 0) where
       done-fine (start-base (base-kept (lr-kept m p a (λ z. proc-page (b .facts .sep) p h)) b) p h) len)
 
   -- ---- code 13
-  reg : (k v : ℕ) (m′ : List ℕ) → 8 ≤ k → k < 12 → Kept m m′ → Kept m (set m′ (getD m 248 0 * 32 + k) v)
-  reg k v m′ l u h = kept-set (getD m 248 0 * 32 + k) v (quiet-run (getD m 248 0) k (run-page b) l (omega arith) (omega arith)) h
+  reg : (k v : ℕ) (m′ : List ℕ) → 8 ≤ k → k < 12 → Kept m m′ → Kept m (store m′ (running m) k v)
+  reg k v m′ l u h = kept-set (place (running m) k) v (quiet-run (running m) k (run-page b) l (omega arith) (omega arith)) h
 
   worked-kept : (o a : ℕ) → guarded a ≡ false → Kept m (Model.worked m o a)
   unfolding Operate.worked Operate.adds Operate.storesA Operate.ands Operate.increments
@@ -214,26 +217,26 @@ module _ {m : List ℕ} (w : WellFormed m) (d : getD m 248 0 ≢ 0) where
   low-bits : (u x : ℕ) → u % 64 / 16 ≡ 0 → ((u / 16 * 16 + x % 16) % 128 / 64 ≡ u % 128 / 64) × ((u / 16 * 16 + x % 16) % 64 / 16 ≡ 0)
   low-bits u x h = (omega arith, omega arith)
 
-  pub registers-well : (r : Registers) → WellFormed (setRegistersOf m (getD m 248 0) r)
+  pub registers-well : (r : Registers) → WellFormed (setRegistersOf m (running m) r)
   unfolding Processor.setRegistersOf Processor.setFlagsLr
   registers-well r =
-      let p = getD m 248 0 in
-      let m2 = set (set m (p * 32 + 8) (r .a % 256)) (p * 32 + 9) (r .s % 256) in
-      let m3 = set m2 (p * 32 + 10) (threeFlags (r .p) (r .z) (r .ci) + r .lr / 256 % 32) in
-      let k : Kept m (set m3 (p * 32 + 11) (r .lr % 256)) =
+      let p = running m in
+      let m2 = store (store m p wordA (r .a % 256)) p wordS (r .s % 256) in
+      let m3 = store m2 p highLr (threeFlags (r .p) (r .z) (r .ci) + r .lr / 256 % 32) in
+      let k : Kept m (store m3 p lowLr (r .lr % 256)) =
       reg 11 (r .lr % 256) m3 (omega arith) (omega arith) (reg 10 (threeFlags (r .p) (r .z) (r .ci) + r .lr / 256 % 32) m2 (omega arith) (omega arith)
-      (reg 9 (r .s % 256) (set m (p * 32 + 8) (r .a % 256)) (omega arith) (omega arith) (reg 8 (r .a % 256) m (omega arith) (omega arith) (kept-refl m)))) in
-      let v = getD m (p * 32 + 12) 0 / 16 * 16 + r .w % 16 in
+      (reg 9 (r .s % 256) (store m p wordA (r .a % 256)) (omega arith) (omega arith) (reg 8 (r .a % 256) m (omega arith) (omega arith) (kept-refl m)))) in
+      let v = word m p Map.state / 16 * 16 + r .w % 16 in
       rw (k .state p (run-page b d)) (well-formed (record {
-        base = state-base p v hr (low-bits (getD m (p * 32 + 12) 0) (r .w) (b .facts .seats .zeros p hr)) (base-kept k b);
+        base = state-base p v hr (low-bits (word m p Map.state) (r .w) (b .facts .seats .zeros p hr)) (base-kept k b);
         best = record {
-          ready = λ n. rw (put1-same (λ y. getD m (y * 32 + 12) 0) p v p refl) (omega (arith, ready));
+          ready = λ n. rw (put1-same (λ y. word m y Map.state) p v p refl) (omega (arith, ready));
           top = λ y j c. invariant w .best .top y j (still y c (hit-or y p));
         };
       }))
     where
-      still : (y : ℕ) → suc (put1 (λ z. getD m (z * 32 + 12) 0) (getD m 248 0) (getD m (getD m 248 0 * 32 + 12) 0 / 16 * 16 + r .w % 16) y) ≤ 64
-          → (y ≡ getD m 248 0) ⊎ (y ≢ getD m 248 0) → suc (getD m (y * 32 + 12) 0) ≤ 64
+      still : (y : ℕ) → suc (put1 (λ z. word m z Map.state) (running m) (word m (running m) Map.state / 16 * 16 + r .w % 16) y) ≤ 64
+          → (y ≡ running m) ⊎ (y ≢ running m) → suc (word m y Map.state) ≤ 64
       still y c (inl e) = rw e (omega (arith, ready))
       still y c (inr n) =
-          rw (put1-other (λ z. getD m (z * 32 + 12) 0) (getD m 248 0) (getD m (getD m 248 0 * 32 + 12) 0 / 16 * 16 + r .w % 16) y n) at c
+          rw (put1-other (λ z. word m z Map.state) (running m) (word m (running m) Map.state / 16 * 16 + r .w % 16) y n) at c

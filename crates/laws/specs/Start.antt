@@ -8,6 +8,11 @@ use Prim.Native.Nat.{ℕ, zero, suc, _+_, _-_, _*_, _/_, _%_, _≤_, _<_}
 use native.Mathlib.Omega.{arith}
 use lib.ListN.{length, getD, set, length-set, length-replicate}
 use lib.Seq.{getD-set-same, getD-set-other}
+use Rattle.model.specs.Map as Map
+use Rattle.model.specs.Map.{c0, c1, c2, c3, clockLine, codeWord, firstControl, freeList, freeSemaphore, guardedLast, link, memorySize}
+use Rattle.model.specs.Map.{pageQueue, place, processorList, runningLabel, runningPage}
+use Rattle.model.specs.Address.{wrapped}
+use Rattle.model.specs.Bytes.{store}
 use Rattle.model.specs.Store.{Store, bytes, trees, tget, tput, tzero, getT, putT, sizeT}
 use Rattle.model.specs.Same.{trees-is-bytes}
 use Rattle.model.specs.Rule.{Rule, most, holds, all, every}
@@ -31,21 +36,21 @@ abbrev other : Rule
 other = most 0 0
 
 rest : (S : Store) → S .M → Rule
-rest S m = rules S other m (Lists.lists S m 247) (Lists.lists S m)
+rest S m = rules S other m (Lists.lists S m processorList) (Lists.lists S m)
 
 -- what is computed, with the line and the divider open
 pub record Computed (line divider : ℕ) (S : Store) : Type 0 where
   rules : holds (rest S (Fresh.started S (S .zeros) line divider)) ≡ true
-  size : S .size (Fresh.started S (S .zeros) line divider) ≡ 8192
-  at239 : S .get (Fresh.started S (S .zeros) line divider) 239 ≡ line
-  at240 : S .get (Fresh.started S (S .zeros) line divider) 240 ≡ 0
-  at241 : S .get (Fresh.started S (S .zeros) line divider) 241 ≡ 0
-  at242 : S .get (Fresh.started S (S .zeros) line divider) 242 ≡ 0
-  at243 : S .get (Fresh.started S (S .zeros) line divider) 243 ≡ 0
-  at251 : S .get (Fresh.started S (S .zeros) line divider) 251 ≡ divider
-  pub at244 : S .get (Fresh.started S (S .zeros) line divider) 244 ≡ 237
-  pub at246 : S .get (Fresh.started S (S .zeros) line divider) 246 ≡ 0
-  pub at248 : S .get (Fresh.started S (S .zeros) line divider) 248 ≡ 236
+  size : S .size (Fresh.started S (S .zeros) line divider) ≡ memorySize
+  at239 : S .get (Fresh.started S (S .zeros) line divider) clockLine ≡ line
+  at240 : S .get (Fresh.started S (S .zeros) line divider) c0 ≡ 0
+  at241 : S .get (Fresh.started S (S .zeros) line divider) c1 ≡ 0
+  at242 : S .get (Fresh.started S (S .zeros) line divider) c2 ≡ 0
+  at243 : S .get (Fresh.started S (S .zeros) line divider) c3 ≡ 0
+  at251 : S .get (Fresh.started S (S .zeros) line divider) Map.divider ≡ divider
+  pub at244 : S .get (Fresh.started S (S .zeros) line divider) freeList ≡ 237
+  pub at246 : S .get (Fresh.started S (S .zeros) line divider) pageQueue ≡ 0
+  pub at248 : S .get (Fresh.started S (S .zeros) line divider) runningPage ≡ firstControl
   pub at321 : S .get (Fresh.started S (S .zeros) line divider) 321 ≡ 0
   pub at7559 : S .get (Fresh.started S (S .zeros) line divider) 7559 ≡ 17
 
@@ -86,10 +91,10 @@ zeros-fresh line divider h =
     let c = computed line divider in
     let m = started (bytes .zeros) line divider in
     let L = lists m in
-    let t = sentences other m (L 247) L (sound (rest bytes m) (c .rules)) .0 in
+    let t = sentences other m (L processorList) L (sound (rest bytes m) (c .rules)) .0 in
     record {
       size = c .size;
-      accepted = complete (Judge.wellFormed bytes m (L 247) L) (together (Judge.clock bytes m (L 247) L) m (L 247) L t (
+      accepted = complete (Judge.wellFormed bytes m (L processorList) L) (together (Judge.clock bytes m (L processorList) L) m (L processorList) L t (
         (omega (arith, c .at240, c .at251), (omega (arith, c .at241), (omega (arith, c .at242), omega (arith, c .at243)))),
         ((omega (arith, c .at251), omega (arith, c .at251)), (omega (arith, c .at239), omega (arith, c .at239))),
       ));
@@ -97,14 +102,14 @@ zeros-fresh line divider h =
 
 -- ---- two memories that hold the same where the judge looks
 abbrev Told : ℕ → Type 0
-Told a = ((128 ≤ a) × (a < 352)) ⊎ ((7552 ≤ a) × (a < 8192))
+Told a = ((128 ≤ a) × (a < 352)) ⊎ ((guardedLast ≤ a) × (a < memorySize))
 
 pub record Agree (m m′ : List ℕ) : Type 0 where
-  size : length m ≡ 8192
-  size′ : length m′ ≡ 8192
+  size : length m ≡ memorySize
+  size′ : length m′ ≡ memorySize
   told : (a : ℕ) → Told a → getD m′ a 0 ≡ getD m a 0
 
-told-fits : (a : ℕ) → Told a → a < 8192
+told-fits : (a : ℕ) → Told a → a < memorySize
 told-fits a (inl h) = omega arith
 told-fits a (inr h) = omega arith
 
@@ -121,68 +126,68 @@ agree-set {m} {m′} b v v′ q g = rw q (record { size = simp length-set (g .si
 pub zeroed-size : (n : ℕ) (m : List ℕ) (a : ℕ) → length (zeroed n m a) ≡ length m
 unfolding Address.zeroed
 zeroed-size zero m a = refl
-zeroed-size (suc n) m a = zeroed-size n (set m ((a + n) % 8192) 0) a ∙ simp length-set
+zeroed-size (suc n) m a = zeroed-size n (set m (wrapped a n) 0) a ∙ simp length-set
 
-zeroed-out : (n : ℕ) (m : List ℕ) (a i : ℕ) → a + n ≤ 8192 → (i < a) ⊎ (a + n ≤ i) → getD (zeroed n m a) i 0 ≡ getD m i 0
+zeroed-out : (n : ℕ) (m : List ℕ) (a i : ℕ) → a + n ≤ memorySize → (i < a) ⊎ (a + n ≤ i) → getD (zeroed n m a) i 0 ≡ getD m i 0
 unfolding Address.zeroed
 zeroed-out zero m a i f h = refl
 zeroed-out (suc n) m a i f (inl h) =
-    zeroed-out n (set m ((a + n) % 8192) 0) a i (omega arith) (inl h) ∙ getD-set-other m ((a + n) % 8192) i 0 0 (omega arith)
+    zeroed-out n (set m (wrapped a n) 0) a i (omega arith) (inl h) ∙ getD-set-other m (wrapped a n) i 0 0 (omega arith)
 zeroed-out (suc n) m a i f (inr h) =
-    let w : (a + n) % 8192 ≡ a + n = omega arith in
-    zeroed-out n (set m ((a + n) % 8192) 0) a i (omega arith) (inr (omega arith)) ∙ getD-set-other m ((a + n) % 8192) i 0 0 (omega arith)
+    let w : wrapped a n ≡ a + n = omega arith in
+    zeroed-out n (set m (wrapped a n) 0) a i (omega arith) (inr (omega arith)) ∙ getD-set-other m (wrapped a n) i 0 0 (omega arith)
 
 -- a word that is 0 stays 0
 zeroed-still : (n : ℕ) (m : List ℕ) (a i : ℕ) → getD m i 0 ≡ 0 → i < length m → getD (zeroed n m a) i 0 ≡ 0
 unfolding Address.zeroed
 zeroed-still zero m a i e l = e
-zeroed-still (suc n) m a i e l = zeroed-still n (set m ((a + n) % 8192) 0) a i (go (hit-or i ((a + n) % 8192))) (simp length-set l)
+zeroed-still (suc n) m a i e l = zeroed-still n (set m (wrapped a n) 0) a i (go (hit-or i (wrapped a n))) (simp length-set l)
   where
-    go : (i ≡ (a + n) % 8192) ⊎ (i ≢ (a + n) % 8192) → getD (set m ((a + n) % 8192) 0) i 0 ≡ 0
-    go (inl d) = rw d (getD-set-same m ((a + n) % 8192) 0 0 (omega arith))
-    go (inr d) = getD-set-other m ((a + n) % 8192) i 0 0 (omega arith) ∙ e
+    go : (i ≡ wrapped a n) ⊎ (i ≢ wrapped a n) → getD (set m (wrapped a n) 0) i 0 ≡ 0
+    go (inl d) = rw d (getD-set-same m (wrapped a n) 0 0 (omega arith))
+    go (inr d) = getD-set-other m (wrapped a n) i 0 0 (omega arith) ∙ e
 
-zeroed-step : (n : ℕ) (m : List ℕ) (a i : ℕ) → getD (zeroed (suc n) m a) i 0 ≡ getD (zeroed n (set m ((a + n) % 8192) 0) a) i 0
+zeroed-step : (n : ℕ) (m : List ℕ) (a i : ℕ) → getD (zeroed (suc n) m a) i 0 ≡ getD (zeroed n (set m (wrapped a n) 0) a) i 0
 unfolding Address.zeroed
 zeroed-step n m a i = refl
 
-pub zeroed-in : (n : ℕ) (m : List ℕ) (a i : ℕ) → a + n ≤ 8192 → a ≤ i → i < a + n → i < length m → getD (zeroed n m a) i 0 ≡ 0
+pub zeroed-in : (n : ℕ) (m : List ℕ) (a i : ℕ) → a + n ≤ memorySize → a ≤ i → i < a + n → i < length m → getD (zeroed n m a) i 0 ≡ 0
 zeroed-in zero m a i f h l r = absurd (omega arith)
-zeroed-in (suc n) m a i f h l r = zeroed-step n m a i ∙ go (hit-or i (a + n)) (zeroed-in n (set m ((a + n) % 8192) 0) a i (omega arith) h)
+zeroed-in (suc n) m a i f h l r = zeroed-step n m a i ∙ go (hit-or i (a + n)) (zeroed-in n (set m (wrapped a n) 0) a i (omega arith) h)
   where
-    go : (i ≡ a + n) ⊎ (i ≢ a + n) → (i < a + n → i < length (set m ((a + n) % 8192) 0) → getD (zeroed n (set m ((a + n) % 8192) 0) a) i 0 ≡ 0)
-        → getD (zeroed n (set m ((a + n) % 8192) 0) a) i 0 ≡ 0
+    go : (i ≡ a + n) ⊎ (i ≢ a + n) → (i < a + n → i < length (set m (wrapped a n) 0) → getD (zeroed n (set m (wrapped a n) 0) a) i 0 ≡ 0)
+        → getD (zeroed n (set m (wrapped a n) 0) a) i 0 ≡ 0
     go (inl e) ih =
-        let w : (a + n) % 8192 ≡ i = omega arith in
-        zeroed-still n (set m ((a + n) % 8192) 0) a i (rw w (getD-set-same m i 0 0 r)) (simp length-set r)
+        let w : wrapped a n ≡ i = omega arith in
+        zeroed-still n (set m (wrapped a n) 0) a i (rw w (getD-set-same m i 0 0 r)) (simp length-set r)
     go (inr d) ih = ih (omega arith) (simp length-set r)
 
-cleared-zero : (m : List ℕ) → length m ≡ 8192 → (a : ℕ) → Told a → getD (cleared m) a 0 ≡ 0
+cleared-zero : (m : List ℕ) → length m ≡ memorySize → (a : ℕ) → Told a → getD (cleared m) a 0 ≡ 0
 unfolding Fresh.cleared
 cleared-zero m s a (inl h) =
     let m1 = zeroed 32 m 0 in
-    zeroed-out 640 (zeroed 224 m1 128) 7552 a (omega arith) (inl (omega arith))
+    zeroed-out 640 (zeroed 224 m1 128) guardedLast a (omega arith) (inl (omega arith))
     ∙ zeroed-in 224 m1 128 a (omega arith) (h .0) (omega arith) (omega (arith, zeroed-size 32 m 0))
 cleared-zero m s a (inr h) =
     let m1 = zeroed 32 m 0 in
     let m2 = zeroed 224 m1 128 in
-    zeroed-in 640 m2 7552 a (omega arith) (h .0) (omega arith) (omega (arith, zeroed-size 32 m 0, zeroed-size 224 m1 128))
+    zeroed-in 640 m2 guardedLast a (omega arith) (h .0) (omega arith) (omega (arith, zeroed-size 32 m 0, zeroed-size 224 m1 128))
 
 cleared-size : (m : List ℕ) → length (cleared m) ≡ length m
 unfolding Fresh.cleared
-cleared-size m = let m1 = zeroed 32 m 0 in let m2 = zeroed 224 m1 128 in zeroed-size 640 m2 7552 ∙ zeroed-size 224 m1 128 ∙ zeroed-size 32 m 0
+cleared-size m = let m1 = zeroed 32 m 0 in let m2 = zeroed 224 m1 128 in zeroed-size 640 m2 guardedLast ∙ zeroed-size 224 m1 128 ∙ zeroed-size 32 m 0
 
 -- ---- the steps of a fresh start
 agree-chained : (n : ℕ) (m m′ : List ℕ) (p : ℕ) → Agree m m′ → Agree (chained n m p) (chained n m′ p)
 unfolding Fresh.chained
 agree-chained zero m m′ p g = g
 agree-chained (suc n) m m′ p g =
-    agree-chained n (set m (p * 32 + 0) (p + 1)) (set m′ (p * 32 + 0) (p + 1)) (p + 1) (agree-set (p * 32 + 0) (p + 1) (p + 1) refl g)
+    agree-chained n (store m p link (p + 1)) (store m′ p link (p + 1)) (p + 1) (agree-set (place p link) (p + 1) (p + 1) refl g)
 
 agree-built : (n : ℕ) (m m′ : List ℕ) → Agree m m′ → Agree (allBuiltIn n m) (allBuiltIn n m′)
 unfolding Fresh.allBuiltIn
 agree-built zero m m′ g = g
-agree-built (suc n) m m′ g = agree-built n (set m (256 + 2 * n) 32) (set m′ (256 + 2 * n) 32) (agree-set (256 + 2 * n) 32 32 refl g)
+agree-built (suc n) m m′ g = agree-built n (set m (codeWord n) 32) (set m′ (codeWord n) 32) (agree-set (codeWord n) 32 32 refl g)
 
 agree-first : {m m′ : List ℕ} → Agree m m′ → Agree (firstProcessor m) (firstProcessor m′)
 unfolding Fresh.firstProcessor Processor.handBack Processor.setRegistersOf Processor.setFlagsLr Turn.runs
@@ -192,10 +197,10 @@ agree-first g =
     let g3 = agree-set 7563 192 192 refl (agree-set 7562 10 10 refl g2) in
     let g4 = agree-set 7564 _ _ (ap (λ (w : ℕ). w / 16 * 16 + 0 % 16) (g3 .told 7564 (inr (omega arith, omega arith)))) g3 in
     let g5 = agree-set 7564 _ _ (ap (λ (w : ℕ). 0 % 2 * 128 + w % 128) (g4 .told 7564 (inr (omega arith, omega arith)))) g4 in
-    let g6 = agree-set 247 236 236 refl g5 in
-    agree-set 249 _ _ (g6 .told 7559 (inr (omega arith, omega arith))) (agree-set 248 236 236 refl g6)
+    let g6 = agree-set processorList firstControl firstControl refl g5 in
+    agree-set runningLabel _ _ (g6 .told 7559 (inr (omega arith, omega arith))) (agree-set runningPage firstControl firstControl refl g6)
 
-pub agree-started : (m m′ : List ℕ) (line d : ℕ) → length m ≡ 8192 → length m′ ≡ 8192 → Agree (started m line d) (started m′ line d)
+pub agree-started : (m m′ : List ℕ) (line d : ℕ) → length m ≡ memorySize → length m′ ≡ memorySize → Agree (started m line d) (started m′ line d)
 unfolding Fresh.started Fresh.freed Fresh.timed
 agree-started m m′ line d s s′ =
     let g : Agree (cleared m) (cleared m′) = record {
@@ -203,20 +208,20 @@ agree-started m m′ line d s s′ =
       size′ = cleared-size m′ ∙ s′;
       told = λ a t. cleared-zero m′ s′ a t ∙ sym (cleared-zero m s a t);
     } in
-    let g1 = agree-first (agree-set 251 d d refl (agree-set 239 line line refl g)) in
-    let g2 = agree-chained 18 _ _ 237 (agree-set 245 19 19 refl (agree-set 244 237 237 refl g1)) in
+    let g1 = agree-first (agree-set Map.divider d d refl (agree-set clockLine line line refl g)) in
+    let g2 = agree-chained 18 _ _ 237 (agree-set freeSemaphore 19 19 refl (agree-set freeList 237 237 refl g1)) in
     agree-set 288 1 1 refl (agree-built 15 _ _ g2)
 
 pub agree-kept : {m m′ : List ℕ} → Agree m m′ → Kept m m′
 agree-kept g = record {
   size = g .size′ ∙ sym (g .size);
   fixed = λ a i j. g .told a (inl (i, j));
-  words = λ p j h i. g .told (p * 32 + j) (inr (omega arith, omega arith));
-  state = λ p h. g .told (p * 32 + 12) (inr (omega arith, omega arith));
+  words = λ p j h i. g .told (place p j) (inr (omega arith, omega arith));
+  state = λ p h. g .told (place p Map.state) (inr (omega arith, omega arith));
 }
 
-pub zeros-size : length (bytes .zeros) ≡ 8192
-zeros-size = length-replicate {A = ℕ} 8192 0
+pub zeros-size : length (bytes .zeros) ≡ memorySize
+zeros-size = length-replicate {A = ℕ} memorySize 0
 
-pub started-well : (m : List ℕ) (line d : ℕ) → length m ≡ 8192 → Args line d → WellFormed (started m line d)
+pub started-well : (m : List ℕ) (line d : ℕ) → length m ≡ memorySize → Args line d → WellFormed (started m line d)
 started-well m line d s h = kept-keeps (agree-kept (agree-started (bytes .zeros) m line d zeros-size s)) (zeros-fresh line d h)

@@ -5,6 +5,8 @@ use mathlib.Core.List.{List, _∷_}
 use Prim.Native.Nat.{ℕ, _+_, _-_, _*_, _≤_, _<_}
 use native.Mathlib.Omega.{arith}
 use lib.ListN.{getD}
+use Rattle.model.specs.Map.{freeList, link, pageQueue, place, q1}
+use Rattle.model.specs.Bytes.{word}
 use Rattle.model.specs.Bytes.{giveBack, deliver}
 use Rattle.model.specs.Lists.{count, Lists}
 use Rattle.laws.specs.Count.{hit-self, count-ne}
@@ -30,7 +32,7 @@ module _ {ps : List ℕ} {L : Lists} {y : ℕ} (o : Aside ps L y) where
   not-proc : (p : ℕ) → 1 ≤ count p ps → p ≢ y
   not-proc p h e = omega (arith, ap (λ (z : ℕ). count z ps) e, o .out)
 
-  not-link : (j : ℕ) → j < 32 → (a z : ℕ) → Among ps a → 1 ≤ count z (L a) → y * 32 + j ≢ z * 32 + 0
+  not-link : (j : ℕ) → j < 32 → (a z : ℕ) → Among ps a → 1 ≤ count z (L a) → place y j ≢ place z link
   not-link j l a z h i = let d = count-ne z y (L a) (o .free a h) i in omega arith
 
 -- ---- give back, deliver
@@ -45,17 +47,17 @@ module _ {m : List ℕ} {ps : List ℕ} {L : Lists} {W : View} {hs : List ℕ} {
   not-q : q ≢ y
   not-q e = omega (arith, b .all q, one-le q, hit-self q, ap (λ (z : ℕ). count z hs) e)
 
-  pub give-still : getD (giveBack m q) (y * 32 + j) 0 ≡ getD m (y * 32 + j) 0
-  give-still = give-frame b (y * 32 + j) (record {
+  pub give-still : word (giveBack m q) y j ≡ word m y j
+  give-still = give-frame b (place y j) (record {
     low = λ a u v. omega (arith, o .page);
     grant = λ k u. omega (arith, o .page);
     hand = omega (arith, not-q);
-    free = λ z h. not-link o j l 244 z (in-free ps) h;
-    waiter = λ p h. let d = not-proc o p (wait-page s 246 p (omega arith) h) in (omega arith, omega arith, omega arith);
+    free = λ z h. not-link o j l freeList z (in-free ps) h;
+    waiter = λ p h. let d = not-proc o p (wait-page s pageQueue p (omega arith) h) in (omega arith, omega arith, omega arith);
   })
 
-  pub deliver-still : (p : ℕ) → 1 ≤ count p ps → Message (W .note q) (W .reason q) → getD (deliver m p q) (y * 32 + j) 0 ≡ getD m (y * 32 + j) 0
+  pub deliver-still : (p : ℕ) → 1 ≤ count p ps → Message (W .note q) (W .reason q) → word (deliver m p q) y j ≡ word m y j
   deliver-still p h letter =
       let d = not-proc o p h in
-      deliver-frame b p h letter (y * 32 + j) (λ k u. omega arith) (omega arith) (omega (arith, not-q))
-      (λ z i. not-link o j l (p * 32 + 5) z (in-q ps p 5 (omega arith) (omega arith) h) i)
+      deliver-frame b p h letter (place y j) (λ k u. omega arith) (omega arith) (omega (arith, not-q))
+      (λ z i. not-link o j l (place p q1) z (in-q ps p 5 (omega arith) (omega arith) h) i)

@@ -9,6 +9,10 @@ use lib.ListN.{length, getD, set, length-set}
 use lib.Seq.{getD-set-same}
 use lib.Dec.{ltb}
 use borrow.Author.Tests.{ltb-true, ltb-false}
+use Rattle.model.specs.Map as Map
+use Rattle.model.specs.Map.{clockLine, codeLow, codeWord, divider, entryAfter, entryAt, freeList, freeSemaphore, guardedLast, headerAfter, interrupts, memorySize}
+use Rattle.model.specs.Map.{place, processorList, runningPage, semaphoreAfter}
+use Rattle.model.specs.Bytes.{store, word}
 use Rattle.model.specs.Lists.{count, Lists, queues}
 use Rattle.laws.specs.Count.{hit-or}
 use Rattle.laws.specs.Chain.{Page}
@@ -22,29 +26,29 @@ use Rattle.laws.specs.Frames.{other, holds-kept, Only, fixed-same, seat-
 use Rattle.laws.specs.Views.{put1, put1-same, put1-other, withWords, withRest, withState, withReason, withSem, withLow, withCode, withEntry, retold}
 
 -- ---- one store
-pub col-off : (m : List ℕ) (b v k : ℕ) (f : ℕ → ℕ) → ((p : ℕ) → Page p → p * 32 + k ≢ b) → Col m k f → Col (set m b v) k f
-col-off m b v k f n c p h = other m b v (p * 32 + k) (n p h) ∙ c p h
+pub col-off : (m : List ℕ) (b v k : ℕ) (f : ℕ → ℕ) → ((p : ℕ) → Page p → place p k ≢ b) → Col m k f → Col (set m b v) k f
+col-off m b v k f n c p h = other m b v (place p k) (n p h) ∙ c p h
 
-pub col-on : (m : List ℕ) (q v k : ℕ) (f : ℕ → ℕ) → length m ≡ 8192 → Page q → k < 32 → Col m k f → Col (set m (q * 32 + k) v) k (put1 f q v)
+pub col-on : (m : List ℕ) (q v k : ℕ) (f : ℕ → ℕ) → length m ≡ memorySize → Page q → k < 32 → Col m k f → Col (store m q k v) k (put1 f q v)
 col-on m q v k f size g l c p h = go (hit-or p q)
   where
-    go : (p ≡ q) ⊎ (p ≢ q) → getD (set m (q * 32 + k) v) (p * 32 + k) 0 ≡ put1 f q v p
-    go (inl e) = rw (put1-same f q v p e, e) (getD-set-same m (q * 32 + k) v 0 (omega arith))
-    go (inr n) = rw (put1-other f q v p n) (other m (q * 32 + k) v (p * 32 + k) (omega arith) ∙ c p h)
+    go : (p ≡ q) ⊎ (p ≢ q) → word (store m q k v) p k ≡ put1 f q v p
+    go (inl e) = rw (put1-same f q v p e, e) (getD-set-same m (place q k) v 0 (omega arith))
+    go (inr n) = rw (put1-other f q v p n) (other m (place q k) v (place p k) (omega arith) ∙ c p h)
 
 -- b is no head and no link
 pub record Loose (b : ℕ) : Type 0 where
-  pub int : (k : ℕ) → k < 54 → 132 + 2 * k ≢ b
-  pub three : (a : ℕ) → 244 ≤ a → a ≤ 247 → a ≢ 245 → a ≢ b
+  pub int : (k : ℕ) → k < interrupts → headerAfter k ≢ b
+  pub three : (a : ℕ) → freeList ≤ a → a ≤ processorList → a ≢ freeSemaphore → a ≢ b
   pub grant : (a : ℕ) → 320 ≤ a → a < 352 → a ≢ b
-  pub page : (p j : ℕ) → Page p → j ≤ 6 → j ≢ 2 → j ≢ 3 → p * 32 + j ≢ b
+  pub page : (p j : ℕ) → Page p → j ≤ 6 → j ≢ 2 → j ≢ 3 → place p j ≢ b
 
 -- below page 10 only the headers of interrupts and three words of page 7 are heads
-loose-low : (b : ℕ) → b < 320 → ((k : ℕ) → k < 54 → 132 + 2 * k ≢ b) → ((a : ℕ) → 244 ≤ a → a ≤ 247 → a ≢ 245 → a ≢ b) → Loose b
+loose-low : (b : ℕ) → b < 320 → ((k : ℕ) → k < interrupts → headerAfter k ≢ b) → ((a : ℕ) → freeList ≤ a → a ≤ processorList → a ≢ freeSemaphore → a ≢ b) → Loose b
 loose-low b u f g = record { int = f; three = g; grant = λ c1 c2 c3. omega arith; page = λ c1 c2 c3 c4 c5 c6. omega arith }
 
 -- words 2, 3 and those from 7 on of a control page
-loose-word : (q j : ℕ) → Page q → j < 32 → ((k : ℕ) → k ≤ 6 → k ≢ 2 → k ≢ 3 → k ≢ j) → Loose (q * 32 + j)
+loose-word : (q j : ℕ) → Page q → j < 32 → ((k : ℕ) → k ≤ 6 → k ≢ 2 → k ≢ 3 → k ≢ j) → Loose (place q j)
 loose-word q j h l f = record {
   int = λ c1 c2. omega arith;
   three = λ c1 c2 c3 c4. omega arith;
@@ -55,8 +59,8 @@ loose-word q j h l f = record {
 pub holds-loose : (m : List ℕ) (b v : ℕ) {ps : List ℕ} {L : Lists} → Sep ps L → Loose b → Holds m ps L → Holds (set m b v) ps L
 holds-loose m b v {ps} {L} s f h =
     holds-kept m (set m b v) ps L s (λ a i. other m b v a (go a (head-place ps a i)))
-    (λ a x i n c. other m b v (x * 32 + 0) (f .page x 0 (all-pages s a x i c) (omega arith) (omega arith) (omega arith)))
-    (λ x i. other m b v (x * 32 + 1) (f .page x 1 (proc-page s x i) (omega arith) (omega arith) (omega arith))) h
+    (λ a x i n c. other m b v (place x Map.link) (f .page x 0 (all-pages s a x i c) (omega arith) (omega arith) (omega arith)))
+    (λ x i. other m b v (place x 1) (f .page x 1 (proc-page s x i) (omega arith) (omega arith) (omega arith))) h
   where
     go : (a : ℕ) → Place ps a → a ≢ b
     go a (int k u w) = rw w (f .int k u)
@@ -66,9 +70,9 @@ holds-loose m b v {ps} {L} s f h =
 
 -- b is no semaphore
 pub record Deaf (b : ℕ) : Type 0 where
-  pub line : (k : ℕ) → k < 54 → 131 + 2 * k ≢ b
-  pub page : 245 ≢ b
-  pub own : (p : ℕ) → Page p → p * 32 + 3 ≢ b
+  pub line : (k : ℕ) → k < interrupts → semaphoreAfter k ≢ b
+  pub page : freeSemaphore ≢ b
+  pub own : (p : ℕ) → Page p → place p 3 ≢ b
 
 pub deaf-seat : {ps : List ℕ} {L : Lists} → Sep ps L → (b : ℕ) → Deaf b → (a : ℕ) → 1 ≤ count (a + 1) (queues ps) → a ≢ b
 deaf-seat {ps} s b d a h = go (seat-of ps a h)
@@ -78,36 +82,36 @@ deaf-seat {ps} s b d a h = go (seat-of ps a h)
     go (page e) = rw e (d .page)
     go (own p u e) = rw e (d .own p (proc-page s p u))
 
-deaf-word : (q j : ℕ) → Page q → j < 32 → j ≢ 3 → Deaf (q * 32 + j)
+deaf-word : (q j : ℕ) → Page q → j < 32 → j ≢ 3 → Deaf (place q j)
 deaf-word q j g l n = record { line = λ c1 c2. omega arith; page = omega arith; own = λ c1 c2. omega arith }
 
 -- the counters, the words of who runs, pages 8 and 9
 abbrev Mid : ℕ → Type 0
-Mid b = (239 ≤ b) × (b < 320) × ((a : ℕ) → 244 ≤ a → a ≤ 247 → a ≢ b)
+Mid b = (clockLine ≤ b) × (b < 320) × ((a : ℕ) → freeList ≤ a → a ≤ processorList → a ≢ b)
 
 loose-mid : (b : ℕ) → Mid b → Loose b
 loose-mid b i = loose-low b (i .1) (λ c1 c2. omega arith) (λ a h u d. i .2 a h u)
 
 deaf-mid : (b : ℕ) → Mid b → Deaf b
-deaf-mid b i = record { line = λ c1 c2. omega arith; page = i .2 245 (omega arith) (omega arith); own = λ c1 c2. omega arith }
+deaf-mid b i = record { line = λ c1 c2. omega arith; page = i .2 freeSemaphore (omega arith) (omega arith); own = λ c1 c2. omega arith }
 
 -- b is no word k of a control page
 abbrev NoWord : ℕ → ℕ → Type 0
-NoWord b k = (p : ℕ) → Page p → p * 32 + k ≢ b
+NoWord b k = (p : ℕ) → Page p → place p k ≢ b
 
 pub words-off : {m : List ℕ} (b v : ℕ) {ps : List ℕ} {n r l t : ℕ → ℕ} → NoWord b 1 → NoWord b 2 → NoWord b 7 → NoWord b 12 → Words m ps n r l t
     → Words (set m b v) ps n r l t
 words-off {m} b v {ps} {n} {r} {l} {t} n1 n2 n7 n12 f = record {
-  note = λ p h z. other m b v (p * 32 + 1) (n1 p h) ∙ f .note p h z;
+  note = λ p h z. other m b v (place p 1) (n1 p h) ∙ f .note p h z;
   reason = col-off m b v 2 r n2 (f .reason);
   label = col-off m b v 7 l n7 (f .label);
   state = col-off m b v 12 t n12 (f .state);
 }
 
-words-low : {m : List ℕ} (b v : ℕ) {ps : List ℕ} {n r l t : ℕ → ℕ} → b < 7552 → Words m ps n r l t → Words (set m b v) ps n r l t
+words-low : {m : List ℕ} (b v : ℕ) {ps : List ℕ} {n r l t : ℕ → ℕ} → b < guardedLast → Words m ps n r l t → Words (set m b v) ps n r l t
 words-low b v g f = words-off b v (λ p h. omega arith) (λ p h. omega arith) (λ p h. omega arith) (λ p h. omega arith) f
 
-pub fixed-off : {m : List ℕ} (b v : ℕ) {l c : ℕ → ℕ} {n : ℕ} {e : ℕ → ℕ} → ((a : ℕ) → 239 ≤ a → a ≤ 243 → a ≢ b) → ((a : ℕ) → 248 ≤ a → a ≤ 251 → a ≢ b)
+pub fixed-off : {m : List ℕ} (b v : ℕ) {l c : ℕ → ℕ} {n : ℕ} {e : ℕ → ℕ} → ((a : ℕ) → clockLine ≤ a → a ≤ Map.c3 → a ≢ b) → ((a : ℕ) → runningPage ≤ a → a ≤ divider → a ≢ b)
     → ((a : ℕ) → 256 ≤ a → a < 320 → a ≢ b) → Fixed m l c n e → Fixed (set m b v) l c n e
 fixed-off {m} b v clock turn rest f =
     fixed-same (λ a h i. other m b v a (clock a h i)) (λ a h i. other m b v a (turn a h i)) (λ a h i. other m b v a (rest a h i)) f
@@ -130,21 +134,21 @@ module _ {m : List ℕ} {ps : List ℕ} {L : Lists} {W : View} (s : Sep ps L) (x
   }
 
   -- words 2 and 12
-  pub state-mem : (q v : ℕ) → Page q → Mem (set m (q * 32 + 12) v) ps L (withState W (put1 (W .state) q v))
-  state-mem q v g = let p = x .reads .words in let a = q * 32 + 12 in high-mem a v (omega arith)
+  pub state-mem : (q v : ℕ) → Page q → Mem (store m q Map.state v) ps L (withState W (put1 (W .state) q v))
+  state-mem q v g = let p = x .reads .words in let a = place q Map.state in high-mem a v (omega arith)
       (loose-word q 12 g (omega arith) (λ c1 c2 c3 c4. omega arith))
       (record {
-        note = λ y h n. other m a v (y * 32 + 1) (omega arith) ∙ p .note y h n;
+        note = λ y h n. other m a v (place y 1) (omega arith) ∙ p .note y h n;
         reason = col-off m a v 2 (W .reason) (λ y h. omega arith) (p .reason);
         label = col-off m a v 7 (W .label) (λ y h. omega arith) (p .label);
         state = col-on m q v 12 (W .state) (x .size) g (omega arith) (p .state);
       }) (sems-off a v (deaf-word q 12 g (omega arith) (omega arith)))
 
-  pub reason-mem : (q v : ℕ) → Page q → Mem (set m (q * 32 + 2) v) ps L (withReason W (put1 (W .reason) q v))
-  reason-mem q v g = let p = x .reads .words in let a = q * 32 + 2 in high-mem a v (omega arith)
+  pub reason-mem : (q v : ℕ) → Page q → Mem (store m q Map.size v) ps L (withReason W (put1 (W .reason) q v))
+  reason-mem q v g = let p = x .reads .words in let a = place q Map.size in high-mem a v (omega arith)
       (loose-word q 2 g (omega arith) (λ c1 c2 c3 c4. omega arith))
       (record {
-        note = λ y h n. other m a v (y * 32 + 1) (omega arith) ∙ p .note y h n;
+        note = λ y h n. other m a v (place y 1) (omega arith) ∙ p .note y h n;
         reason = col-on m q v 2 (W .reason) (x .size) g (omega arith) (p .reason);
         label = col-off m a v 7 (W .label) (λ y h. omega arith) (p .label);
         state = col-off m a v 12 (W .state) (λ y h. omega arith) (p .state);
@@ -154,11 +158,11 @@ module _ {m : List ℕ} {ps : List ℕ} {L : Lists} {W : View} (s : Sep ps L) (x
   pub sem-mem : (b v : ℕ) → 1 ≤ count (b + 1) (queues ps) → Mem (set m b v) ps L (withSem W (put1 (W .sem) b v))
   sem-mem b v q = go (seat-of ps b q)
     where
-      here : b < 8192 → (a : ℕ) → 1 ≤ count (a + 1) (queues ps) → (a ≡ b) ⊎ (a ≢ b) → getD (set m b v) a 0 ≡ put1 (W .sem) b v a
+      here : b < memorySize → (a : ℕ) → 1 ≤ count (a + 1) (queues ps) → (a ≡ b) ⊎ (a ≢ b) → getD (set m b v) a 0 ≡ put1 (W .sem) b v a
       here l a h (inl e) = rw (put1-same (W .sem) b v a e, e) (getD-set-same m b v 0 (omega (arith, x .size)))
       here l a h (inr n) = rw (put1-other (W .sem) b v a n) (other m b v a n ∙ x .reads .sems a h)
 
-      low : b < 256 → Loose b → ((a : ℕ) → 239 ≤ a → a ≤ 243 → a ≢ b) → ((a : ℕ) → 248 ≤ a → a ≤ 251 → a ≢ b)
+      low : b < 256 → Loose b → ((a : ℕ) → clockLine ≤ a → a ≤ Map.c3 → a ≢ b) → ((a : ℕ) → runningPage ≤ a → a ≤ divider → a ≢ b)
           → Mem (set m b v) ps L (withSem W (put1 (W .sem) b v))
       low u l clock turn = record {
         size = simp length-set (x .size);
@@ -192,63 +196,63 @@ module _ {m : List ℕ} {ps : List ℕ} {L : Lists} {W : View} (s : Sep ps L) (x
   low-mem b v u i = let f = x .reads .fixed in mid-mem b v i (record {
     clock = λ a h i. here a (f .clock a h i) (hit-or a b);
     turn = λ a h i. here a (f .turn a h i) (hit-or a b);
-    code = λ k h. other m b v (256 + 2 * k) (omega arith) ∙ f .code k h;
+    code = λ k h. other m b v (codeWord k) (omega arith) ∙ f .code k h;
     next = other m b v 288 (omega arith) ∙ f .next;
-    entry = λ i h. other m b v (289 + i) (omega arith) ∙ f .entry i h;
+    entry = λ i h. other m b v (entryAfter i) (omega arith) ∙ f .entry i h;
   })
     where
       here : (a : ℕ) → getD m a 0 ≡ W .low a → (a ≡ b) ⊎ (a ≢ b) → getD (set m b v) a 0 ≡ put1 (W .low) b v a
       here a h (inl e) = rw (put1-same (W .low) b v a e, e) (getD-set-same m b v 0 (omega (arith, x .size)))
       here a h (inr n) = rw (put1-other (W .low) b v a n) (other m b v a n ∙ h)
 
-  pub clock-mem : (b v : ℕ) → 239 ≤ b → b ≤ 243 → Mem (set m b v) ps L (withLow W (put1 (W .low) b v))
+  pub clock-mem : (b v : ℕ) → clockLine ≤ b → b ≤ Map.c3 → Mem (set m b v) ps L (withLow W (put1 (W .low) b v))
   clock-mem b v l u = low-mem b v (omega arith) (l, omega arith, λ c1 c2 c3. omega arith)
 
-  pub turn-mem : (b v : ℕ) → 248 ≤ b → b ≤ 251 → Mem (set m b v) ps L (withLow W (put1 (W .low) b v))
+  pub turn-mem : (b v : ℕ) → runningPage ≤ b → b ≤ divider → Mem (set m b v) ps L (withLow W (put1 (W .low) b v))
   turn-mem b v l u = low-mem b v (omega arith) (omega arith, omega arith, λ c1 c2 c3. omega arith)
 
-  first-code : (c v : ℕ) → c < 16 → Mem (set m (256 + 2 * c) v) ps L (withCode W (put1 (W .code) c v))
-  first-code c v l = let f = x .reads .fixed in let b = 256 + 2 * c in mid-mem b v (omega arith, omega arith, λ c1 c2 c3. omega arith) (record {
+  first-code : (c v : ℕ) → c < 16 → Mem (set m (codeWord c) v) ps L (withCode W (put1 (W .code) c v))
+  first-code c v l = let f = x .reads .fixed in let b = codeWord c in mid-mem b v (omega arith, omega arith, λ c1 c2 c3. omega arith) (record {
     clock = λ a h i. other m b v a (omega arith) ∙ f .clock a h i;
     turn = λ a h i. other m b v a (omega arith) ∙ f .turn a h i;
     code = λ k h. here k h (hit-or k c);
     next = other m b v 288 (omega arith) ∙ f .next;
-    entry = λ i h. other m b v (289 + i) (omega arith) ∙ f .entry i h;
+    entry = λ i h. other m b v (entryAfter i) (omega arith) ∙ f .entry i h;
   })
     where
-      here : (k : ℕ) → k < 16 → (k ≡ c) ⊎ (k ≢ c) → getD (set m (256 + 2 * c) v) (256 + 2 * k) 0 ≡ put1 (W .code) c v k
-      here k h (inl e) = rw (put1-same (W .code) c v k e, e) (getD-set-same m (256 + 2 * c) v 0 (omega (arith, x .size)))
-      here k h (inr n) = rw (put1-other (W .code) c v k n) (other m (256 + 2 * c) v (256 + 2 * k) (omega arith) ∙ x .reads .fixed .code k h)
+      here : (k : ℕ) → k < 16 → (k ≡ c) ⊎ (k ≢ c) → getD (set m (codeWord c) v) (codeWord k) 0 ≡ put1 (W .code) c v k
+      here k h (inl e) = rw (put1-same (W .code) c v k e, e) (getD-set-same m (codeWord c) v 0 (omega (arith, x .size)))
+      here k h (inr n) = rw (put1-other (W .code) c v k n) (other m (codeWord c) v (codeWord k) (omega arith) ∙ x .reads .fixed .code k h)
 
-  first-entry : (n e : ℕ) → 1 ≤ n → n < 32 → Mem (set m (288 + n) e) ps L (withEntry W (W .next) (put1 (W .entry) (n - 1) e))
-  first-entry n e l u = let f = x .reads .fixed in let b = 288 + n in mid-mem b e (omega arith, omega arith, λ c1 c2 c3. omega arith) (record {
+  first-entry : (n e : ℕ) → 1 ≤ n → n < 32 → Mem (set m (entryAt n) e) ps L (withEntry W (W .next) (put1 (W .entry) (n - 1) e))
+  first-entry n e l u = let f = x .reads .fixed in let b = entryAt n in mid-mem b e (omega arith, omega arith, λ c1 c2 c3. omega arith) (record {
     clock = λ a h i. other m b e a (omega arith) ∙ f .clock a h i;
     turn = λ a h i. other m b e a (omega arith) ∙ f .turn a h i;
-    code = λ k h. other m b e (256 + 2 * k) (omega arith) ∙ f .code k h;
+    code = λ k h. other m b e (codeWord k) (omega arith) ∙ f .code k h;
     next = other m b e 288 (omega arith) ∙ f .next;
     entry = λ i h. here i h (hit-or i (n - 1));
   })
     where
-      here : (i : ℕ) → i < 31 → (i ≡ n - 1) ⊎ (i ≢ n - 1) → getD (set m (288 + n) e) (289 + i) 0 ≡ put1 (W .entry) (n - 1) e i
+      here : (i : ℕ) → i < 31 → (i ≡ n - 1) ⊎ (i ≢ n - 1) → getD (set m (entryAt n) e) (entryAfter i) 0 ≡ put1 (W .entry) (n - 1) e i
       here i h (inl q) =
-          let a : 289 + i ≡ 288 + n = omega arith in
-          rw (put1-same (W .entry) (n - 1) e i q, a) (getD-set-same m (288 + n) e 0 (omega (arith, x .size)))
-      here i h (inr q) = rw (put1-other (W .entry) (n - 1) e i q) (other m (288 + n) e (289 + i) (omega arith) ∙ x .reads .fixed .entry i h)
+          let a : entryAfter i ≡ 288 + n = omega arith in
+          rw (put1-same (W .entry) (n - 1) e i q, a) (getD-set-same m (entryAt n) e 0 (omega (arith, x .size)))
+      here i h (inr q) = rw (put1-other (W .entry) (n - 1) e i q) (other m (entryAt n) e (entryAfter i) (omega arith) ∙ x .reads .fixed .entry i h)
 
 module _ {m : List ℕ} {ps : List ℕ} {L : Lists} {W : View} (s : Sep ps L) (x : Mem m ps L W) where
   -- both words of code c
-  pub code-mem : (c v w : ℕ) → c < 16 → Mem (set (set m (256 + 2 * c) v) (257 + 2 * c) w) ps L (withCode W (put1 (W .code) c v))
+  pub code-mem : (c v w : ℕ) → c < 16 → Mem (set (set m (codeWord c) v) (codeLow c) w) ps L (withCode W (put1 (W .code) c v))
   code-mem c v w l =
       let x1 = first-code s x c v l in
-      let m1 = set m (256 + 2 * c) v in
-      let b = 257 + 2 * c in
+      let m1 = set m (codeWord c) v in
+      let b = codeLow c in
       let f = x1 .reads .fixed in
       mid-mem s x1 b w (omega arith, omega arith, λ c1 c2 c3. omega arith) (record {
         clock = λ a h i. other m1 b w a (omega arith) ∙ f .clock a h i;
         turn = λ a h i. other m1 b w a (omega arith) ∙ f .turn a h i;
-        code = λ k h. other m1 b w (256 + 2 * k) (omega arith) ∙ f .code k h;
+        code = λ k h. other m1 b w (codeWord k) (omega arith) ∙ f .code k h;
         next = other m1 b w 288 (omega arith) ∙ f .next;
-        entry = λ i h. other m1 b w (289 + i) (omega arith) ∙ f .entry i h;
+        entry = λ i h. other m1 b w (entryAfter i) (omega arith) ∙ f .entry i h;
       })
 
   -- both words of page 9
@@ -257,35 +261,35 @@ module _ {m : List ℕ} {ps : List ℕ} {L : Lists} {W : View} (s : Sep ps L) (x
   entry-mem e l u =
       let n = W .next in
       let x1 = first-entry s x n e l u in
-      let m1 = set m (288 + n) e in
+      let m1 = set m (entryAt n) e in
       let f = x1 .reads .fixed in
       mid-mem s x1 288 (n + 1) (omega arith, omega arith, λ c1 c2 c3. omega arith) (record {
         clock = λ a h i. other m1 288 (n + 1) a (omega arith) ∙ f .clock a h i;
         turn = λ a h i. other m1 288 (n + 1) a (omega arith) ∙ f .turn a h i;
-        code = λ k h. other m1 288 (n + 1) (256 + 2 * k) (omega arith) ∙ f .code k h;
+        code = λ k h. other m1 288 (n + 1) (codeWord k) (omega arith) ∙ f .code k h;
         next = getD-set-same m1 288 (n + 1) 0 (omega (arith, x1 .size));
-        entry = λ i h. other m1 288 (n + 1) (289 + i) (omega arith) ∙ f .entry i h;
+        entry = λ i h. other m1 288 (n + 1) (entryAfter i) (omega arith) ∙ f .entry i h;
       })
 
 -- ---- page q, which is in no list
-pub only-word : {q : ℕ} {m m′ : List ℕ} → Only q m m′ → (p j : ℕ) → p ≢ q → j < 32 → getD m′ (p * 32 + j) 0 ≡ getD m (p * 32 + j) 0
+pub only-word : {q : ℕ} {m m′ : List ℕ} → Only q m m′ → (p j : ℕ) → p ≢ q → j < 32 → word m′ p j ≡ word m p j
 only-word {q} {m} {m′} o p j n h = go (ltb p q) refl
   where
-    go : (b : Bool) → ltb p q ≡ b → getD m′ (p * 32 + j) 0 ≡ getD m (p * 32 + j) 0
-    go true e = let l = ltb-true p q e in o .below (p * 32 + j) (omega arith)
-    go false e = let l = ltb-false p q e in o .above (p * 32 + j) (omega arith)
+    go : (b : Bool) → ltb p q ≡ b → word m′ p j ≡ word m p j
+    go true e = let l = ltb-true p q e in o .below (place p j) (omega arith)
+    go false e = let l = ltb-false p q e in o .above (place p j) (omega arith)
 
 module _ {m m′ : List ℕ} {q : ℕ} (o : Only q m m′) (g : Page q) {ps : List ℕ} {L : Lists} {W : View} (s : Sep ps L) (out : count q ps ≡ 0)
     (free : (a : ℕ) → Among ps a → count q (L a) ≡ 0) (x : Mem m ps L W) where
   not-q : (p : ℕ) → 1 ≤ count p ps → p ≢ q
   not-q p h e = let c = ap (λ (y : ℕ). count y ps) e in omega arith
 
-  col-retold : (k : ℕ) (f : ℕ → ℕ) → k < 32 → Col m k f → Col m′ k (put1 f q (getD m′ (q * 32 + k) 0))
+  col-retold : (k : ℕ) (f : ℕ → ℕ) → k < 32 → Col m k f → Col m′ k (put1 f q (word m′ q k))
   col-retold k f l c p h = go (hit-or p q)
     where
-      go : (p ≡ q) ⊎ (p ≢ q) → getD m′ (p * 32 + k) 0 ≡ put1 f q (getD m′ (q * 32 + k) 0) p
-      go (inl e) = rw (put1-same f q (getD m′ (q * 32 + k) 0) p e, e)
-      go (inr n) = rw (put1-other f q (getD m′ (q * 32 + k) 0) p n) (only-word o p k n l ∙ c p h)
+      go : (p ≡ q) ⊎ (p ≢ q) → word m′ p k ≡ put1 f q (word m′ q k) p
+      go (inl e) = rw (put1-same f q (word m′ q k) p e, e)
+      go (inr n) = rw (put1-other f q (word m′ q k) p n) (only-word o p k n l ∙ c p h)
 
   pub hand-mem : Mem m′ ps L (retold m′ W q)
   hand-mem =
@@ -316,6 +320,6 @@ module _ {m m′ : List ℕ} {q : ℕ} (o : Only q m m′) (g : Page q) {ps : Li
       link : (a y : ℕ) → Among ps a → 1 ≤ count y (L a) → y ≡ q → ⊥
       link a y h c e = let d = ap (λ (z : ℕ). count z (L a)) e in omega (arith, free a h)
 
-      note : (y : ℕ) → Page y → count y ps ≡ 0 → (y ≡ q) ⊎ (y ≢ q) → getD m′ (y * 32 + 1) 0 ≡ put1 (W .note) q (getD m′ (q * 32 + 1) 0) y
-      note y h n (inl e) = rw (put1-same (W .note) q (getD m′ (q * 32 + 1) 0) y e, e)
-      note y h n (inr d) = rw (put1-other (W .note) q (getD m′ (q * 32 + 1) 0) y d) (only-word o y 1 d (omega arith) ∙ x .reads .words .note y h n)
+      note : (y : ℕ) → Page y → count y ps ≡ 0 → (y ≡ q) ⊎ (y ≢ q) → word m′ y 1 ≡ put1 (W .note) q (word m′ q Map.note) y
+      note y h n (inl e) = rw (put1-same (W .note) q (word m′ q Map.note) y e, e)
+      note y h n (inr d) = rw (put1-other (W .note) q (word m′ q Map.note) y d) (only-word o y 1 d (omega arith) ∙ x .reads .words .note y h n)

@@ -7,6 +7,7 @@ use mathlib.Core.List.{List, _∷_, _++_}
 use Prim.Native.Nat.{ℕ, _+_, _-_, _≤_}
 use native.Mathlib.Omega.{arith}
 use lib.ListN.{length}
+use Rattle.model.specs.Map.{freeList, processorList}
 use Rattle.model.specs.Lists.{count, Lists, sum, range, linkOf, mails, uses, queues, isGrant}
 use Rattle.laws.specs.Count.{hit-other, hit-or, count-append, zero-or}
 use Rattle.laws.specs.Chain.{Page}
@@ -16,7 +17,7 @@ use Rattle.laws.specs.Heads.Place.{int, three, grant, slot}
 
 -- ---- heads
 abbrev pub others : List ℕ → List ℕ
-others ps = 244 ∷ (mails ps ++ range 32 1 320)
+others ps = freeList ∷ (mails ps ++ range 32 1 320)
 
 -- a cell from which a chain hangs
 abbrev pub Among : List ℕ → ℕ → Type 0
@@ -34,12 +35,12 @@ head-place ps a h = go (zero-or (count a (uses ps)))
 
 -- ---- no page has two uses, and who waits is a processor and waits once
 pub record Sep (ps : List ℕ) (L : Lists) : Type 0 where
-  pub procs : L 247 ≡ ps
+  pub procs : L processorList ≡ ps
   pub most : (z : ℕ) → sum z L (uses ps) ≤ one z
   pub waits : (z : ℕ) → sum z L (queues ps) ≤ count z ps
 
 module _ {ps : List ℕ} {L : Lists} (s : Sep ps L) where
-  procs-count : (z : ℕ) → count z (L 247) ≡ count z ps
+  procs-count : (z : ℕ) → count z (L processorList) ≡ count z ps
   procs-count z = ap (count z) (s .procs)
 
   pub proc-page : (p : ℕ) → 1 ≤ count p ps → Page p
@@ -60,22 +61,22 @@ module _ {ps : List ℕ} {L : Lists} (s : Sep ps L) where
   few : (z : ℕ) → sum z L (others ps ++ queues ps) ≤ 1
   few z = omega (arith, s .most z, s .waits z, one-le z, procs-count z, sum-append z L (others ps) (queues ps))
 
-  other : (a : ℕ) → Head ps a → a ≢ 247 → 1 ≤ count a (others ps ++ queues ps)
-  other a h n = omega (arith, h .0, hit-other a 247 n)
+  other : (a : ℕ) → Head ps a → a ≢ processorList → 1 ≤ count a (others ps ++ queues ps)
+  other a h n = omega (arith, h .0, hit-other a processorList n)
 
   pub apart : Apart (Head ps) L
-  apart a b i j n l z = go (hit-or a 247) (hit-or b 247)
+  apart a b i j n l z = go (hit-or a processorList) (hit-or b processorList)
     where
-      go : (a ≡ 247) ⊎ (a ≢ 247) → (b ≡ 247) ⊎ (b ≢ 247) → count z (L a) + count z (L b) ≤ 1
+      go : (a ≡ processorList) ⊎ (a ≢ processorList) → (b ≡ processorList) ⊎ (b ≢ processorList) → count z (L a) + count z (L b) ≤ 1
       go (inl e) (inl f) = absurd (omega arith)
       go (inl e) (inr f) = absurd (omega (arith, link-other b f, link-procs, ap linkOf e))
       go (inr e) (inl f) = absurd (omega (arith, link-other a e, link-procs, ap linkOf f))
       go (inr e) (inr f) = omega (arith, sum-two z L a b (others ps ++ queues ps) n (other a i e) (other b j f), few z)
 
   pub single : Single (Head ps) L
-  single a i z = go (hit-or a 247)
+  single a i z = go (hit-or a processorList)
     where
-      go : (a ≡ 247) ⊎ (a ≢ 247) → count z (L a) ≤ 1
+      go : (a ≡ processorList) ⊎ (a ≢ processorList) → count z (L a) ≤ 1
       go (inl e) = rw (e, s .procs) (proc-once z)
       go (inr e) = omega (arith, sum-one z L a (others ps ++ queues ps) (other a i e), few z)
 

@@ -7,6 +7,9 @@ use Prim.Native.Nat.{ℕ, _+_, _*_}
 use lib.ListN.{getD}
 use lib.Dec.{eqb}
 use borrow.Author.Tests.{eq-eqb, ne-eqb}
+use Rattle.model.specs.Map as Map
+use Rattle.model.specs.Map.{place, size}
+use Rattle.model.specs.Bytes.{word}
 use Rattle.laws.specs.Inv.{View}
 
 -- a function changed at one number
@@ -69,5 +72,5 @@ withEntry W n e = withRest W (W .sem) (W .low) (W .code) n e
 -- page q as the memory m has it
 abbrev pub retold : List ℕ → View → ℕ → View
 retold m W q =
-    withWords W (put1 (W .note) q (getD m (q * 32 + 1) 0)) (put1 (W .reason) q (getD m (q * 32 + 2) 0)) (put1 (W .label) q (getD m (q * 32 + 7) 0))
-    (put1 (W .state) q (getD m (q * 32 + 12) 0))
+    withWords W (put1 (W .note) q (word m q Map.note)) (put1 (W .reason) q (word m q size)) (put1 (W .label) q (word m q Map.label))
+    (put1 (W .state) q (word m q Map.state))

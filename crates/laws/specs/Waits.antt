@@ -7,6 +7,7 @@ use Prim.Native.Nat.{ℕ, _+_, _-_, _*_, _/_, _%_, _≤_, _<_}
 use native.Mathlib.Omega.{arith}
 use lib.ListN.{length, length-append}
 use lib.Dec.{eqb}
+use Rattle.model.specs.Map.{freeList, freeSemaphore, grantFor, headerAfter, interrupts, ownQueue, pageQueue, place, processorList, q1, semaphoreAfter, semaphoreOf}
 use Rattle.model.specs.Map.{less}
 use Rattle.model.specs.Wait as Wait
 use Rattle.model.specs.Bytes.{putToWait}
@@ -37,19 +38,19 @@ waiting W a p w =
 
 -- the reason fits the queue
 pub record Fit (ps : List ℕ) (L : Lists) (W : View) (a p w : ℕ) : Type 0 where
-  pub line : (k : ℕ) → k < 54 → a ≡ 131 + 2 * k → (1 ≤ w) × (w ≤ 255)
-  pub page : a ≡ 245 → (w ≡ 0) × (length (L 244) ≡ 0) × (length (L (320 + W .label p % 16)) ≡ 0)
-  pub own : (y : ℕ) → 1 ≤ count y ps → a ≡ y * 32 + 3 → Waits w (W .note) (L (y * 32 + 5)) y p
+  pub line : (k : ℕ) → k < interrupts → a ≡ semaphoreAfter k → (1 ≤ w) × (w ≤ 255)
+  pub page : a ≡ freeSemaphore → (w ≡ 0) × (length (L freeList) ≡ 0) × (length (L (320 + W .label p % 16)) ≡ 0)
+  pub own : (y : ℕ) → 1 ≤ count y ps → a ≡ place y 3 → Waits w (W .note) (L (place y q1)) y p
 
 -- an interrupt's queue with a count, the page queue where no page is free or granted
-pub line-fit : {ps : List ℕ} {L : Lists} {W : View} {p : ℕ} → Sep ps L → (k c : ℕ) → 1 ≤ k → k ≤ 54 → 1 ≤ c → c ≤ 255 → Fit ps L W (129 + 2 * k) p c
+pub line-fit : {ps : List ℕ} {L : Lists} {W : View} {p : ℕ} → Sep ps L → (k c : ℕ) → 1 ≤ k → k ≤ interrupts → 1 ≤ c → c ≤ 255 → Fit ps L W (semaphoreOf k) p c
 line-fit s k c k1 k2 l u = record {
   line = λ j h e. (l, u);
   page = λ e. absurd (omega arith);
   own = λ y h e. let t = proc-page s y h in absurd (omega arith);
 }
 
-pub page-fit : {ps : List ℕ} {L : Lists} {W : View} {p : ℕ} → Sep ps L → L 244 ≡ [] → length (L (320 + W .label p % 16)) ≡ 0 → Fit ps L W 245 p 0
+pub page-fit : {ps : List ℕ} {L : Lists} {W : View} {p : ℕ} → Sep ps L → L freeList ≡ [] → length (L (320 + W .label p % 16)) ≡ 0 → Fit ps L W freeSemaphore p 0
 page-fit s f g = record {
   line = λ k h e. absurd (omega arith);
   page = λ e. (refl, ap length f, g);
@@ -57,13 +58,13 @@ page-fit s f g = record {
 }
 
 -- a processor that does not wait is in no list with links in word 0
-pub waits-not : {ps : List ℕ} {L : Lists} → Sep ps L → (p : ℕ) → 1 ≤ count p ps → sum p L (queues ps) ≡ 0 → (c : ℕ) → Head ps c → c ≢ 247
+pub waits-not : {ps : List ℕ} {L : Lists} → Sep ps L → (p : ℕ) → 1 ≤ count p ps → sum p L (queues ps) ≡ 0 → (c : ℕ) → Head ps c → c ≢ processorList
     → count p (L c) ≡ 0
 waits-not {ps} {L} s p h z c hc n = go (zero-or (count c (uses ps)))
   where
     go : (count c (uses ps) ≡ 0) ⊎ (1 ≤ count c (uses ps)) → count p (L c) ≡ 0
     go (inl e) = omega (arith, sum-one p L c (queues ps) (omega (arith, hc .0, count-append c (uses ps) (queues ps))), z)
-    go (inr i) = omega (arith, sum-two p L 247 c (uses ps) (λ e. n (sym e)) (omega arith) i, s .most p, one-le p, ap (count p) (s .procs))
+    go (inr i) = omega (arith, sum-two p L processorList c (uses ps) (λ e. n (sym e)) (omega arith) i, s .most p, one-le p, ap (count p) (s .procs))
 
 module _ {ps : List ℕ} {L : Lists} {W : View} {g : ℕ} (a p w : ℕ) (f : Facts ps L W g) (h : 1 ≤ count (a + 1) (queues ps)) (hp : 1 ≤ count p ps)
     (idle : W .state p % 128 / 64 ≡ 0) (fit : Fit ps L W a p w) where
@@ -106,12 +107,12 @@ module _ {ps : List ℕ} {L : Lists} {W : View} {g : ℕ} (a p w : ℕ) (f : Fac
 
   pub facts-wait : Facts ps K (waiting W a p w) g
   facts-wait =
-      let w5 : (y : ℕ) → 1 ≤ count y ps → K (y * 32 + 5) ≡ L (y * 32 + 5) = λ y i. other-list (y * 32 + 5) (not-mail s a h y 5 i (omega arith) (omega arith)) in
-      let wg : (k : ℕ) → k < 32 → K (320 + k) ≡ L (320 + k) = λ k i. other-list (320 + k) (not-given s a h k i) in
-      let wf = other-list 244 (not-free s a h) in
+      let w5 : (y : ℕ) → 1 ≤ count y ps → K (place y q1) ≡ L (place y q1) = λ y i. other-list (place y q1) (not-mail s a h y 5 i (omega arith) (omega arith)) in
+      let wg : (k : ℕ) → k < 32 → K (grantFor k) ≡ L (grantFor k) = λ k i. other-list (grantFor k) (not-given s a h k i) in
+      let wf = other-list freeList (not-free s a h) in
       record {
         sep = record {
-          procs = other-list 247 (not-procs s a h) ∙ s .procs;
+          procs = other-list processorList (not-procs s a h) ∙ s .procs;
           most = λ z. omega (arith, sum-skip z L (a + 1) (L (a + 1) ++ p ∷ []) (uses ps) (queue-once s a h .away), s .most z);
           waits = λ z. waits z (hit-or z p);
         };
@@ -119,18 +120,18 @@ module _ {ps : List ℕ} {L : Lists} {W : View} {g : ℕ} (a p w : ℕ) (f : Fac
         seats = record {
           bit = λ x i. bit x i (hit-or x p);
           zeros = λ x i. zeros x i (hit-or x p);
-          served = λ k i x j. served k i x (split (132 + 2 * k) x (int-queue ps k i) j);
-          asking = λ x j. asking x (split 246 x (omega arith) j);
+          served = λ k i x j. served k i x (split (headerAfter k) x (int-queue ps k i) j);
+          asking = λ x j. asking x (split pageQueue x (omega arith) j);
           quiet = λ x i z. quiet x i z (hit-or x p);
         };
-        own = λ y i x j. rw (w5 y i) (owns y i x (split (y * 32 + 4) x (omega (arith, own-once s y i .here)) j));
+        own = λ y i x j. rw (w5 y i) (owns y i x (split (place y ownQueue) x (omega (arith, own-once s y i .here)) j));
         sems = λ b i. sems b i (hit-or b a);
         granted = record {
-          bare = λ x j. rw (wf, wg (W .label x % 16) (omega arith)) (bare x (split 246 x (omega arith) j));
+          bare = λ x j. rw (wf, wg (W .label x % 16) (omega arith)) (bare x (split pageQueue x (omega arith) j));
           known = λ k i. rw (wg k i) (f .granted .known k i);
         };
         mail = λ y v i l u q j.
-            let c = rw (other-list (y * 32 + v) (not-mail s a h y v i l u)) at j in
+            let c = rw (other-list (place y v) (not-mail s a h y v i l u)) at j in
             let n = q-free s y v q l u i c in
             rw (kept-reason q (λ d. omega (arith, ap (λ (y : ℕ). count y ps) d, n .1))) (f .mail y v i l u q c);
         runs = f .runs;
@@ -154,12 +155,12 @@ module _ {ps : List ℕ} {L : Lists} {W : View} {g : ℕ} (a p w : ℕ) (f : Fac
           rw (put1-same (W .state) p (W .state p / 128 * 128 + 64 + W .state p % 64) x d) (wait-bits (W .state p) .1 ∙ f .seats .zeros p hp)
       zeros x i (inr d) = rw (kept-state x d) (f .seats .zeros x i)
 
-      served : (k : ℕ) → k < 54 → (x : ℕ) → ((1 ≤ count x (L (132 + 2 * k))) × (x ≢ p)) ⊎ ((x ≡ p) × (132 + 2 * k ≡ a + 1))
+      served : (k : ℕ) → k < interrupts → (x : ℕ) → ((1 ≤ count x (L (headerAfter k))) × (x ≢ p)) ⊎ ((x ≡ p) × (headerAfter k ≡ a + 1))
           → (1 ≤ waiting W a p w .reason x) × (waiting W a p w .reason x ≤ 255)
       served k i x (inl t) = rw (kept-reason x (t .1)) (f .seats .served k i x (t .0))
       served k i x (inr t) = rw (new-reason x (t .0)) (fit .line k i (omega (arith, t .1)))
 
-      asking : (x : ℕ) → ((1 ≤ count x (L 246)) × (x ≢ p)) ⊎ ((x ≡ p) × (246 ≡ a + 1)) → waiting W a p w .reason x ≡ 0
+      asking : (x : ℕ) → ((1 ≤ count x (L pageQueue)) × (x ≢ p)) ⊎ ((x ≡ p) × (pageQueue ≡ a + 1)) → waiting W a p w .reason x ≡ 0
       asking x (inl t) = rw (kept-reason x (t .1)) (f .seats .asking x (t .0))
       asking x (inr t) = rw (new-reason x (t .0)) (fit .page (omega (arith, t .1)) .0)
 
@@ -169,8 +170,8 @@ module _ {ps : List ℕ} {L : Lists} {W : View} {g : ℕ} (a p w : ℕ) (f : Fac
           absurd (omega (arith, wait-bits (W .state p)))
       quiet x i z (inr d) = kept-reason x d ∙ f .seats .quiet x i (rw (kept-state x d) at z)
 
-      owns : (y : ℕ) → 1 ≤ count y ps → (x : ℕ) → ((1 ≤ count x (L (y * 32 + 4))) × (x ≢ p)) ⊎ ((x ≡ p) × (y * 32 + 4 ≡ a + 1))
-          → Waits (waiting W a p w .reason y) (W .note) (L (y * 32 + 5)) y x
+      owns : (y : ℕ) → 1 ≤ count y ps → (x : ℕ) → ((1 ≤ count x (L (place y ownQueue))) × (x ≢ p)) ⊎ ((x ≡ p) × (place y ownQueue ≡ a + 1))
+          → Waits (waiting W a p w .reason y) (W .note) (L (place y q1)) y x
       owns y i x (inl t) =
           let c = f .own y i x (t .0) in
           rw (kept-reason y (λ d. t .1 (c .owner ∙ d))) c
@@ -178,16 +179,16 @@ module _ {ps : List ℕ} {L : Lists} {W : View} {g : ℕ} (a p w : ℕ) (f : Fac
           let c = fit .own y i (omega (arith, t .1)) in
           rw (new-reason y (sym (c .owner)), t .0) c
 
-      bare : (x : ℕ) → ((1 ≤ count x (L 246)) × (x ≢ p)) ⊎ ((x ≡ p) × (246 ≡ a + 1)) → (length (L 244) ≡ 0) × (length (L (320 + W .label x % 16)) ≡ 0)
+      bare : (x : ℕ) → ((1 ≤ count x (L pageQueue)) × (x ≢ p)) ⊎ ((x ≡ p) × (pageQueue ≡ a + 1)) → (length (L freeList) ≡ 0) × (length (L (320 + W .label x % 16)) ≡ 0)
       bare x (inl t) = f .granted .bare x (t .0)
       bare x (inr t) = let c = fit .page (omega (arith, t .1)) in rw (t .0) (c .1, c .2)
 
       sems : (b : ℕ) → 1 ≤ count (b + 1) (queues ps) → (b ≡ a) ⊎ (b ≢ a) → waiting W a p w .sem b ≡ less (stock K b) (length (K (b + 1)))
       sems b i (inl d) =
-          rw (put1-same (W .sem) a ((W .sem a + 255) % 256) b d, d, upd-same, stock-same L K (other-list 244 (not-free s a h)) a, f .sems a h)
+          rw (put1-same (W .sem) a ((W .sem a + 255) % 256) b d, d, upd-same, stock-same L K (other-list freeList (not-free s a h)) a, f .sems a h)
           (omega (arith, length-append (L (a + 1)) (p ∷ []), list-short s (a + 1) (in-queues ps (a + 1) h), stock-le s a))
       sems b i (inr n) =
-          rw (put1-other (W .sem) a ((W .sem a + 255) % 256) b n, other-list (b + 1) (omega arith), stock-same L K (other-list 244 (not-free s a h)) b)
+          rw (put1-other (W .sem) a ((W .sem a + 255) % 256) b n, other-list (b + 1) (omega arith), stock-same L K (other-list freeList (not-free s a h)) b)
           (f .sems b i)
 
 -- the model's step

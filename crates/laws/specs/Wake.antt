@@ -8,6 +8,8 @@ use Prim.Native.Nat.{ℕ, _+_, _-_, _*_, _/_, _%_, _≤_, _<_}
 use native.Mathlib.Omega.{arith}
 use lib.ListN.{length, getD, set, length-append}
 use lib.Dec.{eqb}
+use Rattle.model.specs.Map.{freeList, freeSemaphore, grantFor, headerAfter, link, ownQueue, pageQueue, place, processorList, q1, reason, state}
+use Rattle.model.specs.Bytes.{store, word}
 use Rattle.model.specs.Map.{less}
 use Rattle.model.specs.Wait as Wait
 use Rattle.model.specs.Bytes.{unqueue, wake}
@@ -46,24 +48,24 @@ module _ {ps : List ℕ} {L : Lists} (s : Sep ps L) (a : ℕ) (h : 1 ≤ count (
   pub seat-not : (b : ℕ) → count b (queues ps) ≡ 0 → b ≢ a + 1
   seat-not b z e = omega (arith, ap (λ (y : ℕ). count y (queues ps)) e)
 
-  pub not-procs : 247 ≢ a + 1
+  pub not-procs : processorList ≢ a + 1
   not-procs e = omega (arith, queue-once s a h .away, ap (λ (y : ℕ). count y (uses ps)) e)
 
-  pub not-free : 244 ≢ a + 1
-  not-free = seat-not 244 (free-once s .away)
+  pub not-free : freeList ≢ a + 1
+  not-free = seat-not freeList (free-once s .away)
 
-  pub not-mail : (p w : ℕ) → 1 ≤ count p ps → 5 ≤ w → w ≤ 6 → p * 32 + w ≢ a + 1
-  not-mail p w i u v = seat-not (p * 32 + w) (q-once s p w u v i .away)
+  pub not-mail : (p w : ℕ) → 1 ≤ count p ps → 5 ≤ w → w ≤ 6 → place p w ≢ a + 1
+  not-mail p w i u v = seat-not (place p w) (q-once s p w u v i .away)
 
-  pub not-given : (k : ℕ) → k < 32 → 320 + k ≢ a + 1
-  not-given k i = seat-not (320 + k) (grant-once s k i .away)
+  pub not-given : (k : ℕ) → k < 32 → grantFor k ≢ a + 1
+  not-given k i = seat-not (grantFor k) (grant-once s k i .away)
 
 -- how many pages may count beside the waiters
 pub stock-le : {ps : List ℕ} {L : Lists} → Sep ps L → (a : ℕ) → stock L a ≤ 20
-stock-le {ps} {L} s a = go (hit-or a 245)
+stock-le {ps} {L} s a = go (hit-or a freeSemaphore)
   where
-    go : (a ≡ 245) ⊎ (a ≢ 245) → stock L a ≤ 20
-    go (inl e) = rw (e, stock-page L) (list-short s 244 (in-free ps))
+    go : (a ≡ freeSemaphore) ⊎ (a ≢ freeSemaphore) → stock L a ≤ 20
+    go (inl e) = rw (e, stock-page L) (list-short s freeList (in-free ps))
     go (inr n) = rw (stock-else L a n) (omega arith)
 
 -- page p no longer waits in the queue at a
@@ -129,38 +131,38 @@ module _ {ps : List ℕ} {L : Lists} {W : View} {g : ℕ} (a p : ℕ) (xs ys : L
 
   pub wake-sep : Sep ps K
   wake-sep = record {
-    procs = other-list 247 (not-procs s a h) ∙ s .procs;
+    procs = other-list processorList (not-procs s a h) ∙ s .procs;
     most = λ z. omega (arith, sum-skip z L (a + 1) (xs ++ ys) (uses ps) (queue-once s a h .away), s .most z);
     waits = λ z. omega (arith, sum-wake z, s .waits z);
   }
 
   pub facts-wake : Facts ps K (woken W a p) g
   facts-wake =
-      let w5 : (y : ℕ) → 1 ≤ count y ps → K (y * 32 + 5) ≡ L (y * 32 + 5) = λ y i. other-list (y * 32 + 5) (not-mail s a h y 5 i (omega arith) (omega arith)) in
-      let wg : (k : ℕ) → k < 32 → K (320 + k) ≡ L (320 + k) = λ k i. other-list (320 + k) (not-given s a h k i) in
-      let wf = other-list 244 (not-free s a h) in
+      let w5 : (y : ℕ) → 1 ≤ count y ps → K (place y q1) ≡ L (place y q1) = λ y i. other-list (place y q1) (not-mail s a h y 5 i (omega arith) (omega arith)) in
+      let wg : (k : ℕ) → k < 32 → K (grantFor k) ≡ L (grantFor k) = λ k i. other-list (grantFor k) (not-given s a h k i) in
+      let wf = other-list freeList (not-free s a h) in
       record {
         sep = wake-sep;
         names = f .names;
         seats = record {
           bit = λ x i. bit x i (hit-or x p);
           zeros = λ x i. zeros x i (hit-or x p);
-          served = λ k i x j. let t = stays (132 + 2 * k) x (int-queue ps k i) j in rw (kept-reason x (t .1)) (f .seats .served k i x (t .0));
-          asking = λ x j. let t = stays 246 x (omega arith) j in rw (kept-reason x (t .1)) (f .seats .asking x (t .0));
+          served = λ k i x j. let t = stays (headerAfter k) x (int-queue ps k i) j in rw (kept-reason x (t .1)) (f .seats .served k i x (t .0));
+          asking = λ x j. let t = stays pageQueue x (omega arith) j in rw (kept-reason x (t .1)) (f .seats .asking x (t .0));
           quiet = λ x i z. quiet x i z (hit-or x p);
         };
         own = λ y i x j.
-            let c = stays (y * 32 + 4) x (omega (arith, own-once s y i .here)) j in
+            let c = stays (place y ownQueue) x (omega (arith, own-once s y i .here)) j in
             let t = f .own y i x (c .0) in
             let d : y ≢ p = λ z. c .1 (t .owner ∙ z) in
             record { owner = t .owner; flag = rw (kept-reason y d) (t .flag); none = λ q b. rw (kept-reason y d) (t .none q (rw (w5 y i) at b)) };
         sems = λ b i. sems b i (hit-or b a);
         granted = record {
-          bare = λ x j. let t = stays 246 x (omega arith) j in rw (wf, wg (W .label x % 16) (omega arith)) (f .granted .bare x (t .0));
+          bare = λ x j. let t = stays pageQueue x (omega arith) j in rw (wf, wg (W .label x % 16) (omega arith)) (f .granted .bare x (t .0));
           known = λ k i. rw (wg k i) (f .granted .known k i);
         };
         mail = λ y w i u v q j.
-            let c = rw (other-list (y * 32 + w) (not-mail s a h y w i u v)) at j in
+            let c = rw (other-list (place y w) (not-mail s a h y w i u v)) at j in
             let n = q-free s y w q u v i c in
             rw (kept-reason q (not-p q (n .1))) (f .mail y w i u v q c);
         runs = f .runs;
@@ -185,10 +187,10 @@ module _ {ps : List ℕ} {L : Lists} {W : View} {g : ℕ} (a p : ℕ) (xs ys : L
 
       sems : (b : ℕ) → 1 ≤ count (b + 1) (queues ps) → (b ≡ a) ⊎ (b ≢ a) → woken W a p .sem b ≡ less (stock K b) (length (K (b + 1)))
       sems b i (inl d) =
-          rw (put1-same (W .sem) a ((W .sem a + 1) % 256) b d, d, upd-same, stock-same L K (other-list 244 (not-free s a h)) a, f .sems a h)
+          rw (put1-same (W .sem) a ((W .sem a + 1) % 256) b d, d, upd-same, stock-same L K (other-list freeList (not-free s a h)) a, f .sems a h)
           (omega (arith, length-e, list-short s (a + 1) (in-queues ps (a + 1) h), stock-le s a))
       sems b i (inr n) =
-          rw (put1-other (W .sem) a ((W .sem a + 1) % 256) b n, other-list (b + 1) (omega arith), stock-same L K (other-list 244 (not-free s a h)) b)
+          rw (put1-other (W .sem) a ((W .sem a + 1) % 256) b n, other-list (b + 1) (omega arith), stock-same L K (other-list freeList (not-free s a h)) b)
           (f .sems b i)
 
 -- the model's step on the memory, and on the invariant
@@ -214,16 +216,16 @@ wake-base {m} {ps} {L} {W} a p xs ys b h e =
 
 -- which words stay: all but the semaphore and the header, the links of the queue, and of the one that wakes words 2 and 12
 module _ {m : List ℕ} {ps : List ℕ} {L : Lists} {W : View} (s : Sep ps L) (x : Mem m ps L W) (a p : ℕ) (xs ys : List ℕ) (h : 1 ≤ count (a + 1) (queues ps))
-    (e : L (a + 1) ≡ xs ++ p ∷ ys) (c : ℕ) (na : c ≢ a) (nh : c ≢ a + 1) (nl : (z : ℕ) → 1 ≤ count z (L (a + 1)) → c ≢ z * 32 + 0) where
+    (e : L (a + 1) ≡ xs ++ p ∷ ys) (c : ℕ) (na : c ≢ a) (nh : c ≢ a + 1) (nl : (z : ℕ) → 1 ≤ count z (L (a + 1)) → c ≢ place z link) where
   pub unqueue-frame : getD (unqueue m a p) c 0 ≡ getD m c 0
   unfolding Wait.unqueue
   unqueue-frame =
       let v = (getD m a 0 + 1) % 256 in
       leave-frame s (sem-mem s x a v h) (a + 1) (seat-head s a h) (λ d. not-procs s a h (sym d)) p xs ys e c nh nl ∙ other m a v c na
 
-  pub wake-frame : c ≢ p * 32 + 2 → c ≢ p * 32 + 12 → getD (wake m a p) c 0 ≡ getD m c 0
+  pub wake-frame : c ≢ place p reason → c ≢ place p state → getD (wake m a p) c 0 ≡ getD m c 0
   unfolding Wait.wake
   wake-frame n2 n12 =
       let m2 = unqueue m a p in
-      let t = getD m2 (p * 32 + 12) 0 / 128 * 128 + getD m2 (p * 32 + 12) 0 % 64 in
-      other (set m2 (p * 32 + 12) t) (p * 32 + 2) 0 c n2 ∙ other m2 (p * 32 + 12) t c n12 ∙ unqueue-frame
+      let t = word m2 p state / 128 * 128 + word m2 p state % 64 in
+      other (store m2 p state t) (place p reason) 0 c n2 ∙ other m2 (place p state) t c n12 ∙ unqueue-frame

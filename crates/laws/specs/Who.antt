@@ -10,6 +10,9 @@ use native.Mathlib.Omega.{arith}
 use lib.ListN.{length, getD, set, length-set}
 use lib.Dec.{eqb, ltb}
 use borrow.Author.Tests.{eqb-true, eqb-false, eq-eqb, ne-eqb, ltb-true, ltb-false}
+use Rattle.model.specs.Map as Map
+use Rattle.model.specs.Map.{label, place, processorList, runningLabel, runningPage}
+use Rattle.model.specs.Bytes.{running, word}
 use Rattle.model.specs.Turn as Turn
 use Rattle.model.specs.Map.{zeroPlace}
 use Rattle.model.specs.Turn.{fold}
@@ -71,8 +74,8 @@ save-kept m p g = go (eqb p 0) refl
     go false e = let pg = g (eqb-false p 0 e) in rw e (record {
       size = kept-size 19 m p (Model.onPage0 m);
       fixed = λ a i j. kept-frame 19 m p (Model.onPage0 m) a (λ k l. omega (arith, pg));
-      words = λ q j h i. kept-frame 19 m p (Model.onPage0 m) (q * 32 + j) (λ k l. omega arith);
-      state = λ q h. kept-frame 19 m p (Model.onPage0 m) (q * 32 + 12) (λ k l. omega arith);
+      words = λ q j h i. kept-frame 19 m p (Model.onPage0 m) (place q j) (λ k l. omega arith);
+      state = λ q h. kept-frame 19 m p (Model.onPage0 m) (place q Map.state) (λ k l. omega arith);
     })
 
 load-kept : (m : List ℕ) (p : ℕ) → Kept m (load m p)
@@ -81,17 +84,17 @@ load-kept m p =
     either (Kept m) (eqb p 0) (kept-refl m) (record {
       size = restored-size 19 m (Model.keptOn m p);
       fixed = λ a i j. restored-frame 19 m (Model.keptOn m p) a (λ k l. omega (arith, zero-low k l));
-      words = λ q j h i. restored-frame 19 m (Model.keptOn m p) (q * 32 + j) (λ k l. omega (arith, h, zero-low k l));
-      state = λ q h. restored-frame 19 m (Model.keptOn m p) (q * 32 + 12) (λ k l. omega (arith, h, zero-low k l));
+      words = λ q j h i. restored-frame 19 m (Model.keptOn m p) (place q j) (λ k l. omega (arith, h, zero-low k l));
+      state = λ q h. restored-frame 19 m (Model.keptOn m p) (place q Map.state) (λ k l. omega (arith, h, zero-low k l));
     })
 
 -- ---- the choice
 module _ (m : List ℕ) where
   abbrev st : ℕ → ℕ
-  st p = getD m (p * 32 + 12) 0
+  st p = word m p Map.state
 
   abbrev pr : ℕ → ℕ
-  pr p = getD m (p * 32 + 7) 0 / 16
+  pr p = word m p label / 16
 
   -- 0 is below all
   pub rank : ℕ → ℕ
@@ -189,21 +192,21 @@ module _ (m : List ℕ) where
           at p h c (inr n) = r .top p (omega (arith, hit-other p q n)) c
 
 -- ---- words 24 and 25 of page 7
-clock-runs : (l : ℕ → ℕ) (t w : ℕ) → Clock l → Clock (put1 (put1 l 248 t) 249 w)
+clock-runs : (l : ℕ → ℕ) (t w : ℕ) → Clock l → Clock (put1 (put1 l runningPage t) runningLabel w)
 unfolding put1
 clock-runs l t w c = record { c0 = c .c0; c1 = c .c1; c2 = c .c2; c3 = c .c3; divider = c .divider; line = c .line; nought = c .nought }
 
-new-runs : {ps : List ℕ} (l b : ℕ → ℕ) (t w : ℕ) → (t ≡ 0 → w ≡ 0) → (t ≢ 0 → count t ps ≡ 1) → (t ≢ 0 → w ≡ b t) → Runs ps (put1 (put1 l 248 t) 249 w) b
+new-runs : {ps : List ℕ} (l b : ℕ → ℕ) (t w : ℕ) → (t ≡ 0 → w ≡ 0) → (t ≢ 0 → count t ps ≡ 1) → (t ≢ 0 → w ≡ b t) → Runs ps (put1 (put1 l runningPage t) runningLabel w) b
 unfolding put1
 new-runs l b t w z n r = record { idle = z; listed = n; tag = r }
 
 pub base-runs : {m : List ℕ} {ps : List ℕ} {L : Lists} {W : View} {hs : List ℕ} {g : ℕ} (t w : ℕ) → (t ≡ 0 → w ≡ 0) → (t ≢ 0 → count t ps ≡ 1)
-    → (t ≢ 0 → w ≡ W .label t) → Base m ps L W hs g → Base (set (set m 248 t) 249 w) ps L (withLow W (put1 (put1 (W .low) 248 t) 249 w)) hs g
+    → (t ≢ 0 → w ≡ W .label t) → Base m ps L W hs g → Base (set (set m runningPage t) runningLabel w) ps L (withLow W (put1 (put1 (W .low) runningPage t) runningLabel w)) hs g
 base-runs {W = W} t w z n r b =
     let s = b .facts .sep in
     record {
-      mem = turn-mem s (turn-mem s (b .mem) 248 t (omega arith) (omega arith)) 249 w (omega arith) (omega arith);
-      facts = facts-low (put1 (put1 (W .low) 248 t) 249 w) (new-runs (W .low) (W .label) t w z n r) (clock-runs (W .low) t w (b .facts .clock)) (b .facts);
+      mem = turn-mem s (turn-mem s (b .mem) runningPage t (omega arith) (omega arith)) runningLabel w (omega arith) (omega arith);
+      facts = facts-low (put1 (put1 (W .low) runningPage t) runningLabel w) (new-runs (W .low) (W .label) t w z n r) (clock-runs (W .low) t w (b .facts .clock)) (b .facts);
       all = b .all;
     }
 
@@ -213,10 +216,10 @@ module _ {m : List ℕ} {ps : List ℕ} {L : Lists} {W : View} {hs : List ℕ} {
   s = b .facts .sep
 
   abbrev r : ℕ
-  r = W .low 248
+  r = W .low runningPage
 
-  pub running-at : getD m 248 0 ≡ W .low 248
-  running-at = b .mem .reads .fixed .turn 248 (omega arith) (omega arith)
+  pub running-at : running m ≡ W .low runningPage
+  running-at = b .mem .reads .fixed .turn runningPage (omega arith) (omega arith)
 
   pub running-in : r ≢ 0 → 1 ≤ count r ps
   running-in n = omega (arith, b .facts .runs .listed n)
@@ -224,30 +227,30 @@ module _ {m : List ℕ} {ps : List ℕ} {L : Lists} {W : View} {hs : List ℕ} {
   -- the processors are those on the list
   pub listed : processors m ≡ ps
   listed =
-      let c = rw (link-procs, s .procs) at (b .mem .holds .rep 247 (in-procs ps, grant-low 247 (omega arith))) in
-      walk-chain 20 m 1 247 ps c (omega (arith, ap length (s .procs), list-short s 247 (in-procs ps)))
+      let c = rw (link-procs, s .procs) at (b .mem .holds .rep processorList (in-procs ps, grant-low processorList (omega arith))) in
+      walk-chain 20 m 1 processorList ps c (omega (arith, ap length (s .procs), list-short s processorList (in-procs ps)))
 
   pub record Fits (t : ℕ) : Type 0 where
     pub listed : t ≢ 0 → 1 ≤ count t ps
     pub ready : t ≢ 0 → suc (W .state t) ≤ 64
     pub top : (p : ℕ) → 1 ≤ count p ps → suc (W .state p) ≤ 64 → W .label p / 16 ≤ rank m t
 
-  pub state-at : (p : ℕ) → 1 ≤ count p ps → getD m (p * 32 + 12) 0 ≡ W .state p
+  pub state-at : (p : ℕ) → 1 ≤ count p ps → word m p Map.state ≡ W .state p
   state-at p h = b .mem .reads .words .state p (proc-page s p h)
 
-  pub label-at : (p : ℕ) → 1 ≤ count p ps → getD m (p * 32 + 7) 0 ≡ W .label p
+  pub label-at : (p : ℕ) → 1 ≤ count p ps → word m p label ≡ W .label p
   label-at p h = b .mem .reads .words .label p (proc-page s p h)
 
   stays-cases : (stays m r ≡ 0) ⊎ ((stays m r ≡ r) × (r ≢ 0) × (suc (W .state r) ≤ 64))
   unfolding Turn.stays
-  stays-cases = go (eqb r 0) (ltb (getD m (r * 32 + 12) 0) 64) refl refl
+  stays-cases = go (eqb r 0) (ltb (word m r Map.state) 64) refl refl
     where
-      go : (x y : Bool) → eqb r 0 ≡ x → ltb (getD m (r * 32 + 12) 0) 64 ≡ y → (stays m r ≡ 0) ⊎ ((stays m r ≡ r) × (r ≢ 0) × (suc (W .state r) ≤ 64))
+      go : (x y : Bool) → eqb r 0 ≡ x → ltb (word m r Map.state) 64 ≡ y → (stays m r ≡ 0) ⊎ ((stays m r ≡ r) × (r ≢ 0) × (suc (W .state r) ≤ 64))
       go true y e f = inl (rw e)
       go false false e f = inl (rw (e, f))
       go false true e f =
           let n = eqb-false r 0 e in
-          let d = ltb-true (getD m (r * 32 + 12) 0) 64 f in
+          let d = ltb-true (word m r Map.state) 64 f in
           inr (rw (e, f), n, omega (arith, state-at r (running-in n)))
 
   fits-best : Fits (fold (better m) (stays m r) ps)
@@ -261,7 +264,7 @@ module _ {m : List ℕ} {ps : List ℕ} {L : Lists} {W : View} {hs : List ℕ} {
       top : Chosen m (stays m r) ps t → (p : ℕ) → 1 ≤ count p ps → suc (W .state p) ≤ 64 → W .label p / 16 ≤ rank m t
       top c p h i = rw (← label-at p h) (c .top p h (omega (arith, state-at p h)))
 
-      go : (t ≡ stays m r) ⊎ ((1 ≤ count t ps) × (suc (getD m (t * 32 + 12) 0) ≤ 64))
+      go : (t ≡ stays m r) ⊎ ((1 ≤ count t ps) × (suc (word m t Map.state) ≤ 64))
           → (stays m r ≡ 0) ⊎ ((stays m r ≡ r) × (r ≢ 0) × (suc (W .state r) ≤ 64)) → Chosen m (stays m r) ps t → Fits t
       go (inl e) (inl z) c = record { listed = λ n. absurd (n (e ∙ z)); ready = λ n. absurd (n (e ∙ z)); top = top c }
       go (inl e) (inr y) c =
@@ -272,11 +275,11 @@ module _ {m : List ℕ} {ps : List ℕ} {L : Lists} {W : View} {hs : List ℕ} {
   best-stays : (t : ℕ) → t ≡ r → Fits t → Best ps W
   best-stays t e f = record { ready = λ n. rw (← e) (f .ready (λ z. n (sym e ∙ z))); top = λ p h c. go p (f .top p h c) (hit-or r 0) }
     where
-      go : (p : ℕ) → W .label p / 16 ≤ rank m t → (r ≡ 0) ⊎ (r ≢ 0) → W .label p / 16 ≤ W .low 249 / 16
+      go : (p : ℕ) → W .label p / 16 ≤ rank m t → (r ≡ 0) ⊎ (r ≢ 0) → W .label p / 16 ≤ W .low runningLabel / 16
       go p h (inl z) = omega (arith, rank-zero m t (e ∙ z))
       go p h (inr n) = rw (b .facts .runs .tag n, ← label-at r (running-in n)) (rw (rank-of m r n) at (rw e at h))
 
-  best-new : (t w : ℕ) → (t ≡ 0 → w ≡ 0) → (t ≢ 0 → w ≡ W .label t) → Fits t → Best ps (withLow W (put1 (put1 (W .low) 248 t) 249 w))
+  best-new : (t w : ℕ) → (t ≡ 0 → w ≡ 0) → (t ≢ 0 → w ≡ W .label t) → Fits t → Best ps (withLow W (put1 (put1 (W .low) runningPage t) runningLabel w))
   unfolding put1
   best-new t w z n f = record { ready = f .ready; top = λ p h c. go p (f .top p h c) (hit-or t 0) }
     where
@@ -296,11 +299,11 @@ module _ {m : List ℕ} {ps : List ℕ} {L : Lists} {W : View} {hs : List ℕ} {
   tag-of t n = rw (ne-eqb t 0 n)
 
   -- what is written is the tag
-  tag-is : (m2 : List ℕ) (t : ℕ) → Base m2 ps L W hs g → Fits t → cond (eqb t 0) 0 (getD m2 (t * 32 + 7) 0) ≡ tag t
+  tag-is : (m2 : List ℕ) (t : ℕ) → Base m2 ps L W hs g → Fits t → cond (eqb t 0) 0 (word m2 t label) ≡ tag t
   unfolding tag
   tag-is m2 t b2 f = go (eqb t 0) refl
     where
-      go : (x : Bool) → eqb t 0 ≡ x → cond (eqb t 0) 0 (getD m2 (t * 32 + 7) 0) ≡ tag t
+      go : (x : Bool) → eqb t 0 ≡ x → cond (eqb t 0) 0 (word m2 t label) ≡ tag t
       go true e = rw e
       go false e = rw e (b2 .mem .reads .words .label t (proc-page s t (f .listed (eqb-false t 0 e))))
 
@@ -319,9 +322,9 @@ module _ {m : List ℕ} {ps : List ℕ} {L : Lists} {W : View} {hs : List ℕ} {
           let m2 = load (save m r) t in
           let k : Kept m m2 = kept-on (save-kept m r (λ n. proc-page s r (running-in n))) (load-kept (save m r) t) in
           let b2 : Base m2 ps L W hs g = base-kept k b in
-          let w : cond (eqb t 0) 0 (getD m2 (t * 32 + 7) 0) ≡ tag t = tag-is m2 t b2 f in
+          let w : cond (eqb t 0) 0 (word m2 t label) ≡ tag t = tag-is m2 t b2 f in
           rw (e, w) (record {
-            low = put1 (put1 (W .low) 248 t) 249 (tag t);
+            low = put1 (put1 (W .low) runningPage t) runningLabel (tag t);
             base = base-runs t (tag t) (tag-zero t) (λ n. let l = f .listed n in omega (arith, proc-once s t)) (tag-of t) b2;
             best = best-new t (tag t) (tag-zero t) (tag-of t) f;
           })
@@ -336,18 +339,18 @@ who-inv {W = W} b = let t = who-runs b in (withLow W (t .low), record { base = t
 
 -- a step that leaves words 24 and 25 of page 7 leaves who runs
 pub running-same : {m m1 : List ℕ} {ps : List ℕ} {L : Lists} {W : View} {hs hs1 : List ℕ} {g g1 : ℕ} → Base m ps L W hs g → Gave m1 ps hs1 g1 W
-    → getD m1 248 0 ≡ getD m 248 0
-running-same b t = running-at (t .base) ∙ ap (λ (z : ℕ → ℕ). z 248) (t .low) ∙ sym (running-at b)
+    → running m1 ≡ running m
+running-same b t = running-at (t .base) ∙ ap (λ (z : ℕ → ℕ). z runningPage) (t .low) ∙ sym (running-at b)
 
 pub label-in : {m : List ℕ} {ps : List ℕ} {L : Lists} {W : View} {hs : List ℕ} {g : ℕ} → Base m ps L W hs g → (p : ℕ) → 1 ≤ count p ps
-    → Label (getD m (p * 32 + 7) 0)
+    → Label (word m p label)
 label-in b p h = rw (label-at b p h) (b .facts .names .range p h)
 
 -- ---- a well-formed memory where someone runs, who is ready
 pub record Busy (m : List ℕ) : Type 0 where
-  pub base : Base m (lists m 247) (lists m) (view m) [] 32
-  pub runs : 1 ≤ count (getD m 248 0) (lists m 247)
-  pub ready : getD m (getD m 248 0 * 32 + 12) 0 < 64
+  pub base : Base m (lists m processorList) (lists m) (view m) [] 32
+  pub runs : 1 ≤ count (running m) (lists m processorList)
+  pub ready : word m (running m) Map.state < 64
 
-pub busy : {m : List ℕ} → WellFormed m → getD m 248 0 ≢ 0 → Busy m
+pub busy : {m : List ℕ} → WellFormed m → running m ≢ 0 → Busy m
 busy w d = let i = invariant w in record { base = i .base; runs = running-in (i .base) d; ready = omega (arith, i .best .ready d) }

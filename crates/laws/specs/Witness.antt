@@ -8,6 +8,8 @@ use native.Mathlib.Omega.{arith}
 use lib.ListN.{length, getD, getD-replicate, List·getD-eq-default}
 use lib.Dec.{ltb}
 use borrow.Author.Tests.{eq-eqb, ltb-true, ltb-false}
+use Rattle.model.specs.Map.{firstControl, freeList, freeSemaphore, memorySize, pageQueue, processorList}
+use Rattle.model.specs.Bytes.{running}
 use Rattle.model.specs.Store.{bytes}
 use Rattle.model.specs.Fresh as Fresh
 use Rattle.model.specs.Fresh.{startable}
@@ -37,15 +39,15 @@ use Rattle.laws.specs.Calls.Reached.{start}
 abbrev zeros : List ℕ
 zeros = bytes .zeros
 
-beyond : (a : ℕ) → 8192 ≤ a → _≡_ {A = ℕ} (getD zeros a 0) 0
+beyond : (a : ℕ) → memorySize ≤ a → _≡_ {A = ℕ} (getD zeros a 0) 0
 beyond a l = let h : length zeros ≤ a = omega (arith, zeros-size) in List·getD-eq-default {A = ℕ} zeros 0 h
 
 pub zeros-small : Small zeros
-zeros-small = record { at = λ a. go a (ltb a 8192) refl }
+zeros-small = record { at = λ a. go a (ltb a memorySize) refl }
   where
-    go : (a : ℕ) (c : Bool) → ltb a 8192 ≡ c → getD zeros a 0 < 256
-    go a true e = rw (getD-replicate {A = ℕ} 8192 a 0 0 (ltb-true a 8192 e)) (omega arith)
-    go a false e = rw (beyond a (ltb-false a 8192 e)) (omega arith)
+    go : (a : ℕ) (c : Bool) → ltb a memorySize ≡ c → getD zeros a 0 < 256
+    go a true e = rw (getD-replicate {A = ℕ} memorySize a 0 0 (ltb-true a memorySize e)) (omega arith)
+    go a false e = rw (beyond a (ltb-false a memorySize e)) (omega arith)
 
 -- a fresh start with line 16 and divider 5
 abbrev pub example : List ℕ
@@ -58,17 +60,17 @@ example-reached = start (bytes .zeros) 16 5 zeros-size zeros-small refl
 pub example-sound : Sound example
 example-sound = reached-sound example example-reached
 
-pub fresh-is : (m : List ℕ) (line d : ℕ) → length m ≡ 8192 → startable line d ≡ true → memoryOf (fresh m line d) ≡ started m line d
+pub fresh-is : (m : List ℕ) (line d : ℕ) → length m ≡ memorySize → startable line d ≡ true → memoryOf (fresh m line d) ≡ started m line d
 unfolding Call.fresh Answer.memoryOf
-fresh-is m line d l h = rw (eq-eqb (length m) 8192 l, h)
+fresh-is m line d l h = rw (eq-eqb (length m) memorySize l, h)
 
 example-is : example ≡ started (bytes .zeros) 16 5
 unfolding Fresh.startable
 example-is = fresh-is (bytes .zeros) 16 5 zeros-size refl
 
 -- someone runs
-pub example-runs : getD example 248 0 ≡ 236
-example-runs = ap (λ (m : List ℕ). getD m 248 0) example-is ∙ computed 16 5 .at248
+pub example-runs : running example ≡ firstControl
+example-runs = ap (λ (m : List ℕ). running m) example-is ∙ computed 16 5 .at248
 
 -- the host may leave everything as it is
 pub example-host : Host example example
@@ -84,7 +86,7 @@ pub record InHand : Type 0 where
   pub rest : List ℕ
   pub base : Base memory procs lists view (page ∷ rest) 32
 
-example-base : Base example (lists example 247) (lists example) (view example) [] 32
+example-base : Base example (lists example processorList) (lists example) (view example) [] 32
 example-base = invariant (well example-sound) .base
 
 example-at : (a v : ℕ) → getD (started (bytes .zeros) 16 5) a 0 ≡ v → getD example a 0 ≡ v
@@ -94,12 +96,12 @@ example-at a v e = ap (λ (m : List ℕ). getD m a 0) example-is ∙ e
 record Dry (ps : List ℕ) (L : Lists) (W : View) : Type 0 where
   hand : InHand
   procs : hand .procs ≡ ps
-  none : hand .lists 244 ≡ []
-  others : (a : ℕ) → a ≢ 244 → hand .lists a ≡ L a
+  none : hand .lists freeList ≡ []
+  others : (a : ℕ) → a ≢ freeList → hand .lists a ≡ L a
   label : hand .view .label ≡ W .label
   state : hand .view .state ≡ W .state
 
-dry : (fs : List ℕ) {m : List ℕ} {ps : List ℕ} {L : Lists} {W : View} (x : ℕ) (rest : List ℕ) → Base m ps L W (x ∷ rest) 32 → L 244 ≡ fs → Dry ps L W
+dry : (fs : List ℕ) {m : List ℕ} {ps : List ℕ} {L : Lists} {W : View} (x : ℕ) (rest : List ℕ) → Base m ps L W (x ∷ rest) 32 → L freeList ≡ fs → Dry ps L W
 dry [] {m} {ps} {L} {W} x rest b e = record {
   hand = record { memory = m; procs = ps; lists = L; view = W; page = x; rest = rest; base = b };
   procs = refl;
@@ -109,34 +111,34 @@ dry [] {m} {ps} {L} {W} x rest b e = record {
   state = refl;
 }
 dry (f ∷ fs) {m} {ps} {L} {W} x rest b e =
-    let t = dry fs f (x ∷ rest) (take-free f fs b e) (upd-same L 244 fs) in
+    let t = dry fs f (x ∷ rest) (take-free f fs b e) (upd-same L freeList fs) in
     record {
       hand = t .hand;
       procs = t .procs;
       none = t .none;
-      others = λ a d. t .others a d ∙ upd-other L 244 a fs d;
+      others = λ a d. t .others a d ∙ upd-other L freeList a fs d;
       label = t .label;
       state = t .state;
     }
 
-first-free : (fs : List ℕ) → lists example 244 ≡ fs → Dry (lists example 247) (lists example) (view example)
+first-free : (fs : List ℕ) → lists example freeList ≡ fs → Dry (lists example processorList) (lists example) (view example)
 first-free [] e =
-    let c = chain0 (example-base .facts .sep) (example-base .mem) 244 (in-free (lists example 247), grant-low 244 (omega arith)) (omega arith) in
-    let z : getD example 244 0 ≡ 0 = rw e at c in
-    absurd (omega (arith, z, example-at 244 237 (computed 16 5 .at244)))
+    let c = chain0 (example-base .facts .sep) (example-base .mem) freeList (in-free (lists example processorList), grant-low freeList (omega arith)) (omega arith) in
+    let z : getD example freeList 0 ≡ 0 = rw e at c in
+    absurd (omega (arith, z, example-at freeList 237 (computed 16 5 .at244)))
 first-free (f ∷ fs) e =
-    let t = dry fs f [] (take-free f fs example-base e) (upd-same (lists example) 244 fs) in
+    let t = dry fs f [] (take-free f fs example-base e) (upd-same (lists example) freeList fs) in
     record {
       hand = t .hand;
       procs = t .procs;
       none = t .none;
-      others = λ a d. t .others a d ∙ upd-other (lists example) 244 a fs d;
+      others = λ a d. t .others a d ∙ upd-other (lists example) freeList a fs d;
       label = t .label;
       state = t .state;
     }
 
 pub example-hand : InHand
-example-hand = first-free (lists example 244) refl .hand
+example-hand = first-free (lists example freeList) refl .hand
 
 -- a page in hand that is a message
 pub record InHandMessage : Type 0 where
@@ -166,51 +168,51 @@ example-message =
 pub record InHandAsked : Type 0 where
   pub hand : InHand
   pub waiter : ℕ
-  pub asks : lists (hand .memory) 246 ≡ waiter ∷ []
+  pub asks : lists (hand .memory) pageQueue ≡ waiter ∷ []
 
 pub example-asked : InHandAsked
-example-asked = go (first-free (lists example 244) refl)
+example-asked = go (first-free (lists example freeList) refl)
   where
-    r : 1 ≤ count 236 (lists example 247)
+    r : 1 ≤ count firstControl (lists example processorList)
     r = rw example-runs at (running-in example-base (λ e. omega (arith, example-runs, e)))
 
     ready : getD example (236 * 32 + 12) 0 % 128 / 64 ≡ 0
     ready = omega (arith, rw example-runs at (invariant (well example-sound) .best .ready (λ e. omega (arith, example-runs, e))))
 
-    empty : lists example 246 ≡ []
-    empty = nil (lists example 246) (chain0 (example-base .facts .sep) (example-base .mem) 246 (in-asking (lists example 247), grant-low 246 (omega arith))
+    empty : lists example pageQueue ≡ []
+    empty = nil (lists example pageQueue) (chain0 (example-base .facts .sep) (example-base .mem) pageQueue (in-asking (lists example processorList), grant-low pageQueue (omega arith))
         (omega arith))
       where
-        nil : (xs : List ℕ) → Chain example 0 246 xs → xs ≡ []
+        nil : (xs : List ℕ) → Chain example 0 pageQueue xs → xs ≡ []
         nil [] c = refl
-        nil (x ∷ xs) c = absurd (omega (arith, c .0, c .1, example-at 246 0 (computed 16 5 .at246)))
+        nil (x ∷ xs) c = absurd (omega (arith, c .0, c .1, example-at pageQueue 0 (computed 16 5 .at246)))
 
     bare : length (lists example (320 + getD example (236 * 32 + 7) 0 % 16)) ≡ 0
     bare =
         let l : getD example 7559 0 ≡ 17 = example-at 7559 17 (computed 16 5 .at7559) in
         rw l (ap length (example-base .mem .holds .grant 1 (omega arith)) ∙ ap (λ (x : ℕ). length (some x)) (example-at 321 0 (computed 16 5 .at321)))
 
-    go : Dry (lists example 247) (lists example) (view example) → InHandAsked
+    go : Dry (lists example processorList) (lists example) (view example) → InHandAsked
     go t =
         let h = t .hand in
         let b = h .base in
-        let hp : 1 ≤ count 236 (h .procs) = rw (t .procs) r in
-        let b2 = wait-base 245 236 0 b (page-sem (h .procs)) hp (rw (t .state) ready) (record {
+        let hp : 1 ≤ count firstControl (h .procs) = rw (t .procs) r in
+        let b2 = wait-base freeSemaphore firstControl 0 b (page-sem (h .procs)) hp (rw (t .state) ready) (record {
           line = λ k i e. absurd (omega arith);
           page = λ e. (refl, ap length (t .none), rw (t .label) (rw (t .others (320 + getD example (236 * 32 + 7) 0 % 16) (omega arith)) bare));
           own = λ y i e. let p = proc-page (b .facts .sep) y i in absurd (omega arith);
         }) in
         record {
           hand = record {
-            memory = putToWait (h .memory) 245 236 0;
+            memory = putToWait (h .memory) freeSemaphore 236 0;
             procs = h .procs;
-            lists = upd (h .lists) 246 (h .lists 246 ++ 236 ∷ []);
-            view = waiting (h .view) 245 236 0;
+            lists = upd (h .lists) pageQueue (h .lists 246 ++ 236 ∷ []);
+            view = waiting (h .view) freeSemaphore 236 0;
             page = h .page;
             rest = h .rest;
             base = b2;
           };
-          waiter = 236;
-          asks = walked b2 246 (in-asking (h .procs)) ∙ upd-same (h .lists) 246 (h .lists 246 ++ 236 ∷ [])
-              ∙ ap (λ (l : List ℕ). l ++ 236 ∷ []) (t .others 246 (omega arith) ∙ empty);
+          waiter = firstControl;
+          asks = walked b2 pageQueue (in-asking (h .procs)) ∙ upd-same (h .lists) pageQueue (h .lists 246 ++ 236 ∷ [])
+              ∙ ap (λ (l : List ℕ). l ++ 236 ∷ []) (t .others pageQueue (omega arith) ∙ empty);
         }

@@ -10,6 +10,11 @@ use lib.ListN.{length, getD, set}
 use lib.Seq.{getD-set-same, getD-set-other, set-out}
 use lib.Dec.{eqb, ltb}
 use borrow.Author.Tests.{eqb-false, ltb-true, ltb-false}
+use Rattle.model.specs.Map.{c0, c1, c2, c3, clockLine, codeWord, divider, firstControl, freeList, freeSemaphore, grantFor, guardedLast}
+use Rattle.model.specs.Map.{headerOf, highLr, interrupts, label, link, lowLr, memorySize, note, ownSemaphore, pageQueue, place, processorList}
+use Rattle.model.specs.Map.{q1, q2, reason, runningLabel, runningPage, semaphoreOf, size, state, text, wordA, wordS}
+use Rattle.model.specs.Address.{wrapped}
+use Rattle.model.specs.Bytes.{name, running, word}
 use Rattle.model.specs.declared.Registers.{Registers}
 use Rattle.model.specs.Map.{threeFlags}
 use Rattle.model.specs.Address as Address
@@ -51,12 +56,12 @@ small-set {m} a v l s = record { at = λ b. go b (hit-or b a) (ltb a (length m))
 pub small-copy : (n : ℕ) {m : List ℕ} (a b : ℕ) → Small m → Small (Model.copy n m a b)
 unfolding Address.copy
 small-copy zero a b s = s
-small-copy (suc n) {m} a b s = small-copy n ((a + 1) % 8192) ((b + 1) % 8192) (small-set b (getD m a 0) (s .at a) s)
+small-copy (suc n) {m} a b s = small-copy n (wrapped a 1) (wrapped b 1) (small-set b (getD m a 0) (s .at a) s)
 
 pub small-zeroed : (n : ℕ) {m : List ℕ} (a : ℕ) → Small m → Small (Model.zeroed n m a)
 unfolding Address.zeroed
 small-zeroed zero a s = s
-small-zeroed (suc n) a s = small-zeroed n a (small-set ((a + n) % 8192) 0 (omega arith) s)
+small-zeroed (suc n) a s = small-zeroed n a (small-set (wrapped a n) 0 (omega arith) s)
 
 -- all of a list are below 256
 abbrev pub Few : List ℕ → Type 0
@@ -83,35 +88,35 @@ few-first t (x ∷ xs) f = go (t x) refl (few-first t xs (f .1))
 
 module _ {m : List ℕ} (s : Small m) where
   pub few-page : (n : ℕ) → Model.pageOf m n < 256
-  few-page n = few-first (Model.isNamed m n) (Model.processors m) (few-walk 20 1 247 s)
+  few-page n = few-first (Model.isNamed m n) (Model.processors m) (few-walk 20 1 processorList s)
 
   pub few-queue : (t : ℕ → Bool) (h : ℕ) → first t (Model.queue m h) < 256
   few-queue t h = few-first t (Model.queue m h) (few-walk 20 0 h s)
 
   pub small-join : (h k p : ℕ) → p < 256 → Small (Model.join m h k p)
   unfolding Queue.join
-  small-join h k p l = small-set _ p l (small-set (p * 32 + k) 0 (omega arith) s)
+  small-join h k p l = small-set _ p l (small-set (place p k) 0 (omega arith) s)
 
   pub small-leave : (h k p : ℕ) → Small (Model.leave m h k p)
   unfolding Queue.leave
-  small-leave h k p = small-set (p * 32 + k) 0 (omega arith) (small-set _ (getD m (p * 32 + k) 0) (s .at (p * 32 + k)) s)
+  small-leave h k p = small-set (place p k) 0 (omega arith) (small-set _ (word m p k) (s .at (place p k)) s)
 
   -- ---- processors
   pub small-stop : (p : ℕ) → Small (Model.stop m p)
   unfolding Processor.stop
-  small-stop p = small-set (p * 32 + 12) _ (omega arith) s
+  small-stop p = small-set (place p state) _ (omega arith) s
 
   pub small-start : (p : ℕ) → Small (Model.start m p)
   unfolding Processor.start
-  small-start p = small-set (p * 32 + 12) _ (omega arith) s
+  small-start p = small-set (place p state) _ (omega arith) s
 
   pub small-lr : (p a : ℕ) → Small (Model.setLr m p a)
   unfolding Processor.setLr
-  small-lr p a = small-set (p * 32 + 11) _ (omega arith) (small-set (p * 32 + 10) _ (omega (arith, s .at (p * 32 + 10))) s)
+  small-lr p a = small-set (place p lowLr) _ (omega arith) (small-set (place p highLr) _ (omega (arith, s .at (place p highLr))) s)
 
   pub small-advance : (n : ℕ) → Small (Model.advance m n)
   unfolding Processor.advance
-  small-advance n = small-lr (getD m 248 0) ((Model.lr m + n) % 8192)
+  small-advance n = small-lr (running m) ((Model.lr m + n) % memorySize)
 
 -- ---- waiting
 small-enqueue : {m : List ℕ} → Small m → (a p : ℕ) → p < 256 → Small (Model.enqueue m a p)
@@ -124,31 +129,31 @@ small-unqueue s a p = small-leave (small-set a _ (omega arith) s) (a + 1) 0 p
 
 pub small-wait : {m : List ℕ} → Small m → (a p w : ℕ) → p < 256 → w < 256 → Small (Model.putToWait m a p w)
 unfolding Wait.putToWait
-small-wait s a p w l u = small-enqueue (small-set (p * 32 + 2) w u (small-set (p * 32 + 12) _ (omega (arith, s .at (p * 32 + 12))) s)) a p l
+small-wait s a p w l u = small-enqueue (small-set (place p reason) w u (small-set (place p state) _ (omega (arith, s .at (place p state))) s)) a p l
 
 pub small-wake : {m : List ℕ} → Small m → (a p : ℕ) → Small (Model.wake m a p)
 unfolding Wait.wake
 small-wake s a p =
     let t = small-unqueue s a p in
-    small-set (p * 32 + 2) 0 (omega arith) (small-set (p * 32 + 12) _ (omega (arith, t .at (p * 32 + 12))) t)
+    small-set (place p reason) 0 (omega arith) (small-set (place p state) _ (omega (arith, t .at (place p state))) t)
 
 -- ---- registers
 pub small-registers : {m : List ℕ} → Small m → (p : ℕ) (r : Registers) → Small (Model.setRegistersOf m p r)
 unfolding Processor.setRegistersOf Processor.setFlagsLr
 small-registers {m} s p r =
-    let t2 = small-set (p * 32 + 9) (r .s % 256) (omega arith) (small-set (p * 32 + 8) (r .a % 256) (omega arith) s) in
-    let t3 = small-set (p * 32 + 10) (threeFlags (r .p) (r .z) (r .ci) + r .lr / 256 % 32) (omega arith) t2 in
-    let t4 = small-set (p * 32 + 11) (r .lr % 256) (omega arith) t3 in
-    small-set (p * 32 + 12) _ (omega (arith, t4 .at (p * 32 + 12))) t4
+    let t2 = small-set (place p wordS) (r .s % 256) (omega arith) (small-set (place p wordA) (r .a % 256) (omega arith) s) in
+    let t3 = small-set (place p highLr) (threeFlags (r .p) (r .z) (r .ci) + r .lr / 256 % 32) (omega arith) t2 in
+    let t4 = small-set (place p lowLr) (r .lr % 256) (omega arith) t3 in
+    small-set (place p state) _ (omega (arith, t4 .at (place p state))) t4
 
 pub small-back : {m : List ℕ} → Small m → (p : ℕ) (r : Registers) → Small (Model.handBack m p r)
 unfolding Processor.handBack
-small-back s p r = small-set (p * 32 + 12) _ (omega arith) (small-registers s p r)
+small-back s p r = small-set (place p state) _ (omega arith) (small-registers s p r)
 
 -- ---- pages
 pub small-free : {m : List ℕ} → Small m → (q : ℕ) → Small (Model.takeFree m q)
 unfolding Page.takeFree
-small-free s q = small-leave (small-set 245 _ (omega arith) s) 244 0 q
+small-free s q = small-leave (small-set freeSemaphore _ (omega arith) s) freeList 0 q
 
 -- a page taken, and the memory without it
 pub record Light (t : Taken (List ℕ)) : Type 0 where
@@ -164,35 +169,35 @@ light {m} q l s = record { page = q; memory = m; is = refl; few = l; small = s }
 pub small-take : {m : List ℕ} → Small m → (p : ℕ) → Light (Model.takePage m p)
 unfolding Page.takePage Page.firstFree
 small-take {m} s p =
-    let a = 320 + getD m (p * 32 + 7) 0 % 16 in
+    let a = 320 + name m p in
     either Light (eqb (getD m a 0) 0)
-    (either Light (eqb (getD m 244 0) 0) (light 0 (omega arith) s) (light (getD m 244 0) (s .at 244) (small-free s (getD m 244 0))))
+    (either Light (eqb (getD m freeList 0) 0) (light 0 (omega arith) s) (light (getD m freeList 0) (s .at freeList) (small-free s (getD m freeList 0))))
     (light (getD m a 0) (s .at a) (small-set a 0 (omega arith) s))
 
 pub small-give : {m : List ℕ} → Small m → (q : ℕ) → q < 256 → Small (Model.giveBack m q)
 unfolding Page.giveBack Page.freePage Page.grantPage
 small-give {m} s q l =
-    either Small (eqb (getD m 246 0) 0) (small-join (small-set 245 _ (omega arith) s) 244 0 q l)
-    (small-wake (small-set _ q l s) 245 (getD m 246 0))
+    either Small (eqb (getD m pageQueue 0) 0) (small-join (small-set freeSemaphore _ (omega arith) s) freeList 0 q l)
+    (small-wake (small-set _ q l s) freeSemaphore (getD m pageQueue 0))
 
 -- ---- mail
 pub small-deliver : {m : List ℕ} → Small m → (p q : ℕ) → q < 256 → Small (Model.deliver m p q)
 unfolding Mail.deliver Mail.heard
 small-deliver {m} s p q l =
-    let t = small-join s (p * 32 + 5) 0 q l in
-    either Small (Model.awaits (Model.join m (p * 32 + 5) 0 q) p q) (small-wake t (p * 32 + 3) p) t
+    let t = small-join s (place p q1) 0 q l in
+    either Small (Model.awaits (Model.join m (place p q1) 0 q) p q) (small-wake t (place p ownSemaphore) p) t
 
 pub small-notice : {m : List ℕ} → Small m → (q n f : ℕ) → n < 16 → f < 16 → Small (Model.makeNotice m q n f)
 unfolding Mail.makeNotice
-small-notice s q n f l u = small-set (q * 32 + 2) 128 (omega arith) (small-set (q * 32 + 1) (n * 16 + f) (omega arith) s)
+small-notice s q n f l u = small-set (place q size) 128 (omega arith) (small-set (place q note) (n * 16 + f) (omega arith) s)
 
 pub small-message : {m : List ℕ} → Small m → (q f a l : ℕ) → f < 16 → l < 256 → Small (Model.writeMessage m q f a l)
 unfolding Mail.writeMessage
-small-message s q f a l i j = small-copy l a (q * 32 + 3) (small-set (q * 32 + 2) l j (small-set (q * 32 + 1) _ (omega arith) s))
+small-message s q f a l i j = small-copy l a (place q text) (small-set (place q size) l j (small-set (place q note) _ (omega arith) s))
 
 pub small-move : {m : List ℕ} → Small m → (p q : ℕ) → q < 256 → Small (Model.move m p q)
 unfolding Mail.move
-small-move s p q l = small-join (small-leave s (p * 32 + 5) 0 q) (p * 32 + 6) 0 q l
+small-move s p q l = small-join (small-leave s (place p q1) 0 q) (place p q2) 0 q l
 
 -- "Q1 messages tested, the found one too, go to Q2 in order": what the first of Q1, moved, keeps, testing keeps
 pub record Tried (G : List ℕ → Type 0) (t : Tested (List ℕ)) : Type 0 where
@@ -201,7 +206,7 @@ pub record Tried (G : List ℕ → Type 0) (t : Tested (List ℕ)) : Type 0 wher
   pub is : t ≡ tested found memory
   pub kept : G memory
 
-module _ (G : List ℕ → Type 0) (p : ℕ) (moves : (m : List ℕ) → G m → getD m (p * 32 + 5) 0 ≢ 0 → G (Model.move m p (getD m (p * 32 + 5) 0))) where
+module _ (G : List ℕ → Type 0) (p : ℕ) (moves : (m : List ℕ) → G m → word m p q1 ≢ 0 → G (Model.move m p (word m p q1))) where
   tried : (c : Bool) (m : List ℕ) → G m → Tried G (tested c m)
   tried c m t = record { found = c; memory = m; is = refl; kept = t }
 
@@ -209,40 +214,40 @@ module _ (G : List ℕ → Type 0) (p : ℕ) (moves : (m : List ℕ) → G m →
   unfolding Mail.testQ1
   test-kept zero m n f t = tried false m t
   test-kept (suc k) m n f t =
-      go (eqb (getD m (p * 32 + 5) 0) 0) (Model.matches m n f (getD m (p * 32 + 5) 0)) refl refl (λ m′ u. test-kept k m′ n f u)
+      go (eqb (word m p q1) 0) (Model.matches m n f (word m p q1)) refl refl (λ m′ u. test-kept k m′ n f u)
     where
-      go : (c d : Bool) → eqb (getD m (p * 32 + 5) 0) 0 ≡ c → Model.matches m n f (getD m (p * 32 + 5) 0) ≡ d
+      go : (c d : Bool) → eqb (word m p q1) 0 ≡ c → Model.matches m n f (word m p q1) ≡ d
           → ((m′ : List ℕ) → G m′ → Tried G (Model.testQ1 k m′ p n f)) → Tried G (Model.testQ1 (suc k) m p n f)
       go true d e g ih = let q : Model.testQ1 (suc k) m p n f ≡ tested false m = rw (e, Mail.testQ1) in rw q (tried false m t)
       go false true e g ih =
-          let m1 = Model.move m p (getD m (p * 32 + 5) 0) in
-          let q : Model.testQ1 (suc k) m p n f ≡ tested true (Model.move m p (getD m (p * 32 + 5) 0)) = rw (e, g, Mail.testQ1) in
-          rw q (tried true m1 (moves m t (eqb-false (getD m (p * 32 + 5) 0) 0 e)))
+          let m1 = Model.move m p (word m p q1) in
+          let q : Model.testQ1 (suc k) m p n f ≡ tested true (Model.move m p (word m p q1)) = rw (e, g, Mail.testQ1) in
+          rw q (tried true m1 (moves m t (eqb-false (word m p q1) 0 e)))
       go false false e g ih =
-          let m1 = Model.move m p (getD m (p * 32 + 5) 0) in
-          let q : Model.testQ1 (suc k) m p n f ≡ Model.testQ1 k (Model.move m p (getD m (p * 32 + 5) 0)) p n f = rw (e, g, Mail.testQ1) in
-          rw q (ih m1 (moves m t (eqb-false (getD m (p * 32 + 5) 0) 0 e)))
+          let m1 = Model.move m p (word m p q1) in
+          let q : Model.testQ1 (suc k) m p n f ≡ Model.testQ1 k (Model.move m p (word m p q1)) p n f = rw (e, g, Mail.testQ1) in
+          rw q (ih m1 (moves m t (eqb-false (word m p q1) 0 e)))
 
 pub small-test : (k : ℕ) {m : List ℕ} (p n f : ℕ) → Small m → Tried Small (Model.testQ1 k m p n f)
-small-test k {m} p n f s = test-kept Small p (λ x t d. small-move t p (getD x (p * 32 + 5) 0) (t .at (p * 32 + 5))) k m n f s
+small-test k {m} p n f s = test-kept Small p (λ x t d. small-move t p (word x p q1) (t .at (place p q1))) k m n f s
 
 pub small-out : {m : List ℕ} → Small m → (q a : ℕ) → Small (Model.copyOut m q a)
 unfolding Mail.copyOut
 small-out {m} s q a =
-    small-copy (getD m (q * 32 + 2) 0 % 128) (q * 32 + 3) ((a + 3) % 8192)
-    (small-set ((a + 2) % 8192) _ (omega arith) (small-set ((a + 1) % 8192) _ (omega arith) (small-set a _ (omega (arith, s .at (q * 32 + 1))) s)))
+    small-copy (word m q size % 128) (place q text) (wrapped a 3)
+    (small-set (wrapped a 2) _ (omega arith) (small-set (wrapped a 1) _ (omega arith) (small-set a _ (omega (arith, s .at (place q note))) s)))
 
 -- ---- deleting
 pub small-unlisted : {m : List ℕ} → Small m → (p : ℕ) → Small (Model.unlisted m p)
 unfolding Delete.unlisted Wait.leaveWait
-small-unlisted {m} s p = small-leave (either Small (Model.queued m (Model.seat 54 m p) p) (small-unqueue s (Model.seat 54 m p) p) s) 247 1 p
+small-unlisted {m} s p = small-leave (either Small (Model.queued m (Model.seat interrupts m p) p) (small-unqueue s (Model.seat interrupts m p) p) s) processorList 1 p
 
 small-returned : {m : List ℕ} → Small m → (n q : ℕ) → n < 16 → q < 256 → Small (Model.returned m n q)
 unfolding Delete.returned Delete.noticed
 small-returned {m} s n q l u =
-    let f = getD m (q * 32 + 1) 0 % 16 in
-    let p = Model.pageOf m (getD m (q * 32 + 1) 0 / 16) in
-    either Small (eqb (getD m (q * 32 + 2) 0) 128) (small-give s q u)
+    let f = word m q note % 16 in
+    let p = Model.pageOf m (word m q note / 16) in
+    either Small (eqb (word m q size) 128) (small-give s q u)
     (either Small (eqb p 0) (small-give s q u) (small-deliver (small-notice s q n f l (omega arith)) p q u))
 
 small-emptied : (i : ℕ) {m : List ℕ} (n h : ℕ) → n < 16 → Small m → Small (Model.emptied i m n h)
@@ -261,33 +266,33 @@ small-emptied (suc i) {m} n h l s =
 pub small-delete : {m : List ℕ} → Small m → (p : ℕ) → p < 256 → Small (Model.delete m p)
 unfolding Delete.delete Delete.mailReturned Delete.grantReturned
 small-delete {m} s p l =
-    let n = getD m (p * 32 + 7) 0 % 16 in
-    let t = small-emptied 20 n (p * 32 + 5) (omega arith) (small-emptied 20 n (p * 32 + 6) (omega arith) (small-unlisted s p)) in
+    let n = name m p in
+    let t = small-emptied 20 n (place p q1) (omega arith) (small-emptied 20 n (place p q2) (omega arith) (small-unlisted s p)) in
     let m1 = Model.mailReturned (Model.unlisted m p) n p in
-    small-give (either Small (eqb (getD m1 (320 + n) 0) 0) t (small-give (small-set (320 + n) 0 (omega arith) t) (getD m1 (320 + n) 0) (t .at (320 + n)))) p l
+    small-give (either Small (eqb (getD m1 (grantFor n) 0) 0) t (small-give (small-set (grantFor n) 0 (omega arith) t) (getD m1 (grantFor n) 0) (t .at (grantFor n)))) p l
 
 -- ---- interrupts
 small-struck : {m : List ℕ} → Small m → (k c p : ℕ) → c < 256 → Small (Model.struck m k c p)
 unfolding Interrupt.struck Interrupt.classed
 small-struck {m} s k c p l =
-    let t = small-wake s (129 + 2 * k) p in
-    either Small (eqb (getD m (p * 32 + 2) 0) 1) (either Small (ltb k 48) t (either Small (ltb 50 k) t (small-set (p * 32 + 8) c l t)))
-    (small-set (p * 32 + 2) _ (omega arith) s)
+    let t = small-wake s (semaphoreOf k) p in
+    either Small (eqb (word m p reason) 1) (either Small (ltb k 48) t (either Small (ltb 50 k) t (small-set (place p wordA) c l t)))
+    (small-set (place p reason) _ (omega arith) s)
 
 small-from : (n : ℕ) {m : List ℕ} (k c p : ℕ) → c < 256 → Small m → Small (Model.servedFrom n m k c p)
 unfolding Interrupt.servedFrom
 small-from zero k c p l s = s
-small-from (suc n) {m} k c p l s = go (eqb p 0) refl (small-from n k c (getD m (p * 32 + 0) 0) l (small-struck s k c p l))
+small-from (suc n) {m} k c p l s = go (eqb p 0) refl (small-from n k c (word m p link) l (small-struck s k c p l))
   where
-    go : (x : Bool) → eqb p 0 ≡ x → Small (Model.servedFrom n (Model.struck m k c p) k c (getD m (p * 32 + 0) 0)) → Small (Model.servedFrom (suc n) m k c p)
+    go : (x : Bool) → eqb p 0 ≡ x → Small (Model.servedFrom n (Model.struck m k c p) k c (word m p link)) → Small (Model.servedFrom (suc n) m k c p)
     go true e ih = let q : Model.servedFrom (suc n) m k c p ≡ m = rw (e, Interrupt.servedFrom) in rw q s
     go false e ih =
-        let q : Model.servedFrom (suc n) m k c p ≡ Model.servedFrom n (Model.struck m k c p) k c (getD m (p * 32 + 0) 0) = rw (e, Interrupt.servedFrom)
+        let q : Model.servedFrom (suc n) m k c p ≡ Model.servedFrom n (Model.struck m k c p) k c (word m p link) = rw (e, Interrupt.servedFrom)
         in rw q ih
 
 pub small-serve : {m : List ℕ} → Small m → (k c : ℕ) → c < 256 → Small (Model.serve m k c)
 unfolding Interrupt.serve
-small-serve {m} s k c l = small-from 20 k c (getD m (130 + 2 * k) 0) l s
+small-serve {m} s k c l = small-from 20 k c (getD m (headerOf k) 0) l s
 
 small-turns : {m : List ℕ} → Small m → (c k : ℕ) → Small (Model.turns m c k)
 unfolding Interrupt.turns
@@ -299,23 +304,23 @@ small-counts s c = small-set c _ (omega arith) s
 
 small-c3 : {m : List ℕ} → Small m → Small (Model.c3Counts m)
 unfolding Interrupt.c3Counts
-small-c3 {m} s = either Small (Model.ends m 243 60) (small-turns s 243 54) (small-counts s 243)
+small-c3 {m} s = either Small (Model.ends m c3 60) (small-turns s c3 interrupts) (small-counts s c3)
 
 small-c2 : {m : List ℕ} → Small m → Small (Model.c2Counts m)
 unfolding Interrupt.c2Counts
-small-c2 {m} s = either Small (Model.ends m 242 60) (small-c3 (small-turns s 242 53)) (small-counts s 242)
+small-c2 {m} s = either Small (Model.ends m c2 60) (small-c3 (small-turns s c2 53)) (small-counts s c2)
 
 small-c1 : {m : List ℕ} → Small m → Small (Model.c1Counts m)
 unfolding Interrupt.c1Counts
-small-c1 {m} s = either Small (Model.ends m 241 10) (small-c2 (small-turns s 241 52)) (small-counts s 241)
+small-c1 {m} s = either Small (Model.ends m c1 10) (small-c2 (small-turns s c1 52)) (small-counts s c1)
 
 small-c0 : {m : List ℕ} → Small m → Small (Model.c0Counts m)
 unfolding Interrupt.c0Counts
-small-c0 {m} s = either Small (Model.ends m 240 (getD m 251 0)) (small-c1 (small-turns s 240 51)) (small-counts s 240)
+small-c0 {m} s = either Small (Model.ends m c0 (getD m divider 0)) (small-c1 (small-turns s c0 51)) (small-counts s c0)
 
 pub small-delivered : {m : List ℕ} → Small m → (k c : ℕ) → c < 256 → Small (Model.delivered m k c)
 unfolding Interrupt.delivered
-small-delivered {m} s k c l = let t = small-serve s k c l in either Small (eqb k (getD m 239 0)) (small-c0 t) t
+small-delivered {m} s k c l = let t = small-serve s k c l in either Small (eqb k (getD m clockLine 0)) (small-c0 t) t
 
 -- ---- who runs
 small-kept : (n : ℕ) {m : List ℕ} (p : ℕ) (w : List ℕ) → ((i : ℕ) → getD w i 0 < 256) → Small m → Small (Model.kept n m p w)
@@ -342,20 +347,20 @@ unfolding Turn.fold Turn.better
 few-fold s b [] l f = l
 few-fold {m} s b (x ∷ xs) l f =
     few-fold s (Model.better m b x) xs
-    (either (λ (y : ℕ). y < 256) (ltb (getD m (x * 32 + 12) 0) 64) (either (λ (y : ℕ). y < 256) (Model.above m b x) (f .0) l) l) (f .1)
+    (either (λ (y : ℕ). y < 256) (ltb (word m x state) 64) (either (λ (y : ℕ). y < 256) (Model.above m b x) (f .0) l) l) (f .1)
 
 pub few-chosen : {m : List ℕ} → Small m → Model.chosen m < 256
 unfolding Turn.chosen Turn.stays
 few-chosen {m} s =
-    let r = getD m 248 0 in
+    let r = running m in
     few-fold s (Model.stays m r) (Model.processors m)
-    (either (λ (y : ℕ). y < 256) (eqb r 0) (omega arith) (either (λ (y : ℕ). y < 256) (ltb (getD m (r * 32 + 12) 0) 64) (s .at 248) (omega arith)))
-    (few-walk 20 1 247 s)
+    (either (λ (y : ℕ). y < 256) (eqb r 0) (omega arith) (either (λ (y : ℕ). y < 256) (ltb (word m r state) 64) (s .at runningPage) (omega arith)))
+    (few-walk 20 1 processorList s)
 
 pub small-turn : {m : List ℕ} → Small m → Small (Model.whoRuns m)
 unfolding Turn.whoRuns Turn.switch Turn.runs Turn.save Turn.load Turn.onPage0 Turn.keptOn
 small-turn {m} s =
-    let r = getD m 248 0 in
+    let r = running m in
     let t = Model.chosen m in
     let s1 : Small (Model.save m r) = either Small (eqb r 0) s
     (small-kept 19 r (Model.onPage0 m) (few-getD (Model.onPage0 m) (few-19 (λ i. getD m (cond (ltb i 3) (4 + i) (13 + i)) 0)
@@ -364,25 +369,25 @@ small-turn {m} s =
     (small-restored 19 (Model.keptOn (Model.save m r) t) (few-getD (Model.keptOn (Model.save m r) t) (few-19 (λ i. getD (Model.save m r) (t * 32 + (13 + i))
     0) (λ i. s1 .at (t * 32 + (13 + i))))) s1) in
     either Small (eqb r t) s
-    (small-set 249 _ (either (λ (y : ℕ). y < 256) (eqb t 0) (omega arith) (s2 .at (t * 32 + 7))) (small-set 248 t (few-chosen s) s2))
+    (small-set runningLabel _ (either (λ (y : ℕ). y < 256) (eqb t 0) (omega arith) (s2 .at (place t label))) (small-set runningPage t (few-chosen s) s2))
 
 -- ---- a fresh start
 small-chained : (n : ℕ) {m : List ℕ} (p : ℕ) → p + n < 256 → Small m → Small (Model.chained n m p)
 unfolding Fresh.chained
 small-chained zero p l s = s
-small-chained (suc n) p l s = small-chained n (p + 1) (omega arith) (small-set (p * 32 + 0) (p + 1) (omega arith) s)
+small-chained (suc n) p l s = small-chained n (p + 1) (omega arith) (small-set (place p link) (p + 1) (omega arith) s)
 
 small-built : (n : ℕ) {m : List ℕ} → Small m → Small (Model.allBuiltIn n m)
 unfolding Fresh.allBuiltIn
 small-built zero s = s
-small-built (suc n) s = small-built n (small-set (256 + 2 * n) 32 (omega arith) s)
+small-built (suc n) s = small-built n (small-set (codeWord n) 32 (omega arith) s)
 
 pub small-started : {m : List ℕ} → Small m → (line d : ℕ) → line < 256 → d < 256 → Small (Model.started m line d)
 unfolding Fresh.started Fresh.freed Fresh.firstProcessor Fresh.timed Fresh.cleared Turn.runs
 small-started s line d l u =
-    let t = small-zeroed 640 7552 (small-zeroed 224 128 (small-zeroed 32 0 s)) in
-    let t2 = small-set 251 d u (small-set 239 line l t) in
-    let t3 = small-set 247 236 (omega arith) (small-back (small-set 7559 17 (omega arith) t2) 236 _) in
-    let t4 = small-set 249 _ (t3 .at 7559) (small-set 248 236 (omega arith) t3) in
-    let t5 = small-chained 18 237 (omega arith) (small-set 245 19 (omega arith) (small-set 244 237 (omega arith) t4)) in
+    let t = small-zeroed 640 guardedLast (small-zeroed 224 128 (small-zeroed 32 0 s)) in
+    let t2 = small-set divider d u (small-set clockLine line l t) in
+    let t3 = small-set processorList firstControl (omega arith) (small-back (small-set 7559 17 (omega arith) t2) firstControl _) in
+    let t4 = small-set runningLabel _ (t3 .at 7559) (small-set runningPage firstControl (omega arith) t3) in
+    let t5 = small-chained 18 237 (omega arith) (small-set freeSemaphore 19 (omega arith) (small-set freeList 237 (omega arith) t4)) in
     small-set 288 1 (omega arith) (small-built 15 t5)
