@@ -1,5 +1,6 @@
 -- The law of the past is not empty: a run in which processor 1 sends itself a message of two words, takes it to Q2 and reads it. Assumes nothing.
 use mathlib.Core.Path.{_≡_, refl, _∙_, subst}
+use mathlib.Core.Bool.{false}
 use mathlib.Core.List.{List, [], _∷_, _++_}
 use Prim.Native.Nat.{ℕ, _+_, _≤_, _<_}
 use native.Mathlib.Omega.{arith}
@@ -219,7 +220,7 @@ pub record Heard (x : Letter) : Type 0 where
 
 -- ---- the message: from 1 with flag 1, of the words 5 and 6
 abbrev pub letter : Letter
-letter = record { sender = 1; flag = 1; size = 2; text = 5 ∷ 6 ∷ [] }
+letter = record { notice = false; sender = 1; flag = 1; size = 2; text = 5 ∷ 6 ∷ [] }
 
 waits2 : waitingFor (m2 bytes) 236 ≡ letter ∷ []
 unfolding Letter.waitingFor Letter.mailOf Letter.words
@@ -230,7 +231,7 @@ unfolding Letter.waitingFor
 waits4 = rw (seen .left2, seen .left1)
 
 once : times letter (letter ∷ []) ≡ 1
-unfolding Said.times Said.same Said.sameText Order.only Letter.key
+unfolding Said.times Said.same Said.alike Said.sameText Order.only Letter.key
 once = refl
 
 never : times letter [] ≡ 0

@@ -1,4 +1,4 @@
--- A message as a value, read off its page: sender, flag, length and text. It depends on words 1 to 31 of the page alone. What a processor's Q2 and Q1 hold,
+-- A message as a value, read off its page: mail or a notice, sender, flag, length and text. It depends on words 1 to 31 of the page alone. What a processor's Q2 and Q1 hold,
 -- and that a step which leaves their headers and pages alone leaves them; one that leaves only the texts shows them by its lists. Assumes nothing.
 use mathlib.Core.Path.{_≡_, refl, sym, _∙_}
 use mathlib.Core.Logic.{_≢_, _⊎_, inl, inr}
@@ -14,7 +14,7 @@ use Rattle.model.specs.Bytes.{word}
 use Rattle.model.specs.Map.{place, q1, q2, text}
 use Rattle.model.specs.Address.{wrapped}
 use Rattle.model.specs.Mail.{fits}
-use Rattle.model.specs.Bytes.{queue, processors, sender, flag, lengthOf}
+use Rattle.model.specs.Bytes.{queue, processors, sender, flag, lengthOf, isNotice}
 use Rattle.model.specs.Lists.{count, Lists}
 use Rattle.laws.specs.Count.{hit-self, hit-or}
 use Rattle.laws.specs.Chain.{Page, Chain, chain-move, walk-chain}
@@ -24,8 +24,9 @@ use Rattle.laws.specs.Places.{in-q, in-procs, q-free, grant-low}
 use Rattle.laws.specs.Inv.{View, Base, Message}
 use Rattle.laws.specs.Mails.{mail-chain, mail-queue}
 
--- ---- a message
+-- ---- a message: a notice, or mail
 pub record Letter : Type 0 where
+  pub notice : Bool
   pub sender : ℕ
   pub flag : ℕ
   pub size : ℕ
@@ -38,7 +39,7 @@ words m a (suc n) = getD m a 0 ∷ words m (wrapped a 1) n
 
 -- the message of page q; a notice has length 0
 unfoldable pub mailOf : List ℕ → ℕ → Letter
-mailOf m q = record { sender = sender m q; flag = flag m q; size = lengthOf m q; text = words m (place q text) (lengthOf m q) }
+mailOf m q = record { notice = isNotice m q; sender = sender m q; flag = flag m q; size = lengthOf m q; text = words m (place q text) (lengthOf m q) }
 
 -- of sender s with flag f
 unfoldable pub key : ℕ → ℕ → Letter → Bool

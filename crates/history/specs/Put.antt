@@ -41,13 +41,13 @@ of p (x ∷ xs) = elim (eqb p (x .0)) [ true ↦ x .1 ∷ of p xs | false ↦ of
 
 -- a notice from the name n with flag f
 abbrev pub noticeFrom : ℕ → ℕ → Letter
-noticeFrom n f = record { sender = n; flag = f; size = 0; text = [] }
+noticeFrom n f = record { notice = true; sender = n; flag = f; size = 0; text = [] }
 
 -- ---- SME: to NI, or a notice to the sender
 unfoldable pub posting : List ℕ → ℕ → ℕ → ℕ → ℕ × Letter
 posting m n f a =
     cond (eqb (pageOf m n) 0) (running m, noticeFrom n f)
-    (pageOf m n, record { sender = name m (running m); flag = f; size = at m a; text = words m (wrapped a 1) (at m a) })
+    (pageOf m n, record { notice = false; sender = name m (running m); flag = f; size = at m a; text = words m (wrapped a 1) (at m a) })
 
 unfoldable pub hasPage : Taken (List ℕ) → Bool
 hasPage (took q m) = cond (eqb q 0) false true

@@ -17,7 +17,12 @@ use Rattle.history.specs.Letter.{Letter, key, waitingFor, and-true}
 use Rattle.history.specs.Put.{Mailed, nothing, runMail}
 use Rattle.history.specs.Lives.{Past, Run, nothing-lost}
 
--- ---- two messages are the same: sender, flag, length and text
+-- ---- two messages are the same: mail or notice, sender, flag, length and text
+unfoldable pub alike : Bool → Bool → Bool
+alike true b = b
+alike false true = false
+alike false false = true
+
 unfoldable pub sameText : List ℕ → List ℕ → Bool
 sameText [] [] = true
 sameText [] (y ∷ ys) = false
@@ -25,11 +30,22 @@ sameText (x ∷ xs) [] = false
 sameText (x ∷ xs) (y ∷ ys) = eqb x y && sameText xs ys
 
 unfoldable pub same : Letter → Letter → Bool
-same x y = key (x .sender) (x .flag) y && (eqb (x .size) (y .size) && sameText (x .text) (y .text))
+same x y = key (x .sender) (x .flag) y && (alike (x .notice) (y .notice) && (eqb (x .size) (y .size) && sameText (x .text) (y .text)))
 
 -- how often x is in a list
 unfoldable pub times : Letter → List Letter → ℕ
 times x l = length (only (same x) l)
+
+alike-is : (a b : Bool) → alike a b ≡ true → a ≡ b
+unfolding alike
+alike-is true b e = sym e
+alike-is false true e = e
+alike-is false false e = refl
+
+is-alike : (a : Bool) → alike a a ≡ true
+unfolding alike
+is-alike true = refl
+is-alike false = refl
 
 text-is : (xs ys : List ℕ) → sameText xs ys ≡ true → xs ≡ ys
 unfolding sameText
@@ -45,27 +61,30 @@ unfolding sameText
 is-text [] = refl
 is-text (x ∷ xs) = rw (eq-eqb x x refl) (is-text xs)
 
-abbrev letter : ℕ → ℕ → ℕ → List ℕ → Letter
-letter s f n t = record { sender = s; flag = f; size = n; text = t }
+abbrev letter : Bool → ℕ → ℕ → ℕ → List ℕ → Letter
+letter k s f n t = record { notice = k; sender = s; flag = f; size = n; text = t }
 
-letter-is : (x y : Letter) → x .sender ≡ y .sender → x .flag ≡ y .flag → x .size ≡ y .size → x .text ≡ y .text → x ≡ y
-letter-is x y a b c d = made (x .sender) (y .sender) (x .flag) (y .flag) (x .size) (y .size) (x .text) (y .text) a b c d
+letter-is : (x y : Letter) → x .notice ≡ y .notice → x .sender ≡ y .sender → x .flag ≡ y .flag → x .size ≡ y .size → x .text ≡ y .text → x ≡ y
+letter-is x y k a b c d =
+    made (x .notice) (y .notice) (x .sender) (y .sender) (x .flag) (y .flag) (x .size) (y .size) (x .text) (y .text) k a b c d
   where
-    made : (s s′ f f′ n n′ : ℕ) (t t′ : List ℕ) → s ≡ s′ → f ≡ f′ → n ≡ n′ → t ≡ t′ → letter s f n t ≡ letter s′ f′ n′ t′
-    made s s′ f f′ n n′ t t′ a b c d = rw (a, b, c, d)
+    made : (o o′ : Bool) (s s′ f f′ n n′ : ℕ) (t t′ : List ℕ) → o ≡ o′ → s ≡ s′ → f ≡ f′ → n ≡ n′ → t ≡ t′ → letter o s f n t ≡ letter o′ s′ f′ n′ t′
+    made o o′ s s′ f f′ n n′ t t′ k a b c d = rw (k, a, b, c, d)
 
 -- the test says what equality says
 pub same-is : (x y : Letter) → same x y ≡ true → x ≡ y
 unfolding same key
 same-is x y e =
-    let a = and-true (key (x .sender) (x .flag) y) (eqb (x .size) (y .size) && sameText (x .text) (y .text)) e in
+    let rest = eqb (x .size) (y .size) && sameText (x .text) (y .text) in
+    let a = and-true (key (x .sender) (x .flag) y) (alike (x .notice) (y .notice) && rest) e in
     let b = and-true (eqb (x .sender) (y .sender)) (eqb (x .flag) (y .flag)) (a .0) in
-    let c = and-true (eqb (x .size) (y .size)) (sameText (x .text) (y .text)) (a .1) in
-    letter-is x y (eqb-true _ _ (b .0)) (eqb-true _ _ (b .1)) (eqb-true _ _ (c .0)) (text-is (x .text) (y .text) (c .1))
+    let k = and-true (alike (x .notice) (y .notice)) rest (a .1) in
+    let c = and-true (eqb (x .size) (y .size)) (sameText (x .text) (y .text)) (k .1) in
+    letter-is x y (alike-is (x .notice) (y .notice) (k .0)) (eqb-true _ _ (b .0)) (eqb-true _ _ (b .1)) (eqb-true _ _ (c .0)) (text-is (x .text) (y .text) (c .1))
 
 pub is-same : (x y : Letter) → x ≡ y → same x y ≡ true
 unfolding same key
-is-same x y e = rw (← e, eq-eqb (x .sender) (x .sender) refl, eq-eqb (x .flag) (x .flag) refl, eq-eqb (x .size) (x .size) refl) (is-text (x .text))
+is-same x y e = rw (← e, eq-eqb (x .sender) (x .sender) refl, eq-eqb (x .flag) (x .flag) refl, is-alike (x .notice), eq-eqb (x .size) (x .size) refl) (is-text (x .text))
 
 -- ---- what passes a test t that implies k: among what passes k
 within : {A : Type 0} (t k : A → Bool) → ((y : A) → t y ≡ true → k y ≡ true) → (l : List A) → only t (only k l) ≡ only t l
@@ -80,7 +99,8 @@ within t k i (x ∷ xs) = go (t x) (k x) refl refl (within t k i xs)
 
 same-key : (x y : Letter) → same x y ≡ true → key (x .sender) (x .flag) y ≡ true
 unfolding same
-same-key x y e = and-true (key (x .sender) (x .flag) y) (eqb (x .size) (y .size) && sameText (x .text) (y .text)) e .0
+same-key x y e =
+    and-true (key (x .sender) (x .flag) y) (alike (x .notice) (y .notice) && (eqb (x .size) (y .size) && sameText (x .text) (y .text))) e .0
 
 times-by : (x : Letter) (l r : List Letter) → only (key (x .sender) (x .flag)) l ≡ only (key (x .sender) (x .flag)) r → times x l ≡ times x r
 unfolding times

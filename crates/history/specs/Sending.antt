@@ -8,9 +8,9 @@ use Prim.Native.Nat.{ℕ, _+_, _-_, _*_, _/_, _%_, _≤_, _<_}
 use native.Mathlib.Omega.{arith}
 use lib.ListN.{getD, set}
 use lib.Dec.{eqb}
-use borrow.Author.Tests.{eqb-false}
+use borrow.Author.Tests.{eqb-false, ne-eqb}
 use Rattle.model.specs.Map as Map
-use Rattle.model.specs.Map.{guardedLast, label, longest, memorySize, note, place, processorList}
+use Rattle.model.specs.Map.{guardedLast, label, longest, memorySize, note, notice, place, processorList}
 use Rattle.model.specs.Address.{wrapped}
 use Rattle.model.specs.Bytes.{name, store, word}
 use Rattle.model.specs.Address.{clear}
@@ -131,14 +131,14 @@ module _ {m : List ℕ} {ps : List ℕ} {L : Lists} {W : View} {hs : List ℕ} {
         apart x y hx hy = let e : (place q Map.text + y) % memorySize ≡ place q Map.text + y = omega (arith, hq) in rw e (omega (arith, hq, far x hx))
 
     written-mail : ((i : ℕ) → i < l → wrapped a i < guardedLast)
-        → mailOf mc q ≡ record { sender = name m (running m); flag = f; size = l; text = words m a l }
+        → mailOf mc q ≡ record { notice = false; sender = name m (running m); flag = f; size = l; text = words m a l }
     unfolding mailOf
     written-mail far =
         let c = name m (running m) in
         let e1 : (name m (running m) * 16 + f) / 16 ≡ name m (running m) = omega arith in
         let e2 : (name m (running m) * 16 + f) % 16 ≡ f = omega arith in
         let e3 : l % 128 ≡ l = omega arith in
-        rw (message-words b f a l l2 .0, message-words b f a l l2 .1, e1, e2, e3, written-text far)
+        rw (message-words b f a l l2 .0, message-words b f a l l2 .1, ne-eqb l notice (omega arith), e1, e2, e3, written-text far)
 
 -- ---- the instruction
 module _ {m : List ℕ} (w : WellFormed m) (d : running m ≢ 0) where
@@ -178,7 +178,7 @@ module _ {m : List ℕ} (w : WellFormed m) (d : running m ≢ 0) where
 
     message-sent : (f a l p len : ℕ) → 1 ≤ f → f ≤ 7 → l ≤ longest → a < memorySize → 1 ≤ count p (lists m processorList) → clear l a ≡ true
         → Sent m (memoryOf (Model.done (deliver (writeMessage m1 q f a l) p q) len))
-        (putting ((p, record { sender = name m (running m); flag = f; size = l; text = words m a l }) ∷ []))
+        (putting ((p, record { notice = false; sender = name m (running m); flag = f; size = l; text = words m a l }) ∷ []))
     message-sent f a l p len f1 f2 l2 la hp c =
         let o : (i : ℕ) → i < l → Open (wrapped a i) = λ i h. clear-open (wrapped a i) (clear-at l a c i h) in
         let tx : words m1 a l ≡ words m a l = words-moved m m1 a a l la la (λ i h. takes-word b r hr q m1 e (wrapped a i) (o i h)) in
