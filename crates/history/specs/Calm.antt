@@ -36,7 +36,7 @@ use Rattle.laws.specs.Still.{Aside, aside-hand}
 use Rattle.laws.specs.Who.{zero-low}
 use Rattle.history.specs.Letter.{Mine, Ours, Same, same-on}
 use Rattle.history.specs.Letter.Mine.{head, page}
-use Rattle.history.specs.Letter.Ours.{mail, first, next}
+use Rattle.history.specs.Letter.Ours.{mail, first, next, named}
 
 -- ---- where these words do not stand
 module _ {ps : List ℕ} {L : Lists} (s : Sep ps L) {c : ℕ} where
@@ -52,21 +52,24 @@ module _ {ps : List ℕ} {L : Lists} (s : Sep ps L) {c : ℕ} where
       let d : x ≢ q = λ z. omega (arith, ap (λ (y : ℕ). count y ps) z, g .1) in
       omega arith
 
-  pub ours-proc : Ours ps L c → (q j : ℕ) → 1 ≤ count q ps → j < 32 → j ≢ 1 → j ≢ 5 → j ≢ 6 → c ≢ place q j
-  ours-proc (mail h) q j i l n1 n5 n6 = mine-proc h q j i l n5 n6
-  ours-proc (first e) q j i l n1 n5 n6 = let t = proc-page s q i in omega arith
-  ours-proc (next z h e) q j i l n1 n5 n6 = omega arith
+  pub ours-proc : Ours ps L c → (q j : ℕ) → 1 ≤ count q ps → j < 32 → j ≢ 1 → j ≢ 5 → j ≢ 6 → j ≢ 7 → c ≢ place q j
+  ours-proc (mail h) q j i l n1 n5 n6 n7 = mine-proc h q j i l n5 n6
+  ours-proc (first e) q j i l n1 n5 n6 n7 = let t = proc-page s q i in omega arith
+  ours-proc (next z h e) q j i l n1 n5 n6 n7 = omega arith
+  ours-proc (named z h e) q j i l n1 n5 n6 n7 = omega arith
 
   -- what is low, but the header of the processor list
   pub ours-low : Ours ps L c → (b : ℕ) → b < guardedLast → b ≢ processorList → c ≢ b
   ours-low (mail h) b l n = let t = mine-high h in omega arith
   ours-low (first e) b l n = omega arith
   ours-low (next z h e) b l n = let t = proc-page s z h in omega arith
+  ours-low (named z h e) b l n = let t = proc-page s z h in omega arith
 
   pub ours-fits : Ours ps L c → c < memorySize
   ours-fits (mail h) = mine-high h .1
   ours-fits (first e) = omega arith
   ours-fits (next z h e) = let t = proc-page s z h in omega arith
+  ours-fits (named z h e) = let t = proc-page s z h in omega arith
 
   -- a page in hand
   pub mine-hand : Mine ps L c → (q j : ℕ) → Aside ps L q → j < 32 → c ≢ place q j
@@ -83,6 +86,9 @@ module _ {ps : List ℕ} {L : Lists} (s : Sep ps L) {c : ℕ} where
   ours-hand (next z h e) q j o l =
       let d : z ≢ q = λ y. omega (arith, ap (λ (x : ℕ). count x ps) y, o .out) in
       omega arith
+  ours-hand (named z h e) q j o l =
+      let d : z ≢ q = λ y. omega (arith, ap (λ (x : ℕ). count x ps) y, o .out) in
+      omega arith
 
   -- the semaphore and the header of a wait queue, and the links of its pages
   pub ours-seat : Ours ps L c → (a : ℕ) → 1 ≤ count (a + 1) (queues ps) → (c ≢ a) × (c ≢ a + 1)
@@ -92,12 +98,12 @@ module _ {ps : List ℕ} {L : Lists} (s : Sep ps L) {c : ℕ} where
       go (line k u e) = (ours-low m a (omega arith) (omega arith), ours-low m (a + 1) (omega arith) (omega arith))
       go (page e) = (ours-low m a (omega arith) (omega arith), ours-low m (a + 1) (omega arith) (omega arith))
       go (own p u e) =
-          let d3 = ours-proc m p 3 u (omega arith) (omega arith) (omega arith) (omega arith) in
-          let d4 = ours-proc m p 4 u (omega arith) (omega arith) (omega arith) (omega arith) in
+          let d3 = ours-proc m p 3 u (omega arith) (omega arith) (omega arith) (omega arith) (omega arith) in
+          let d4 = ours-proc m p 4 u (omega arith) (omega arith) (omega arith) (omega arith) (omega arith) in
           (omega arith, omega arith)
 
   pub ours-wait : Ours ps L c → (a z : ℕ) → 1 ≤ count (a + 1) (queues ps) → 1 ≤ count z (L (a + 1)) → c ≢ place z link
-  ours-wait m a z h i = ours-proc m z 0 (wait-page s (a + 1) z h i) (omega arith) (omega arith) (omega arith) (omega arith)
+  ours-wait m a z h i = ours-proc m z 0 (wait-page s (a + 1) z h i) (omega arith) (omega arith) (omega arith) (omega arith) (omega arith)
 
   -- the links of the free pages
   mine-free : Mine ps L c → (z : ℕ) → 1 ≤ count z (L freeList) → c ≢ place z link
@@ -117,6 +123,7 @@ module _ {ps : List ℕ} {L : Lists} (s : Sep ps L) {c : ℕ} where
   ours-free (mail h) z i = mine-free h z i
   ours-free (first e) z i = omega arith
   ours-free (next y h e) z i = omega arith
+  ours-free (named y h e) z i = omega arith
 
 -- ---- stores
 pub calm-set : {ps : List ℕ} {L : Lists} (m : List ℕ) (b v : ℕ) → ((c : ℕ) → Ours ps L c → c ≢ b) → Same ps L m (set m b v)
@@ -129,8 +136,8 @@ module _ {ps : List ℕ} {L : Lists} (s : Sep ps L) where
   pub calm-low : (m : List ℕ) (b v : ℕ) → b < guardedLast → b ≢ processorList → Same ps L m (set m b v)
   calm-low m b v l n = calm-set m b v (λ c h. ours-low s h b l n)
 
-  pub calm-proc : (m : List ℕ) (q j v : ℕ) → 1 ≤ count q ps → j < 32 → j ≢ 1 → j ≢ 5 → j ≢ 6 → Same ps L m (store m q j v)
-  calm-proc m q j v i l n1 n5 n6 = calm-set m (place q j) v (λ c h. ours-proc s h q j i l n1 n5 n6)
+  pub calm-proc : (m : List ℕ) (q j v : ℕ) → 1 ≤ count q ps → j < 32 → j ≢ 1 → j ≢ 5 → j ≢ 6 → j ≢ 7 → Same ps L m (store m q j v)
+  calm-proc m q j v i l n1 n5 n6 n7 = calm-set m (place q j) v (λ c h. ours-proc s h q j i l n1 n5 n6 n7)
 
   pub calm-only : (m m′ : List ℕ) (q : ℕ) → Aside ps L q → Only q m m′ → Same ps L m m′
   calm-only m m′ q o t = record { at = λ c h. go c h (ltb c (q * 32)) refl (ltb c (q * 32 + 32)) refl }
@@ -149,7 +156,7 @@ module _ {ps : List ℕ} {L : Lists} (s : Sep ps L) where
     where
       go : (r ≡ 0) ⊎ (r ≢ 0) → Same ps L m (store m r j v)
       go (inl e) = calm-low m (place r j) v (omega arith) (omega arith)
-      go (inr d) = calm-proc m r j v (g d) u (omega arith) (omega arith) (omega arith)
+      go (inr d) = calm-proc m r j v (g d) u (omega arith) (omega arith) (omega arith) (omega arith)
 
   pub calm-lr : (m : List ℕ) (r a : ℕ) → (r ≢ 0 → 1 ≤ count r ps) → Same ps L m (setLr m r a)
   unfolding Processor.setLr
@@ -168,7 +175,7 @@ module _ {ps : List ℕ} {L : Lists} (s : Sep ps L) where
     where
       kept : (i : ℕ) → i < 19 → (r ≡ 0) ⊎ (r ≢ 0) → c ≢ r * 32 + (13 + i)
       kept i l (inl e) = ours-low s h (r * 32 + (13 + i)) (omega arith) (omega arith)
-      kept i l (inr d) = ours-proc s h r (13 + i) (g d) (omega arith) (omega arith) (omega arith) (omega arith)
+      kept i l (inr d) = ours-proc s h r (13 + i) (g d) (omega arith) (omega arith) (omega arith) (omega arith) (omega arith)
 
   pub calm-turn : (m : List ℕ) → (running m ≢ 0 → 1 ≤ count (running m) ps) → Same ps L m (whoRuns m)
   calm-turn m g = record { at = λ c h. turn-frame m c (ours-unmoved h (running m) g) }
@@ -179,8 +186,8 @@ module _ {m : List ℕ} {ps : List ℕ} {L : Lists} {W : View} (s : Sep ps L) (x
   calm-wake a p xs ys h hp e = record {
     at = λ c i.
         wake-frame s x a p xs ys h e c (ours-seat s i a h .0) (ours-seat s i a h .1) (λ z j. ours-wait s i a z h j)
-        (ours-proc s i p 2 hp (omega arith) (omega arith) (omega arith) (omega arith))
-        (ours-proc s i p 12 hp (omega arith) (omega arith) (omega arith) (omega arith));
+        (ours-proc s i p 2 hp (omega arith) (omega arith) (omega arith) (omega arith) (omega arith))
+        (ours-proc s i p 12 hp (omega arith) (omega arith) (omega arith) (omega arith) (omega arith));
   }
 
   pub calm-wait : (a p w : ℕ) → 1 ≤ count (a + 1) (queues ps) → 1 ≤ count p ps → ((c : ℕ) → Head ps c → c ≢ processorList → count p (L c) ≡ 0)
@@ -196,13 +203,13 @@ module _ {m : List ℕ} {ps : List ℕ} {L : Lists} {W : View} (s : Sep ps L) (x
       let v3 = (getD m2 a 0 + 255) % 256 in
       let x3 = sem-mem s x2 a v3 h in
       let m3 = set m2 a v3 in
-      let c1 : Same ps L m m1 = calm-proc s m p 12 v1 hp (omega arith) (omega arith) (omega arith) (omega arith) in
-      let c2 : Same ps L m1 m2 = calm-proc s m1 p 2 w hp (omega arith) (omega arith) (omega arith) (omega arith) in
+      let c1 : Same ps L m m1 = calm-proc s m p 12 v1 hp (omega arith) (omega arith) (omega arith) (omega arith) (omega arith) in
+      let c2 : Same ps L m1 m2 = calm-proc s m1 p 2 w hp (omega arith) (omega arith) (omega arith) (omega arith) (omega arith) in
       let c3 : Same ps L m2 m3 = calm-set m2 a v3 (λ c i. ours-seat s i a h .0) in
       same-on (same-on (same-on c1 c2) c3) (record {
         at = λ c i.
             join-frame s x3 (a + 1) (seat-head s a h) (λ d. not-procs s a h (sym d)) p pg new c (ours-seat s i a h .1) (λ z j. ours-wait s i a z h j)
-            (ours-proc s i p 0 hp (omega arith) (omega arith) (omega arith) (omega arith));
+            (ours-proc s i p 0 hp (omega arith) (omega arith) (omega arith) (omega arith) (omega arith));
       })
 
   -- the first free page
@@ -231,9 +238,9 @@ calm-give {q = q} b = let s = b .facts .sep in record {
     free = λ z j. ours-free s i z j;
     waiter = λ p j.
         let hp = wait-page s pageQueue p (omega arith) j in (
-          ours-proc s i p 0 hp (omega arith) (omega arith) (omega arith) (omega arith),
-          ours-proc s i p 2 hp (omega arith) (omega arith) (omega arith) (omega arith),
-          ours-proc s i p 12 hp (omega arith) (omega arith) (omega arith) (omega arith),
+          ours-proc s i p 0 hp (omega arith) (omega arith) (omega arith) (omega arith) (omega arith),
+          ours-proc s i p 2 hp (omega arith) (omega arith) (omega arith) (omega arith) (omega arith),
+          ours-proc s i p 12 hp (omega arith) (omega arith) (omega arith) (omega arith) (omega arith),
         );
   });
 }

@@ -38,8 +38,8 @@ module _ (k c : ℕ) (k1 : 1 ≤ k) (k2 : k ≤ interrupts) where
       let A = Model.wake m a p in
       either (Same ps L m) (eqb (word m p reason) 1)
       (either (Same ps L m) (ltb k 48) w (either (Same ps L m) (ltb 50 k) w
-      (same-on w (calm-proc s (Model.wake m a p) p 8 c hp (omega arith) (omega arith) (omega arith) (omega arith)))))
-      (calm-proc s m p 2 ((word m p reason + 255) % 256) hp (omega arith) (omega arith) (omega arith) (omega arith))
+      (same-on w (calm-proc s (Model.wake m a p) p 8 c hp (omega arith) (omega arith) (omega arith) (omega arith) (omega arith)))))
+      (calm-proc s m p 2 ((word m p reason + 255) % 256) hp (omega arith) (omega arith) (omega arith) (omega arith) (omega arith))
 
   abbrev Goal : List ℕ → ℕ → List ℕ → List ℕ → ℕ → Type 0
   Goal ys n ps hs g = (L : Lists) (W : View) (m : List ℕ) (xs : List ℕ) → Base m ps L W hs g → L (a + 1) ≡ xs ++ ys

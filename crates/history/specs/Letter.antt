@@ -11,7 +11,7 @@ use lib.Dec.{eqb}
 use borrow.Author.Tests.{eqb-true}
 use Rattle.model.specs.Map.{link, longest, memorySize, note, processorList}
 use Rattle.model.specs.Bytes.{word}
-use Rattle.model.specs.Map.{place, q1, q2, text}
+use Rattle.model.specs.Map.{label, place, q1, q2, text}
 use Rattle.model.specs.Address.{wrapped}
 use Rattle.model.specs.Mail.{fits}
 use Rattle.model.specs.Bytes.{queue, processors, sender, flag, lengthOf, isNotice}
@@ -141,11 +141,12 @@ pub data Mine (ps : List ℕ) (L : Lists) (c : ℕ) : Type 0 where
   head : (p w : ℕ) → 1 ≤ count p ps → 5 ≤ w → w ≤ 6 → c ≡ place p w → Mine ps L c
   page : (p w x j : ℕ) → 1 ≤ count p ps → 5 ≤ w → w ≤ 6 → 1 ≤ count x (L (place p w)) → j < 32 → c ≡ place x j → Mine ps L c
 
--- with them the words of the processor list
+-- with them the words of the processor list, and each processor's priority and name
 pub data Ours (ps : List ℕ) (L : Lists) (c : ℕ) : Type 0 where
   mail : Mine ps L c → Ours ps L c
   first : c ≡ processorList → Ours ps L c
   next : (z : ℕ) → 1 ≤ count z ps → c ≡ place z 1 → Ours ps L c
+  named : (z : ℕ) → 1 ≤ count z ps → c ≡ place z label → Ours ps L c
 
 -- a step leaves them alone; the words of Q1 and Q2 alone
 pub record Same (ps : List ℕ) (L : Lists) (m m′ : List ℕ) : Type 0 where
@@ -175,6 +176,7 @@ ours-agree : {ps : List ℕ} {L K : Lists} {c : ℕ} → Agree ps L K → Ours p
 ours-agree a (mail h) = mail (mine-agree a h)
 ours-agree a (first e) = first e
 ours-agree a (next z h e) = next z h e
+ours-agree a (named z h e) = named z h e
 
 pub same-then : {ps : List ℕ} {L K : Lists} {m m1 m2 : List ℕ} → Agree ps L K → Same ps L m m1 → Same ps K m1 m2 → Same ps L m m2
 same-then a f g = record { at = λ c h. g .at c (ours-agree a h) ∙ f .at c h }

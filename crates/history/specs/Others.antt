@@ -24,7 +24,7 @@ use Rattle.laws.specs.Inv.{view, Base}
 use Rattle.laws.specs.Judged.{invariant}
 use Rattle.laws.specs.Calls.{Sound, well, Host, outer-of, guarded-low, guarded-high, unrefused, read-same, judge-same}
 use Rattle.history.specs.Letter.{Ours, Same}
-use Rattle.history.specs.Letter.Ours.{mail, first, next}
+use Rattle.history.specs.Letter.Ours.{mail, first, next, named}
 use Rattle.history.specs.Put.{nothing}
 use Rattle.history.specs.Calm.{calm-refl, mine-high}
 use Rattle.history.specs.Told.{Told, told-same}
@@ -86,8 +86,10 @@ module _ {m : List ℕ} (h : Sound m) where
       high c (mail o) = let t = mine-high s o in omega arith
       high c (first e) = omega arith
       high c (next z o e) = let t = proc-page s z o in omega arith
+      high c (named z o e) = let t = proc-page s z o in omega arith
 
       safe : (c : ℕ) → Ours (lists m processorList) (lists m) c → guarded c ≡ true
       safe c (mail o) = guarded-high c (mine-high s o .0)
       safe c (first e) = guarded-low c (omega arith) (omega arith)
       safe c (next z o e) = let t = proc-page s z o in guarded-high c (omega arith)
+      safe c (named z o e) = let t = proc-page s z o in guarded-high c (omega arith)

@@ -105,7 +105,7 @@ module _ {m : List ℕ} (w : WellFormed m) (d : running m ≢ 0) where
   state-calm : (p v len : ℕ) → 1 ≤ count p (lists m processorList) → Calm (memoryOf (Model.done (store m p state v) len))
   state-calm p v len h =
       let g = proc-page s p h in
-      then-done (store m p state v) len (calm-proc s m p 12 v h (omega arith) (omega arith) (omega arith) (omega arith))
+      then-done (store m p state v) len (calm-proc s m p 12 v h (omega arith) (omega arith) (omega arith) (omega arith) (omega arith))
       (other m (place p state) v runningPage (omega arith))
 
   -- ST1 and STP; DEP is not among them
@@ -122,9 +122,9 @@ module _ {m : List ℕ} (w : WellFormed m) (d : running m ≢ 0) where
       let m1 = store m p highLr v in
       let m2 = store m1 p lowLr (a % 256) in
       let t = word m2 p state % 128 in
-      let c1 : Calm m1 = calm-proc s m p 10 v h (omega arith) (omega arith) (omega arith) (omega arith) in
-      let c2 : Calm m2 = same-on c1 (calm-proc s m1 p 11 (a % 256) h (omega arith) (omega arith) (omega arith) (omega arith)) in
-      let c3 : Calm (store m2 p state t) = same-on c2 (calm-proc s m2 p 12 t h (omega arith) (omega arith) (omega arith) (omega arith)) in
+      let c1 : Calm m1 = calm-proc s m p 10 v h (omega arith) (omega arith) (omega arith) (omega arith) (omega arith) in
+      let c2 : Calm m2 = same-on c1 (calm-proc s m1 p 11 (a % 256) h (omega arith) (omega arith) (omega arith) (omega arith) (omega arith)) in
+      let c3 : Calm (store m2 p state t) = same-on c2 (calm-proc s m2 p 12 t h (omega arith) (omega arith) (omega arith) (omega arith) (omega arith)) in
       let e : running (store m2 p state t) ≡ running m = other m2 (place p state) t runningPage (omega arith)
       ∙ other m1 (place p lowLr) (a % 256) runningPage (omega arith) ∙ other m (place p highLr) v runningPage (omega arith) in
       then-done (store m2 p state t) len c3 e

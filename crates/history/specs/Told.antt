@@ -128,7 +128,7 @@ module _ {m : List ℕ} {ps : List ℕ} {L : Lists} {W : View} {hs : List ℕ} {
         let n = b .mem .reads .fixed .next in
         let l = b .facts .faults .range in
         fault-frame m f (b .mem .size) (pg .0) (omega (arith, pg .1)) c (ours-unmoved s h r runs-in)
-        (ours-proc s h r 12 (runs-in d) (omega arith) (omega arith) (omega arith) (omega arith)) (ours-low s h 288 (omega arith) (omega arith))
+        (ours-proc s h r 12 (runs-in d) (omega arith) (omega arith) (omega arith) (omega arith) (omega arith)) (ours-low s h 288 (omega arith) (omega arith))
         (ours-low s h (288 + getD m 288 0) (omega arith) (omega arith));
   }
 
