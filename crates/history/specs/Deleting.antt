@@ -30,7 +30,7 @@ use Rattle.laws.specs.Leave.{Bag}
 use Rattle.laws.specs.Simple.{named-in}
 use Rattle.laws.specs.Who.{label-at, listed, Busy, busy}
 use Rattle.laws.specs.Delete.{Queue, Drained, drain, tot-short, facts-whole}
-use Rattle.history.specs.Letter.{waitingFor, Same, posts, waits-same, procs-same, held, held-same}
+use Rattle.history.specs.Letter.{waitingFor, Same, posts, label-same, waits-same, procs-same, held, held-same}
 use Rattle.history.specs.Ways.{dep-both}
 use Rattle.history.specs.Put.{Log, of, putting, notices, depMail}
 use Rattle.history.specs.Calm.{calm-low}
@@ -218,6 +218,7 @@ module _ {m : List ℕ} (w : WellFormed m) (d : running m ≢ 0) where
       deleted-sent = record {
         told = record {
           at = λ y h i k f. rw (of-none y, waits-are y i);
+          keeps = λ y h i. (let j = rw procs-are at i in label-same ended y j ∙ t .grown .names y j);
           born = λ y h i. absurd (omega (arith, left .were y (rw procs-are at i)));
         };
         stands = record { at = λ y i. (held m y 5, last-is y i) };

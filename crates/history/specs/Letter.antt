@@ -178,6 +178,9 @@ ours-agree a (first e) = first e
 ours-agree a (next z h e) = next z h e
 ours-agree a (named z h e) = named z h e
 
+pub label-same : {ps : List ℕ} {L : Lists} {m m′ : List ℕ} → Same ps L m m′ → (p : ℕ) → 1 ≤ count p ps → word m′ p label ≡ word m p label
+label-same s p h = s .at (place p label) (named p h refl)
+
 pub same-then : {ps : List ℕ} {L K : Lists} {m m1 m2 : List ℕ} → Agree ps L K → Same ps L m m1 → Same ps K m1 m2 → Same ps L m m2
 same-then a f g = record { at = λ c h. g .at c (ours-agree a h) ∙ f .at c h }
 
@@ -228,7 +231,7 @@ module _ {m : List ℕ} {ps : List ℕ} {L : Lists} {W : View} {hs : List ℕ} {
   pub waits-by : (p : ℕ) → 1 ≤ count p ps → waitingFor m p ≡ map (mailOf m) (L (place p q2)) ++ map (mailOf m) (L (place p q1))
   waits-by p h = waits-held m p ∙ rw (mail-queue b p 6 h (omega arith) (omega arith), mail-queue b p 5 h (omega arith) (omega arith))
 
-  -- and who lives
+  -- and who lives, with priority and name
   pub procs-same : {m′ : List ℕ} → Same ps L m m′ → processors m′ ≡ ps
   procs-same {m′} t =
       let s = b .facts .sep in

@@ -5,8 +5,8 @@ use mathlib.Core.List.{List, [], _∷_, _++_, append-nil}
 use Prim.Native.Nat.{ℕ, _+_, _-_, _*_, _≤_, _<_}
 use native.Mathlib.Omega.{arith}
 use lib.ListN.{length, getD, set}
-use Rattle.model.specs.Map.{listLink, place, processorList}
-use Rattle.model.specs.Bytes.{running, store}
+use Rattle.model.specs.Map.{label, listLink, place, processorList}
+use Rattle.model.specs.Bytes.{running, store, word}
 use Rattle.model.specs.Operate as Operate
 use Rattle.model.specs.Answer.{memoryOf}
 use Rattle.model.specs.Bytes as Model
@@ -28,7 +28,7 @@ use Rattle.laws.specs.Ways.{Faults, crp-each, crp-page-each}
 use Rattle.laws.specs.Still.{aside-hand, Aside}
 use Rattle.laws.specs.Who.{listed, Busy, busy}
 use Rattle.laws.specs.Create.{made, z, headed-is, only, below, created-base, nobody}
-use Rattle.history.specs.Letter.{Same, Posts, posts, posts-on, posts-then, agrees, waitingFor, waits-same, procs-same}
+use Rattle.history.specs.Letter.{Same, Posts, posts, posts-on, posts-then, agrees, waitingFor, label-same, waits-same, procs-same}
 use Rattle.history.specs.Letter.Mine.{page}
 use Rattle.history.specs.Put.{nothing}
 use Rattle.history.specs.Calm.{calm-only, mine-high, mine-hand, mine-proc}
@@ -68,6 +68,11 @@ module _ {m : List ℕ} {ps : List ℕ} {L : Lists} {W : View} {hs : List ℕ} {
   -- a word that is neither 247, nor word 1 of q or of a processor
   created-word : (c : ℕ) → c ≢ processorList → c ≢ place q listLink → ((z : ℕ) → 1 ≤ count z ps → c ≢ place z 1) → getD m2 c 0 ≡ getD x c 0
   created-word c n7 n1 nz = rw created-is (other (store x q listLink 0) (last 1 processorList ps) q c (last-not 1 processorList ps c n7 nz) ∙ other x (place q listLink) 0 c n1)
+
+  created-label : (p : ℕ) → 1 ≤ count p ps → word m2 p label ≡ word m p label
+  created-label p h =
+      created-word (place p label) (omega (arith, proc-page sx p h)) (omega arith) (λ z i. omega arith)
+      ∙ label-same (calm-only sx m x q aside (only b n r v a)) p h
 
   created-posts : Posts ps L m m2
   created-posts =
@@ -126,6 +131,10 @@ module _ {m : List ℕ} (w : WellFormed m) (d : running m ≢ 0) where
           let qc : 1 ≤ count q (c .procs) = rw pc (count-mid q (lists m processorList) []) in
           crp-page-each m Ends e n r v a len (λ y. absurd (z y)) (λ y. record {
             at = λ p h i y f. rw (of-none p, keep p (rw lm at h), append-nil (waitingFor m p));
+            keeps = λ p h i.
+                let j = rw lm at h in
+                label-same d2 p (rw pc (omega (arith, count-append p (lists m processorList) (q ∷ []))))
+                ∙ created-label (t .base) n r v a p j ∙ label-same s1 p j;
             born = λ p h i.
                 let pq : p ≡ q = new p q (omega (arith, ap (count p) pr, count-append p (lists m processorList) (q ∷ []), ap (count p) lm)) in
                 rw pq (waits-same (c .base) (posts d2) q qc ∙ created-empty (t .base) n r v a);

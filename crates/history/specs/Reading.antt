@@ -23,11 +23,11 @@ use Rattle.laws.specs.Judged.{WellFormed}
 use Rattle.laws.specs.Frames.{base-kept}
 use Rattle.laws.specs.Hands.{take-mail}
 use Rattle.laws.specs.Grants.{give-back}
-use Rattle.laws.specs.Who.{listed, Busy, busy}
+use Rattle.laws.specs.Who.{label-at, listed, Busy, busy}
 use Rattle.laws.specs.Mails.{mail-queue, out-kept, clear-at, out-far}
 use Rattle.history.specs.Order.{only, Fails, overtakes-none}
 use Rattle.history.specs.Letter.{Letter, mailOf, key, asked, one-key, map-append, waitingFor, waits-by, Same, posts, Texted, waits-through}
-use Rattle.history.specs.Letter.{waits-same, procs-same, mail-same, mails-same, texts-same}
+use Rattle.history.specs.Letter.{label-same, waits-same, procs-same, mail-same, mails-same, texts-same}
 use Rattle.history.specs.Ways.{rme-both}
 use Rattle.history.specs.Put.{of, reading, rmeMail}
 use Rattle.history.specs.Calm.{ours-low, ours-fits, calm-give}
@@ -121,6 +121,9 @@ module _ {m : List ℕ} (w : WellFormed m) (d : running m ≢ 0) where
             cases (memoryOf (Model.done m2 len)) m2 x p j k l (same p j) (before p j)
             (left-order bx r q xs ys hr (t .is) n f (rw mq (t .match)) (rw mx (t .none)) k l) mq
             (λ z. left-away bx r q xs ys hr (t .is) p j z) (hit-or p r);
+        keeps = λ p h i.
+            let j = rw (listed b) at h in
+            label-same d2 p j ∙ label-same (calm-give b1) p j ∙ label-at b1 p j ∙ sym (label-at b p j);
         born = λ p h i. absurd (omega (arith, ap (count p) pr));
       }
     where

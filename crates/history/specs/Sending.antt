@@ -32,13 +32,13 @@ use Rattle.laws.specs.Hands.{in-hand, hand-base}
 use Rattle.laws.specs.Grants.{Gave, Takes, take-page}
 use Rattle.laws.specs.Grants.Takes.{gets, lacks}
 use Rattle.laws.specs.Still.{aside-hand}
-use Rattle.laws.specs.Post.{deliver-all, retold-letter, two, notice-only, notice-letter, message-only, message-words, message-letter}
+use Rattle.laws.specs.Post.{deliver-all, deliver-frame, retold-letter, two, notice-only, notice-letter, message-only, message-words, message-letter}
 use Rattle.laws.specs.Who.{listed, label-at, Busy, busy, running-same, label-in}
 use Rattle.laws.specs.Mails.{clear-at}
 use Rattle.laws.specs.Simple.{named-in, Open, clear-open, named-same}
 use Rattle.history.specs.Order.{only}
 use Rattle.history.specs.Letter.{Letter, mailOf, words, key, waitingFor, Same, posts, posts-then, agrees, waits-same, procs-same, words-moved, held}
-use Rattle.history.specs.Letter.{held-same}
+use Rattle.history.specs.Letter.{held-same, label-same}
 use Rattle.history.specs.Ways.{sme-both, sent-both}
 use Rattle.history.specs.Put.{Mailed, of, nothing, putting, noticeFrom, posting, hasPage, smeMail}
 use Rattle.history.specs.Calm.{calm-only}
@@ -86,6 +86,10 @@ module _ {m : List ℕ} {ps : List ℕ} {L : Lists} {W : View} (b : Base m ps L 
   put-told : Told m m4 (putting ((p, x) ∷ []))
   put-told = record {
     at = λ y h i k f. ap (only (key k f)) (rw (of-none y) (cases y (rw (listed b) at h) (hit-or y p)));
+    keeps = λ y h i.
+        let j = rw (listed b) at h in
+        label-same d3 y j ∙ deliver-frame b2 p hp t2 (place y label) (λ k u. omega arith) (omega arith) (omega arith) (λ z k. omega arith)
+        ∙ label-same (calm-only (b1 .facts .sep) m1 m2 q (aside-hand b1 q (in-hand b1)) o) y j ∙ label-same s1 y j;
     born = λ y h i. absurd (omega (arith, ap (count y) procs4, ap (count y) (listed b)));
   }
     where

@@ -19,12 +19,12 @@ use Rattle.laws.specs.Count.{hit-or}
 use Rattle.laws.specs.Inv.{View, Base}
 use Rattle.laws.specs.Judged.{WellFormed}
 use Rattle.laws.specs.Changes.{own-sem}
-use Rattle.laws.specs.Who.{listed, Busy, busy}
+use Rattle.laws.specs.Who.{label-at, listed, Busy, busy}
 use Rattle.laws.specs.Mails.{mail-queue, wnm-fit, first-mail}
 use Rattle.laws.specs.Ways.{wnm-each, tme-each}
 use Rattle.laws.specs.Words.{Tried, test-kept}
 use Rattle.history.specs.Order.{only, Fails}
-use Rattle.history.specs.Letter.{mailOf, key, asked, asked-page, waitingFor, Same, posts, waits-same, procs-same}
+use Rattle.history.specs.Letter.{mailOf, key, asked, asked-page, waitingFor, Same, posts, label-same, waits-same, procs-same}
 use Rattle.history.specs.Put.{nothing}
 use Rattle.history.specs.Told.{Told, of-none, told-same, calm-done, calm-jumps, calm-waits, runs-in}
 use Rattle.history.specs.Moving.{moved, move-lists, moved-away, moved-order, moved-first}
@@ -63,7 +63,7 @@ found m n f (z ∷ zs) d = go (matches m n f z) refl (found m n f zs)
         })
 
 -- ---- messages that only changed places, then a step that leaves them
-pub told-order : {m m1 : List ℕ} {ps : List ℕ} {L K : Lists} {W X : View} → Base m ps L W [] 32 → Base m1 ps K X [] 32 → (m2 : List ℕ) → Same ps K m1 m2
+pub told-order : {m m1 : List ℕ} {ps : List ℕ} {L K : Lists} {W : View} → Base m ps L W [] 32 → Base m1 ps K W [] 32 → (m2 : List ℕ) → Same ps K m1 m2
     → ((p : ℕ) → 1 ≤ count p ps → (k l : ℕ) → only (key k l) (waitingFor m1 p) ≡ only (key k l) (waitingFor m p)) → Told m m2 nothing
 told-order {m} b b1 m2 s f =
     let e = procs-same b1 s ∙ sym (listed b) in
@@ -71,6 +71,7 @@ told-order {m} b b1 m2 s f =
       at = λ p h i k l.
           let j = rw (listed b) at h in
           rw (of-none p, waits-same b1 (posts s) p j, append-nil (waitingFor m p)) (f p j k l);
+      keeps = λ p h i. (let j = rw (listed b) at h in label-same s p j ∙ label-at b1 p j ∙ sym (label-at b p j));
       born = λ p h i. absurd (omega (arith, ap (count p) e));
     }
 

@@ -9,7 +9,7 @@ use native.Mathlib.Omega.{arith}
 use lib.ListN.{getD, set}
 use lib.Dec.{eqb}
 use borrow.Author.Tests.{eq-eqb, ne-eqb}
-use Rattle.model.specs.Map.{highLr, lowLr, memorySize, runningPage}
+use Rattle.model.specs.Map.{highLr, label, lowLr, memorySize, runningPage}
 use Rattle.model.specs.Bytes.{running, store, word}
 use Rattle.model.specs.Map.{place, q1}
 use Rattle.model.specs.Answer as Answer
@@ -24,7 +24,7 @@ use Rattle.laws.specs.Who.{running-at, running-in, listed}
 use Rattle.laws.specs.Waits.{Fit, wait-base, waits-not}
 use Rattle.laws.specs.Frame.{fault-frame}
 use Rattle.history.specs.Order.{only}
-use Rattle.history.specs.Letter.{Letter, mailOf, key, waitingFor, Same, same-on, posts, waits-same, procs-same}
+use Rattle.history.specs.Letter.{Letter, mailOf, key, waitingFor, Same, same-on, posts, label-same, waits-same, procs-same}
 use Rattle.history.specs.Put.{of, Mailed, nothing, Log}
 use Rattle.history.specs.Calm.{calm-lr, calm-turn, calm-wait, ours-unmoved, ours-low, ours-proc}
 
@@ -32,6 +32,8 @@ use Rattle.history.specs.Calm.{calm-lr, calm-turn, calm-wait, ours-unmov
 pub record Told (m m′ : List ℕ) (e : Mailed) : Type 0 where
   pub at : (p : ℕ) → 1 ≤ count p (processors m) → 1 ≤ count p (processors m′) → (s f : ℕ)
       → only (key s f) (of p (e .reads) ++ waitingFor m′ p) ≡ only (key s f) (waitingFor m p ++ of p (e .puts))
+  -- who lives on has the priority and the name it had
+  pub keeps : (p : ℕ) → 1 ≤ count p (processors m) → 1 ≤ count p (processors m′) → word m′ p label ≡ word m p label
   -- who is new has nothing
   pub born : (p : ℕ) → count p (processors m) ≡ 0 → 1 ≤ count p (processors m′) → waitingFor m′ p ≡ []
 
@@ -82,6 +84,7 @@ told-same {m} b m′ s =
     let e = procs-same b s ∙ sym (listed b) in
     record {
       at = λ p h i k f. rw (of-none p, waits-same b (posts s) p (rw (listed b) at h), append-nil (waitingFor m p));
+      keeps = λ p h i. label-same s p (rw (listed b) at h);
       born = λ p h i. absurd (omega (arith, ap (count p) e));
     }
 
