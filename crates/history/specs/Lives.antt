@@ -110,7 +110,7 @@ grown-kept {m} {m′} {e} t h k p i s f = go (leb 1 (count p (processors m))) re
         let j = leb-false 1 (count p (processors m)) q in
         rw (q, t .born p (omega arith) i)
 
-call-told : {m : List ℕ} → Sound m → (a : Act) → restarts a ≡ false → Told m (after a m) (mailBy a m)
+pub call-told : {m : List ℕ} → Sound m → (a : Act) → restarts a ≡ false → Told m (after a m) (mailBy a m)
 unfolding Calls.after mailBy restarts
 call-told k (fresh-start line d) e = refused-told k line d e
 call-told k instruct e = instruction-told k

@@ -10,7 +10,7 @@ use Rattle.model.specs.Map.{place, longest, headWords, q1, q2}
 use Rattle.model.specs.Address.{unless, wrapped, guarded, clear}
 use Rattle.model.specs.Page.{Taken}
 use Rattle.model.specs.Page.Taken.{took}
-use Rattle.model.specs.Instruction.{firstWord, lengthFor, shapeFor, builtIn}
+use Rattle.model.specs.Instruction.{exiCode, firstWord, lengthFor, shapeFor, builtIn}
 use Rattle.model.specs.Bytes.{at, queue, running, name, pageOf, takePage, inQ2, lengthOf, sender, flag, isNotice, stopped, kind, isForeign, argumentFault}
 use Rattle.model.specs.Bytes.{pointed, direct, indexed, codeAt, refusal, lr}
 use Rattle.history.specs.Letter.{Letter, words, mailOf}
@@ -120,6 +120,10 @@ mailed m =
     unless (eqb (refusal m) 0) nothing
     (cond (eqb (running m) 0) nothing
     (fetchedMail m (lr m)))
+
+-- the code of the instruction at LR; of EXI, the code that it runs
+abbrev pub codeRun : List ℕ → ℕ
+codeRun m = cond (eqb (codeAt m (lr m)) exiCode) (direct m (lr m) (shapeFor exiCode) .field) (codeAt m (lr m))
 
 abbrev pub puts : List ℕ → Log
 puts m = mailed m .puts

@@ -1,21 +1,35 @@
 -- What follows from the law of the past: nothing is read that was not put; what was put was read or waits; none is there twice; of one sender and one flag none
--- overtakes another; WNM and TME put and read nothing. Assumes nothing.
+-- overtakes another; only SME and DEP put, only RME reads; how the past grows, begins and ends. Assumes nothing.
 use mathlib.Core.Path.{_≡_, refl, sym, ap, _∙_}
-use mathlib.Core.Logic.{_⊎_, inl, inr}
+use mathlib.Core.Logic.{_≢_, _⊎_, inl, inr}
 use mathlib.Core.Bool.{Bool, true, false, _&&_}
-use mathlib.Core.List.{List, [], _∷_, _++_}
-use Prim.Native.Nat.{ℕ, zero, suc, _+_, _≤_}
+use mathlib.Core.List.{List, [], _∷_, _++_, append-nil}
+use Prim.Native.Nat.{ℕ, zero, suc, _+_, _-_, _%_, _≤_}
 use native.Mathlib.Omega.{arith}
-use lib.ListN.{length, length-append}
+use lib.ListN.{length, length-append, getD}
 use lib.Dec.{eqb}
-use borrow.Author.Tests.{eqb-true, eq-eqb}
+use borrow.Author.Tests.{eqb-true, eq-eqb, le-leb}
 use Rattle.model.specs.declared.Arguments.{Arguments}
-use Rattle.model.specs.Bytes.{processors}
+use Rattle.model.specs.Map.{memorySize}
+use Rattle.model.specs.Address.{guarded, clear, wrapped}
+use Rattle.model.specs.Instruction.{firstWord, builtIn, lengthFor, shapeFor, smeCode, rmeCode, depCode, exiCode}
+use Rattle.model.specs.Fresh.{startable}
+use Rattle.model.specs.Answer as Answer
+use Rattle.model.specs.Call as Call
+use Rattle.model.specs.Bytes as Model
+use Rattle.model.specs.Bytes.{processors, at, name, running, lr, kind, codeAt, direct, refusal}
 use Rattle.model.specs.Lists.{count}
+use Rattle.laws.specs.Words.{either}
+use Rattle.laws.specs.Sentences.{_and_}
+use Rattle.laws.specs.Calls as Calls
+use Rattle.laws.specs.Calls.{Sound, Act, after}
+use Rattle.laws.specs.Calls.Act.{fresh-start}
 use Rattle.history.specs.Order.{only, only-nil, only-yes, only-no, only-append}
 use Rattle.history.specs.Letter.{Letter, key, waitingFor, and-true}
-use Rattle.history.specs.Put.{Mailed, nothing, runMail}
-use Rattle.history.specs.Lives.{Past, Run, nothing-lost}
+use Rattle.history.specs.Put.{Mailed, nothing, of, smeMail, rmeMail, depMail, runMail, arguedMail, exiMail, fetchedMail, mailed, codeRun}
+use Rattle.history.specs.Told.{of-none}
+use Rattle.history.specs.Whole.{sme-none, rme-none, dep-none}
+use Rattle.history.specs.Lives.{Past, Run, noneYet, lives, grown, mailBy, restarts, later, call-told, nothing-lost}
 
 -- ---- two messages are the same: mail or notice, sender, flag, length and text
 unfoldable pub alike : Bool → Bool → Bool
@@ -135,11 +149,109 @@ module _ (m : List ℕ) (h : Past) (r : Run m h) (p : ℕ) (i : 1 ≤ count p (p
   pub none-overtaken : (s f : ℕ) → only (key s f) (h .read p) ++ only (key s f) (waitingFor m p) ≡ only (key s f) (h .put p)
   none-overtaken s f = sym (only-append (key s f) (h .read p) (waitingFor m p)) ∙ nothing-lost m h r p i s f
 
--- ---- WNM and TME only move
-pub wnm-moves : (e : List ℕ → Arguments → Mailed) (m : List ℕ) (x : Arguments) → runMail e m 5 x ≡ nothing
-unfolding runMail
-wnm-moves e m x = refl
+-- ---- which instructions put and read: what holds of nothing, and of SME, RME, DEP and EXI where they are run, holds of any
+abbrev At : {A : Type 0} → (A → Type 0) → ℕ → ℕ → List A → Type 0
+At P c i [] = Unit {0}
+At P c i (x ∷ xs) = (c ≡ i → P x) × At P c (suc i) xs
 
-pub tme-moves : (e : List ℕ → Arguments → Mailed) (m : List ℕ) (x : Arguments) → runMail e m 7 x ≡ nothing
-unfolding runMail
-tme-moves e m x = refl
+pick : {A : Type 0} (P : A → Type 0) (xs : List A) (a : A) (k c i : ℕ) → c ≡ i + k → At P c i xs → P a → P (getD xs k a)
+pick P [] a k c i e h z = z
+pick P (x ∷ xs) a zero c i e h z = h .0 (omega arith)
+pick P (x ∷ xs) a (suc k) c i e h z = pick P xs a k c (suc i) (omega arith) (h .1) z
+
+module _ (P : Mailed → Type 0) (none : P nothing) (m : List ℕ) where
+  run-parts : (e : List ℕ → Arguments → Mailed) (c : ℕ) (x : Arguments) → (c ≡ smeCode → P (smeMail m (x .field) (x .second) (x .address)))
+      → (c ≡ rmeCode → P (rmeMail m (x .field) (x .second) (x .address))) → (c ≡ depCode → P (depMail m (x .field))) → (c ≡ exiCode → P (e m x))
+      → P (runMail e m c x)
+  unfolding runMail
+  run-parts e c x sme rme dep exi =
+      pick P
+      (nothing ∷ nothing ∷ nothing ∷ nothing ∷ smeMail m (x .field) (x .second) (x .address) ∷ nothing ∷ rmeMail m (x .field) (x .second) (x .address)
+      ∷ nothing ∷ nothing ∷ nothing ∷ nothing ∷ nothing ∷ depMail m (x .field) ∷ nothing ∷ e m x ∷ [])
+      nothing c c 0 (omega arith) (
+      (λ q. none) and (λ q. none) and (λ q. none) and (λ q. none) and sme and (λ q. none) and rme and (λ q. none) and (λ q. none) and (λ q. none)
+      and (λ q. none) and (λ q. none) and dep and (λ q. none) and exi and tt)
+      none
+
+  -- the call: of the code that is run, direct or by EXI
+  mailed-parts : ((x : Arguments) → codeRun m ≡ smeCode → P (smeMail m (x .field) (x .second) (x .address)))
+      → ((x : Arguments) → codeRun m ≡ rmeCode → P (rmeMail m (x .field) (x .second) (x .address))) → ((x : Arguments) → codeRun m ≡ depCode → P (depMail m (x .field)))
+      → P (mailed m)
+  unfolding mailed fetchedMail exiMail arguedMail
+  mailed-parts sme rme dep =
+      let n = lr m in
+      let c = codeAt m n in
+      let x = direct m n (shapeFor c) in
+      either P (eqb (refusal m) 0) (either P (eqb (running m) 0) none (either P (guarded n) none (either P (eqb (at m n) firstWord)
+      (either P (guarded (wrapped n 1)) none (either P (eqb (kind m c) builtIn) (either P (clear (lengthFor c - 2) (wrapped n 2))
+      (run-parts (exiMail 1) c x (λ q. sme x (straight q refl)) (λ q. rme x (straight q refl)) (λ q. dep x (straight q refl)) by) none) none)) none))) none
+    where
+      straight : {k : ℕ} → codeAt m (lr m) ≡ k → eqb k exiCode ≡ false → codeRun m ≡ k
+      straight q l = rw (q, l)
+
+      by : codeAt m (lr m) ≡ exiCode → P (exiMail 1 m (direct m (lr m) (shapeFor (codeAt m (lr m)))))
+      by q =
+          let y = direct m (lr m) (shapeFor (codeAt m (lr m))) in
+          let k = y .field in
+          let e = Model.indexed m (y .second) (y .address) in
+          let f : codeRun m ≡ y .field = rw q in
+          let z = Model.pointed m e (shapeFor k) in
+          either P (Model.isForeign m k) none (either P (eqb (Model.argumentFault m k e) 0)
+          (run-parts (exiMail 0) k z (λ p. sme z (f ∙ p)) (λ p. rme z (f ∙ p)) (λ p. dep z (f ∙ p)) (λ p. none)) none)
+
+-- "4 SME", "12 DEP": no other code puts anything; "6 RME": no other reads
+pub puts-nothing : (m : List ℕ) → codeRun m ≢ smeCode → codeRun m ≢ depCode → mailed m .puts ≡ []
+puts-nothing m s d =
+    mailed-parts (λ e. e .puts ≡ []) refl m (λ x q. absurd (s q)) (λ x q. rme-none m (x .field) (x .second) (x .address)) (λ x q. absurd (d q))
+
+pub reads-nothing : (m : List ℕ) → codeRun m ≢ rmeCode → mailed m .reads ≡ []
+reads-nothing m r =
+    mailed-parts (λ e. e .reads ≡ []) refl m (λ x q. sme-none m (x .field) (x .second) (x .address)) (λ x q. absurd (r q)) (λ x q. dep-none m (x .field))
+
+-- ---- what a call does to the past, and a change by the host
+module _ (m m′ : List ℕ) (p : ℕ) (was : 1 ≤ count p (processors m)) (is : 1 ≤ count p (processors m′)) where
+  grown-on : (e : Mailed) (h : Past) → (grown m m′ e h .put p ≡ h .put p ++ of p (e .puts)) × (grown m m′ e h .read p ≡ h .read p ++ of p (e .reads))
+  unfolding grown lives
+  grown-on e h =
+      let a = le-leb 1 (count p (processors m)) was in
+      let b = le-leb 1 (count p (processors m′)) is in
+      (rw (a, b), rw (a, b))
+
+grown-new : (m m′ : List ℕ) (p : ℕ) → count p (processors m) ≡ 0 → (e : Mailed) (h : Past) → (grown m m′ e h .put p ≡ []) × (grown m m′ e h .read p ≡ [])
+unfolding grown lives
+grown-new m m′ p none e h = (rw none, rw none)
+
+module _ (a : Act) (m : List ℕ) (h : Past) where
+  -- who lives on has what was put to it and what it read before, and then just what this call puts and reads
+  pub past-grows : restarts a ≡ false → (p : ℕ) → 1 ≤ count p (processors m) → 1 ≤ count p (processors (after a m))
+      → (later a m h .put p ≡ h .put p ++ of p (mailBy a m .puts)) × (later a m h .read p ≡ h .read p ++ of p (mailBy a m .reads))
+  unfolding later
+  past-grows e p i j = rw e (grown-on m (after a m) p i j (mailBy a m) h)
+
+  -- a life begins with nothing
+  pub born-empty : restarts a ≡ false → (p : ℕ) → count p (processors m) ≡ 0 → (later a m h .put p ≡ []) × (later a m h .read p ≡ [])
+  unfolding later
+  born-empty e p i = rw e (grown-new m (after a m) p i (mailBy a m) h)
+
+-- a fresh start that is accepted begins a new history
+pub fresh-begins : (m : List ℕ) (h : Past) (line d : ℕ) → startable line d ≡ true → later (fresh-start line d) m h ≡ noneYet
+unfolding later restarts
+fresh-begins m h line d e = rw e
+
+-- one that is refused keeps the old one
+fresh-refused : {m : List ℕ} → Sound m → (line d : ℕ) → startable line d ≡ false → after (fresh-start line d) m ≡ m
+unfolding Calls.after Call.fresh Answer.memoryOf
+fresh-refused {m} k line d e = rw (eq-eqb (length m) memorySize (k .size), e)
+
+pub refused-keeps : {m : List ℕ} → Sound m → (h : Past) (line d : ℕ) → startable line d ≡ false → (p : ℕ) → 1 ≤ count p (processors m)
+    → (later (fresh-start line d) m h .put p ≡ h .put p) × (later (fresh-start line d) m h .read p ≡ h .read p)
+unfolding mailBy restarts
+refused-keeps {m} k h line d e p i =
+    let same : after (fresh-start line d) m ≡ m = fresh-refused k line d e in
+    let t = past-grows (fresh-start line d) m h e p i (rw same i) in
+    (t .0 ∙ rw (of-none p) (append-nil (h .put p)), t .1 ∙ rw (of-none p) (append-nil (h .read p)))
+
+-- a life keeps its name
+pub name-stays : {m : List ℕ} → Sound m → (a : Act) → restarts a ≡ false → (p : ℕ) → 1 ≤ count p (processors m) → 1 ≤ count p (processors (after a m))
+    → name (after a m) p ≡ name m p
+name-stays k a e p i j = ap (λ (w : ℕ). w % 16) (call-told k a e .keeps p i j)

@@ -30,6 +30,12 @@ abbrev pub countFor : ℕ → ℕ
 countFor c = getD argumentCounts c 0
 
 -- the codes that other definitions name
+abbrev pub smeCode : ℕ
+smeCode = 4
+
+abbrev pub rmeCode : ℕ
+rmeCode = 6
+
 abbrev pub st1Code : ℕ
 st1Code = 8
 
