@@ -52,6 +52,7 @@ pub mod Calls
 -- What the promises cite
 pub mod Refusals
 pub mod Frame
+pub mod Turns
 pub mod Four
 pub mod Meaning
 pub mod Witness
