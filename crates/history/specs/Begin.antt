@@ -68,8 +68,10 @@ module _ (m : List ℕ) (line d : ℕ) (l : length m ≡ memorySize) (a : Args l
   started-empty p h =
       let e = is-one p (rw (listed b1, one) at h) in
       let i : 1 ≤ count firstControl (lists m0 processorList) = rw (listed b1, e) at h in
-      let f5 = mail-queue b1 firstControl 5 i (omega arith) (omega arith) ∙ sym (mail-queue b0 firstControl 5 i (omega arith) (omega arith)) ∙ computed line d .first in
-      let f6 = mail-queue b1 firstControl 6 i (omega arith) (omega arith) ∙ sym (mail-queue b0 firstControl 6 i (omega arith) (omega arith)) ∙ computed line d .second in
+      let f5 = mail-queue b1 firstControl 5 i (omega arith) (omega arith) ∙ sym (mail-queue b0 firstControl 5 i (omega arith) (omega arith))
+      ∙ computed line d .first in
+      let f6 = mail-queue b1 firstControl 6 i (omega arith) (omega arith) ∙ sym (mail-queue b0 firstControl 6 i (omega arith) (omega arith))
+      ∙ computed line d .second in
       rw (e, f5, f6)
 
 pub fresh-empty : (m : List ℕ) (line d : ℕ) → length m ≡ memorySize → startable line d ≡ true → (p : ℕ) → 1 ≤ count p (processors (memoryOf (fresh m line d)))

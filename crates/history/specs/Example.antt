@@ -87,8 +87,8 @@ module _ (S : Store) where
 
 at-trees : Seen trees
 unfolding writes
-    Call.refusal Call.head Call.fresh Call.instructionJudged Call.instruction Address.guarded Address.clear Address.copy Address.zeroed Queue.first Queue.walk Queue.cellOf Queue.join
-    Queue.leave Processor.isNamed Processor.setLr Processor.advance
+    Call.refusal Call.head Call.fresh Call.instructionJudged Call.instruction Address.guarded Address.clear Address.copy Address.zeroed Queue.first
+    Queue.walk Queue.cellOf Queue.join Queue.leave Processor.isNamed Processor.setLr Processor.advance
     Processor.setFlagsLr Processor.setRegistersOf Processor.handBack Instruction.directCounted Instruction.directCreating
     Instruction.direct Operate.cvi
     Operate.dvi Operate.gin

@@ -121,7 +121,8 @@ module _ (xs : List ℕ) (p : ℕ) (ys : List ℕ) {m : List ℕ} {L : Lists} {W
   left-procs : processors (unlisted m p) ≡ xs ++ ys
   left-procs =
       let l = rw (s .procs) at (list-short s processorList (in-procs (xs ++ p ∷ ys))) in
-      let c = rw (link-procs, upd-same (o .lists) processorList (xs ++ ys)) at (left-mem .2 .holds .rep processorList (in-procs (xs ++ ys), grant-low processorList (omega arith))) in
+      let c = rw (link-procs, upd-same (o .lists) processorList (xs ++ ys)) at
+      (left-mem .2 .holds .rep processorList (in-procs (xs ++ ys), grant-low processorList (omega arith))) in
       walk-chain 20 u 1 processorList (xs ++ ys) c (omega (arith, l, length-append xs (p ∷ ys), length-append xs ys))
 
   pub left-grown : Grown (xs ++ ys) m (unlisted m p) []

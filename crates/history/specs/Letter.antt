@@ -237,7 +237,8 @@ module _ {m : List ℕ} {ps : List ℕ} {L : Lists} {W : View} {hs : List ℕ} {
       let s = b .facts .sep in
       let h : Head ps processorList = (in-procs ps, grant-low processorList (omega arith)) in
       let c = rw (link-procs, s .procs) at (b .mem .holds .rep processorList h) in
-      walk-chain 20 m′ 1 processorList ps (chain-move m m′ 1 processorList processorList ps (t .at processorList (first refl)) (λ x i. t .at (place x 1) (next x i refl)) c)
+      walk-chain 20 m′ 1 processorList ps (chain-move m m′ 1 processorList processorList ps (t .at processorList (first refl))
+      (λ x i. t .at (place x 1) (next x i refl)) c)
       (rw (s .procs) at (list-short s processorList (in-procs ps)))
 
 -- ---- a step that may change the lists, and leaves words 1 to 31 of every page that is no processor's

@@ -67,7 +67,8 @@ module _ {m : List ℕ} {ps : List ℕ} {L : Lists} {W : View} {hs : List ℕ} {
 
   -- a word that is neither 247, nor word 1 of q or of a processor
   created-word : (c : ℕ) → c ≢ processorList → c ≢ place q listLink → ((z : ℕ) → 1 ≤ count z ps → c ≢ place z 1) → getD m2 c 0 ≡ getD x c 0
-  created-word c n7 n1 nz = rw created-is (other (store x q listLink 0) (last 1 processorList ps) q c (last-not 1 processorList ps c n7 nz) ∙ other x (place q listLink) 0 c n1)
+  created-word c n7 n1 nz =
+      rw created-is (other (store x q listLink 0) (last 1 processorList ps) q c (last-not 1 processorList ps c n7 nz) ∙ other x (place q listLink) 0 c n1)
 
   created-label : (p : ℕ) → 1 ≤ count p ps → word m2 p label ≡ word m p label
   created-label p h =

@@ -162,8 +162,11 @@ module _ {m : List ℕ} (w : WellFormed m) (d : running m ≢ 0) where
   unfolding Operate.returnTo
   returns-both n =
       let m1 = set m 5 (n / 256 % 32) in
-      let c1 : Calm m1 = calm-low s m 5 (n / 256 % 32) (omega arith) (omega arith) in
-      (same-on c1 (calm-low s m1 6 (n % 256) (omega arith) (omega arith)), other m1 6 (n % 256) runningPage (omega arith) ∙ other m 5 (n / 256 % 32) runningPage (omega arith))
+      let c1 : Calm m1 = calm-low s m 5 (n / 256 % 32) (omega arith) (omega arith) in (
+        same-on c1 (calm-low s m1 6 (n % 256) (omega arith) (omega arith)),
+        other m1 6 (n % 256) runningPage (omega arith)
+            ∙ other m 5 (n / 256 % 32) runningPage (omega arith),
+      )
 
   pub thirteen-calm : (x o a len : ℕ) → Calm (memoryOf (Model.thirteen m x o a len))
   thirteen-calm x o a len = thirteen-each bad x o a len (λ e. let v = returns-both ((Model.lr m + len) % memorySize) in

@@ -155,7 +155,8 @@ module _ {m : List ℕ} (w : WellFormed m) (d : running m ≢ 0) where
   Ends o e = Sent m (memoryOf o) e
 
   -- page q is taken
-  module _ (q : ℕ) (m1 : List ℕ) (e : takePage m r ≡ took q m1) (t : Gave m1 (lists m processorList) (q ∷ []) 32 (view m)) (k : t .view .label ≡ view m .label) where
+  module _ (q : ℕ) (m1 : List ℕ) (e : takePage m r ≡ took q m1) (t : Gave m1 (lists m processorList) (q ∷ []) 32 (view m))
+      (k : t .view .label ≡ view m .label) where
     s1 : Same (lists m processorList) (lists m) m m1
     s1 = calm-takes b r hr q m1 e
 

@@ -47,9 +47,11 @@ module _ {m : List ℕ} {ps : List ℕ} {L : Lists} {W : View} {hs : List ℕ} {
 
   calm-taken : Same ps L m (left (takePage m p))
   unfolding Page.takePage Page.firstFree left
-  calm-taken = go (eqb (getD m (grantFor n) 0) 0) refl (L freeList) refl (chain0 s (b .mem) freeList (in-free ps, grant-low freeList (omega arith)) (omega arith))
+  calm-taken =
+      go (eqb (getD m (grantFor n) 0) 0) refl (L freeList) refl (chain0 s (b .mem) freeList (in-free ps, grant-low freeList (omega arith)) (omega arith))
     where
-      go : (c : Bool) → eqb (getD m (grantFor n) 0) 0 ≡ c → (xs : List ℕ) → L freeList ≡ xs → Chain m 0 freeList (L freeList) → Same ps L m (left (takePage m p))
+      go : (c : Bool) → eqb (getD m (grantFor n) 0) 0 ≡ c → (xs : List ℕ) → L freeList ≡ xs → Chain m 0 freeList (L freeList)
+          → Same ps L m (left (takePage m p))
       go false e xs f c = rw e (calm-low s m (grantFor n) 0 (omega arith) (omega arith))
       go true e [] f c = let z : getD m freeList 0 ≡ 0 = rw f at c in rw (e, z) (calm-refl m)
       go true e (q ∷ fs) f c =
@@ -68,9 +70,11 @@ module _ {m : List ℕ} {ps : List ℕ} {L : Lists} {W : View} {hs : List ℕ} {
 
   taken-word : (c : ℕ) → Open c → getD (left (takePage m p)) c 0 ≡ getD m c 0
   unfolding Page.takePage Page.firstFree left
-  taken-word c o = go (eqb (getD m (grantFor n) 0) 0) refl (L freeList) refl (chain0 s (b .mem) freeList (in-free ps, grant-low freeList (omega arith)) (omega arith))
+  taken-word c o =
+      go (eqb (getD m (grantFor n) 0) 0) refl (L freeList) refl (chain0 s (b .mem) freeList (in-free ps, grant-low freeList (omega arith)) (omega arith))
     where
-      go : (x : Bool) → eqb (getD m (grantFor n) 0) 0 ≡ x → (xs : List ℕ) → L freeList ≡ xs → Chain m 0 freeList (L freeList) → getD (left (takePage m p)) c 0 ≡ getD m c 0
+      go : (x : Bool) → eqb (getD m (grantFor n) 0) 0 ≡ x → (xs : List ℕ) → L freeList ≡ xs → Chain m 0 freeList (L freeList)
+          → getD (left (takePage m p)) c 0 ≡ getD m c 0
       go false e xs f k = rw e (other m (grantFor n) 0 c (o .between (grantFor n) (omega arith) (omega arith)))
       go true e [] f k = let z : getD m freeList 0 ≡ 0 = rw f at k in rw (e, z)
       go true e (q ∷ fs) f k =

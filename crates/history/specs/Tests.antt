@@ -96,8 +96,8 @@ module _ {m : List ℕ} (w : WellFormed m) (d : running m ≢ 0) where
   unfolding Mail.matches
   wnm-told n f len hf =
       wnm-each m (λ o. Told m (memoryOf o) nothing) n f len
-      (λ z. told-same b (memoryOf (Model.waits m (place r ownSemaphore) (n * 16 + f))) (calm-waits b (place r ownSemaphore) (n * 16 + f) d (own-sem (b .facts .sep) r hr)
-      (omega (arith, ready)) (wnm-fit w d n f hf z)))
+      (λ z. told-same b (memoryOf (Model.waits m (place r ownSemaphore) (n * 16 + f)))
+      (calm-waits b (place r ownSemaphore) (n * 16 + f) d (own-sem (b .facts .sep) r hr) (omega (arith, ready)) (wnm-fit w d n f hf z)))
       (λ z.
       let q = Model.inQ1 m n f in
       let t : Found m n f q (queue m (place r q1)) = found m n f (queue m (place r q1)) z in

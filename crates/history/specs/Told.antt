@@ -135,7 +135,8 @@ module _ {m : List ℕ} {ps : List ℕ} {L : Lists} {W : View} {hs : List ℕ} {
         (ours-low s h (288 + getD m 288 0) (omega arith) (omega arith));
   }
 
-  pub calm-waits : (a w : ℕ) → W .low runningPage ≢ 0 → 1 ≤ count (a + 1) (queues ps) → W .state (W .low runningPage) % 128 / 64 ≡ 0 → Fit ps L W a (W .low runningPage) w
+  pub calm-waits : (a w : ℕ) → W .low runningPage ≢ 0 → 1 ≤ count (a + 1) (queues ps) → W .state (W .low runningPage) % 128 / 64 ≡ 0
+      → Fit ps L W a (W .low runningPage) w
       → Same ps L m (memoryOf (waits m a w))
   unfolding Answer.waits Answer.memoryOf
   calm-waits a w n h idle fit =

@@ -121,7 +121,9 @@ module _ (m : List ℕ) (z : length m ≡ memorySize) (g : Page (running m)) whe
       either (λ (x : List ℕ). length x ≡ memorySize) (eqb t 0) s1 (restored-size 19 m1 (keptOn m1 t) ∙ s1)
 
   run-new : running m3 ≡ t
-  run-new = other (set m2 runningPage t) runningLabel (cond (eqb t 0) 0 (word m2 t Map.label)) runningPage (omega arith) ∙ getD-set-same m2 runningPage t 0 (omega (arith, size2))
+  run-new =
+      other (set m2 runningPage t) runningLabel (cond (eqb t 0) 0 (word m2 t Map.label)) runningPage (omega arith)
+      ∙ getD-set-same m2 runningPage t 0 (omega (arith, size2))
 
   saved1 : (i : ℕ) → i < 19 → getD m1 (r * 32 + (13 + i)) 0 ≡ getD m (zeroPlace i) 0
   unfolding Turn.save Turn.onPage0

@@ -194,7 +194,8 @@ module _ {m : List ℕ} (w : WellFormed m) (d : running m ≢ 0) where
   pr : Page r
   pr = proc-page (b .facts .sep) r hr
 
-  module _ (q a : ℕ) (xs ys : List ℕ) (e : lists m (place r q2) ≡ xs ++ q ∷ ys) (la : a < memorySize) (cl : clear (3 + Model.word m q size % 128) a ≡ true) where
+  module _ (q a : ℕ) (xs ys : List ℕ) (e : lists m (place r q2) ≡ xs ++ q ∷ ys) (la : a < memorySize)
+      (cl : clear (3 + Model.word m q size % 128) a ≡ true) where
     in6 : 1 ≤ count q (lists m (place r q2))
     in6 = rw e (count-mid q xs ys)
 

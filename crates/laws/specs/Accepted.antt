@@ -7,8 +7,8 @@ use Prim.Native.Nat.{ℕ, _+_, _-_, _*_, _/_, _%_, _≤_, _<_}
 use native.Mathlib.Omega.{arith}
 use lib.ListN.{length, getD}
 use Rattle.model.specs.Map as Map
-use Rattle.model.specs.Map.{firstControl, freeList, freeSemaphore, grantFor, headerAfter, interrupts, longest, memorySize, ownQueue, ownSemaphore, pageQueue, place}
-use Rattle.model.specs.Map.{processorList, semaphoreAfter}
+use Rattle.model.specs.Map.{firstControl, freeList, freeSemaphore, grantFor, headerAfter, interrupts, longest, memorySize, ownQueue, ownSemaphore}
+use Rattle.model.specs.Map.{pageQueue, place, processorList, semaphoreAfter}
 use Rattle.model.specs.Bytes.{word}
 use Rattle.model.specs.Store.{bytes}
 use Rattle.model.specs.Map.{less}

@@ -87,8 +87,8 @@ class-of k c h = go (ltb 31 c) refl
     go false e = let a = ltb-false 31 c e in omega arith
 
 -- ---- the head of a call: a refusal, on the memory as it was, or what the call does
-pub head-each : {A : Type 0} (P : Outcome A (List ℕ) → Type 0) (m : List ℕ) (refuses : ℕ → A) (o : Outcome A (List ℕ)) → ((k : ℕ) → P (gives (refuses k) m)) → P o
-    → P (Model.head m refuses o)
+pub head-each : {A : Type 0} (P : Outcome A (List ℕ) → Type 0) (m : List ℕ) (refuses : ℕ → A) (o : Outcome A (List ℕ)) → ((k : ℕ) → P (gives (refuses k) m))
+    → P o → P (Model.head m refuses o)
 unfolding Call.head
 head-each P m refuses o h k = either P (eqb (Model.refusal m) 0) k (h (Model.refusal m))
 

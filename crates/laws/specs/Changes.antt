@@ -7,8 +7,8 @@ use mathlib.Core.List.{List}
 use Prim.Native.Nat.{ℕ, _+_, _-_, _*_, _/_, _%_, _≤_, _<_}
 use native.Mathlib.Omega.{arith}
 use lib.ListN.{length}
-use Rattle.model.specs.Map.{freeList, grantFor, headerAfter, interrupts, ownQueue, ownSemaphore, pageQueue, place, processorList, q1, runningPage, semaphoreAfter}
-use Rattle.model.specs.Map.{less}
+use Rattle.model.specs.Map.{freeList, grantFor, headerAfter, interrupts, ownQueue, ownSemaphore, pageQueue, place, processorList, q1, runningPage}
+use Rattle.model.specs.Map.{semaphoreAfter, less}
 use Rattle.model.specs.Mail.{fits}
 use Rattle.model.specs.Lists.{count, Lists, sum, uses, queues}
 use Rattle.laws.specs.Count.{hit-or, count-append, zero-or}
@@ -157,7 +157,8 @@ pub record Off (q : ℕ) (W X : View) : Type 0 where
   pub next : X .next ≡ W .next
   pub entry : X .entry ≡ W .entry
 
-pub facts-off : {ps : List ℕ} {L : Lists} {W X : View} {g : ℕ} (q : ℕ) → count q ps ≡ 0 → ((a : ℕ) → 1 ≤ count a (uses ps) → a ≢ processorList → count q (L a) ≡ 0)
+pub facts-off : {ps : List ℕ} {L : Lists} {W X : View} {g : ℕ} (q : ℕ) → count q ps ≡ 0
+    → ((a : ℕ) → 1 ≤ count a (uses ps) → a ≢ processorList → count q (L a) ≡ 0)
     → Off q W X → Facts ps L W g → Facts ps L X g
 facts-off {ps} {L} {W} {X} q out free o f =
     let s = f .sep in

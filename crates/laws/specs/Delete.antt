@@ -272,7 +272,8 @@ grant-back {m} {hs} n l t = go (eqb (getD m (grantFor n) 0) 0) refl
         }) .base))
 
 -- ---- "In order: ..; then its own page."
-pub delete-base : {m : List ℕ} {ps : List ℕ} {L : Lists} {W : View} (p : ℕ) → 1 ≤ count p ps → W .low runningPage ≢ p → Base m ps L W [] 32 → Any (delete m p) [] 32
+pub delete-base : {m : List ℕ} {ps : List ℕ} {L : Lists} {W : View} (p : ℕ) → 1 ≤ count p ps → W .low runningPage ≢ p → Base m ps L W [] 32
+    → Any (delete m p) [] 32
 unfolding Delete.delete
 delete-base {m} {W = W} p hp d b =
     let n = W .label p % 16 in

@@ -145,7 +145,8 @@ module _ {m : List ℕ} {ps : List ℕ} {L : Lists} {W : View} (b : Base m ps L 
       let t = entered-base (W .label r % 16 * 16 + f) (name-entry (W .label r) f (b .facts .names .range r h) i j) (stop-base b r h) in
       rw (running-at b, label-at b r h) (well-formed (who-inv (t .1) .1))
 
-  pub waits-fine : (a w : ℕ) → W .low runningPage ≢ 0 → 1 ≤ count (a + 1) (queues ps) → W .state (W .low runningPage) % 128 / 64 ≡ 0 → Fit ps L W a (W .low runningPage) w
+  pub waits-fine : (a w : ℕ) → W .low runningPage ≢ 0 → 1 ≤ count (a + 1) (queues ps) → W .state (W .low runningPage) % 128 / 64 ≡ 0
+      → Fit ps L W a (W .low runningPage) w
       → Fine (waits m a w)
   unfolding Answer.waits Answer.memoryOf
   waits-fine a w n h idle fit = rw (running-at b) (well-formed (who-inv (wait-base a (W .low runningPage) w b h (running-in b n) idle fit) .1))

@@ -70,7 +70,8 @@ module _ {m : List ℕ} {ps : List ℕ} {L : Lists} {W : View} {g : ℕ} (b : Ba
   free : queue m freeList ≡ L freeList
   free =
       let s = b .facts .sep in
-      walk-chain 20 m 0 freeList (L freeList) (chain0 s (b .mem) freeList (in-free ps, grant-low freeList (omega arith)) (omega arith)) (list-short s freeList (in-free ps))
+      walk-chain 20 m 0 freeList (L freeList) (chain0 s (b .mem) freeList (in-free ps, grant-low freeList (omega arith)) (omega arith))
+      (list-short s freeList (in-free ps))
 
   pub four : (z : ℕ) → asProcessor m z + asFree m z + asMessage m z + asGrant m z ≡ one z
   four z =

@@ -38,13 +38,15 @@ holds-kept m m′ ps L s heads zeros ones h = record {
   grant = λ k i. rw (heads (grantFor k) (in-grant ps k i)) (h .grant k i);
 }
   where
-    go : (a : ℕ) → Head ps a → (x : ℕ) → 1 ≤ count x (L a) → (a ≡ processorList) ⊎ (a ≢ processorList) → getD m′ (x * 32 + linkOf a) 0 ≡ getD m (x * 32 + linkOf a) 0
+    go : (a : ℕ) → Head ps a → (x : ℕ) → 1 ≤ count x (L a) → (a ≡ processorList) ⊎ (a ≢ processorList)
+        → getD m′ (x * 32 + linkOf a) 0 ≡ getD m (x * 32 + linkOf a) 0
     go a i x c (inl e) = rw (e, link-procs) (ones x (rw (e, s .procs) at c))
     go a i x c (inr n) = rw (link-other a n) (zeros a x (i .0) n c)
 
 -- ---- the counters, the words of who runs, pages 8 and 9
 pub fixed-same : {m m′ : List ℕ} {l c : ℕ → ℕ} {n : ℕ} {e : ℕ → ℕ} → ((a : ℕ) → clockLine ≤ a → a ≤ c3 → getD m′ a 0 ≡ getD m a 0)
-    → ((a : ℕ) → runningPage ≤ a → a ≤ divider → getD m′ a 0 ≡ getD m a 0) → ((a : ℕ) → 256 ≤ a → a < 320 → getD m′ a 0 ≡ getD m a 0) → Fixed m l c n e → Fixed m′ l c n e
+    → ((a : ℕ) → runningPage ≤ a → a ≤ divider → getD m′ a 0 ≡ getD m a 0) → ((a : ℕ) → 256 ≤ a → a < 320 → getD m′ a 0 ≡ getD m a 0) → Fixed m l c n e
+    → Fixed m′ l c n e
 fixed-same clock turn rest f = record {
   clock = λ a h i. clock a h i ∙ f .clock a h i;
   turn = λ a h i. turn a h i ∙ f .turn a h i;

@@ -222,8 +222,9 @@ module _ {m : List ℕ} {ps : List ℕ} {L : Lists} {W : View} {hs : List ℕ} {
       let same = upd-other L (grantFor n) pageQueue (some q) (omega arith) in
       let t = o .waiter p (rw e (omega (arith, hit-self p))) in
       rw (b .mem .reads .words .label p (proc-page s p (waiter-proc b p ws e)))
-      (wake-frame (sep-G b p ws e) (grant-mem n q (omega arith) s (b .mem)) freeSemaphore p [] ws (page-sem ps) (same ∙ e) c (o .low freeSemaphore (omega arith) (omega arith))
-      (o .low pageQueue (omega arith) (omega arith)) (λ z i. o .waiter z (rw same at i) .0) (t .1) (t .2) ∙ other m (grantFor n) q c (o .grant n (omega arith)))
+      (wake-frame (sep-G b p ws e) (grant-mem n q (omega arith) s (b .mem)) freeSemaphore p [] ws (page-sem ps) (same ∙ e) c
+      (o .low freeSemaphore (omega arith) (omega arith)) (o .low pageQueue (omega arith) (omega arith)) (λ z i. o .waiter z (rw same at i) .0) (t .1) (t .2)
+      ∙ other m (grantFor n) q c (o .grant n (omega arith)))
 
   pub give-frame : getD (giveBack m q) c 0 ≡ getD m c 0
   give-frame = go (L pageQueue) refl

@@ -187,8 +187,8 @@ module _ {m : List ℕ} {ps : List ℕ} {L : Lists} {W : View} {hs : List ℕ} {
   pub grow-facts : Facts P grown X g
   grow-facts =
       let f = b .facts in
-      let wk : (k : ℕ) → k < interrupts → grown (headerAfter k) ≡ L (headerAfter k) = λ k h. at-same (headerAfter k) (in-queues ps (headerAfter k) (int-queue ps k h))
-      (omega arith) in
+      let wk : (k : ℕ) → k < interrupts → grown (headerAfter k) ≡ L (headerAfter k) = λ k h. at-same (headerAfter k)
+      (in-queues ps (headerAfter k) (int-queue ps k h)) (omega arith) in
       let wa = at-same pageQueue (in-asking ps) (omega arith) in
       record {
         sep = grow-sep;
@@ -213,7 +213,9 @@ module _ {m : List ℕ} {ps : List ℕ} {L : Lists} {W : View} {hs : List ℕ} {
         mail = λ y w h u v x c. mail y w u v x c (which-proc y h);
         runs = record {
           idle = f .runs .idle;
-          listed = λ d. let t = f .runs .listed d in omega (arith, count-P (W .low runningPage), hit-other (W .low runningPage) q (not-q (W .low runningPage) (omega arith)));
+          listed = λ d.
+              let t = f .runs .listed d in
+              omega (arith, count-P (W .low runningPage), hit-other (W .low runningPage) q (not-q (W .low runningPage) (omega arith)));
           tag = f .runs .tag;
         };
         codes = f .codes;
@@ -248,7 +250,8 @@ module _ {m : List ℕ} {ps : List ℕ} {L : Lists} {W : View} {hs : List ℕ} {
           (b .facts .own y h x (rw (at-same (place y ownQueue) (in-own ps y h) (omega arith)) at c))
       own y x c (inr e) = let z = rw (e, new-list 4 (omega arith) (omega arith)) at c in absurd (omega arith)
 
-      sems : (a : ℕ) → (1 ≤ count (a + 1) (queues ps)) ⊎ (a + 1 ≡ place q ownQueue) → put1 (W .sem) (place q ownSemaphore) 0 a ≡ less (stock grown a) (length (grown (a + 1)))
+      sems : (a : ℕ) → (1 ≤ count (a + 1) (queues ps)) ⊎ (a + 1 ≡ place q ownQueue)
+          → put1 (W .sem) (place q ownSemaphore) 0 a ≡ less (stock grown a) (length (grown (a + 1)))
       sems a (inl h) =
           let d : a ≢ q * 32 + 3 = λ e. head-off s q 4 (a + 1) pg (omega arith) out (in-queues ps (a + 1) h) (omega arith) in
           let d7 : a + 1 ≢ processorList = λ e. omega (arith, ap (λ (y : ℕ). count y (queues ps)) e, procs-once s .away) in
@@ -283,8 +286,8 @@ module _ {m : List ℕ} {ps : List ℕ} {L : Lists} {W : View} {hs : List ℕ} {
   joined =
       let h : Head ps processorList = (in-procs ps, grant-low processorList (omega arith)) in
       let ch = rw (link-procs, s .procs) at (b .mem .holds .rep processorList h) in
-      join-is m 1 processorList q ps ch (omega (arith, ap length (s .procs), list-short s processorList (in-procs ps))) (omega (arith, pg)) (off-page q 1 1 ps (omega arith)
-      (omega arith) out)
+      join-is m 1 processorList q ps ch (omega (arith, ap length (s .procs), list-short s processorList (in-procs ps))) (omega (arith, pg))
+      (off-page q 1 1 ps (omega arith) (omega arith) out)
 
   -- a word that is neither q's word 1, nor word 1 of a processor, nor 247
   same : (a : ℕ) → a ≢ place q listLink → a ≢ processorList → ((z : ℕ) → 1 ≤ count z ps → a ≢ place z 1) → getD m2 a 0 ≡ getD m a 0
@@ -329,8 +332,8 @@ module _ {m : List ℕ} {ps : List ℕ} {L : Lists} {W : View} {hs : List ℕ} {
 
       rep : (a : ℕ) → Head P a → Which a → Chain m2 (linkOf a) a (grown a)
       rep a h (old i) =
-          let j = rep-join m (Head ps) L (b .mem .size) (good s) (apart s) (single s) (b .mem .holds .rep) processorList q (in-procs ps, grant-low processorList (omega arith)) pg
-          (λ d hd e. free d (hd .0)) a (i, h .1) in
+          let j = rep-join m (Head ps) L (b .mem .size) (good s) (apart s) (single s) (b .mem .holds .rep) processorList q
+          (in-procs ps, grant-low processorList (omega arith)) pg (λ d hd e. free d (hd .0)) a (i, h .1) in
           rw (at-old a i) (rw (link-procs, s .procs) at j)
       rep a h (fresh w l u e) =
           rw (e, new-list w l u) (same-word q w pg (omega arith) (omega arith) ∙ n .empty w (omega arith) u)

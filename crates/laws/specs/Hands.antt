@@ -90,7 +90,14 @@ module _ {m : List ℕ} {ps : List ℕ} {L : Lists} {W : View} {hs : List ℕ} {
       sems : (a : ℕ) → 1 ≤ count (a + 1) (queues ps) → (a ≡ freeSemaphore) ⊎ (a ≢ freeSemaphore)
           → put1 (W .sem) freeSemaphore ((W .sem 245 + 255) % 256) a ≡ less (stock (upd L freeList fs) a) (length (L (a + 1)))
       sems a h (inl d) =
-          rw (put1-same (W .sem) freeSemaphore ((W .sem 245 + 255) % 256) a d, d, stock-page (upd L freeList fs), upd-same, f .sems freeSemaphore (page-sem ps), stock-page L)
+          rw (
+            put1-same (W .sem) freeSemaphore ((W .sem 245 + 255) % 256) a d,
+            d,
+            stock-page (upd L freeList fs),
+            upd-same,
+            f .sems freeSemaphore (page-sem ps),
+            stock-page L,
+          )
           (omega (arith, ap length e, empty (L pageQueue) nobody, list-short s freeList (in-free ps)))
       sems a h (inr n) =
           rw (put1-other (W .sem) freeSemaphore ((W .sem 245 + 255) % 256) a n, stock-else (upd L freeList fs) a n) (f .sems a h
@@ -103,7 +110,8 @@ module _ {m : List ℕ} {ps : List ℕ} {L : Lists} {W : View} {hs : List ℕ} {
   pub hand-new : (c : ℕ) → Head ps c → c ≢ processorList → count q (L c) ≡ 0
   hand-new c h n = hand-free b q in-hand c (h .0)
 
-  pub give-free : L pageQueue ≡ [] → Base (freePage m q) ps (upd L freeList (L 244 ++ q ∷ [])) (withSem W (put1 (W .sem) freeSemaphore ((W .sem 245 + 1) % 256))) hs g
+  pub give-free : L pageQueue ≡ [] → Base (freePage m q) ps (upd L freeList (L 244 ++ q ∷ []))
+      (withSem W (put1 (W .sem) freeSemaphore ((W .sem 245 + 1) % 256))) hs g
   unfolding Page.freePage
   give-free none =
       let sp = b .facts .sep in
@@ -113,8 +121,8 @@ module _ {m : List ℕ} {ps : List ℕ} {L : Lists} {W : View} {hs : List ℕ} {
       let o : (c : ℕ) → c ≢ freeList → upd L freeList (L 244 ++ q ∷ []) c ≡ L c = λ c n. upd-other L freeList c (L 244 ++ q ∷ []) n in
       let more : (z : ℕ) → sum z (upd L freeList (L 244 ++ q ∷ [])) (uses ps) ≡ sum z L (uses ps) + hit (eqb z q) = λ z.
       omega (arith, uses-upd sp freeList (free-once sp) (omega arith) (L 244 ++ q ∷ []) z, count-append z (L freeList) (q ∷ [])) in
-      let x = join-mem sp (sem-mem sp (b .mem) freeSemaphore v (page-sem ps)) freeList (in-free ps, grant-low freeList (omega arith)) (omega arith) q (hand-page b q in-hand)
-      hand-new in
+      let x = join-mem sp (sem-mem sp (b .mem) freeSemaphore v (page-sem ps)) freeList (in-free ps, grant-low freeList (omega arith)) (omega arith) q
+      (hand-page b q in-hand) hand-new in
       rw (b .mem .reads .sems freeSemaphore (page-sem ps)) (record {
         mem = x;
         facts = facts-uses (upd L freeList K) (put1 (W .sem) freeSemaphore v) (record {

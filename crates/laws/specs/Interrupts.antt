@@ -94,7 +94,8 @@ facts-reason {ps} {L} {W} k p v hk i u1 u2 f = record {
         let d : count p (L b) ≡ count x (L b) = ap (λ (y : ℕ). count y (L b)) (sym e) in
         omega (arith, sum-two p L (headerAfter k) b (queues ps) (λ y. n (sym y)) (int-queue ps k hk) h, s .waits p, proc-once s p)
 
-    served : (j : ℕ) → j < interrupts → (x : ℕ) → 1 ≤ count x (L (headerAfter j)) → (x ≡ p) ⊎ (x ≢ p) → (1 ≤ put1 (W .reason) p v x) × (put1 (W .reason) p v x ≤ 255)
+    served : (j : ℕ) → j < interrupts → (x : ℕ) → 1 ≤ count x (L (headerAfter j)) → (x ≡ p) ⊎ (x ≢ p)
+        → (1 ≤ put1 (W .reason) p v x) × (put1 (W .reason) p v x ≤ 255)
     served j h x c (inl e) = rw (put1-same (W .reason) p v x e) (u1, u2)
     served j h x c (inr n) = rw (kept x n) (f .seats .served j h x c)
 

@@ -9,8 +9,8 @@ use lib.ListN.{length, getD}
 use lib.Dec.{eqb}
 use borrow.Author.Tests.{ne-eqb}
 use Rattle.model.specs.Map as Map
-use Rattle.model.specs.Map.{clockLine, codeWord, entryAfter, freeList, freeSemaphore, grantFor, headerAfter, interrupts, longest, memorySize, ownQueue, pageQueue}
-use Rattle.model.specs.Map.{place, q1, runningLabel, runningPage, zeroWord}
+use Rattle.model.specs.Map.{clockLine, codeWord, entryAfter, freeList, freeSemaphore, grantFor, headerAfter, interrupts, longest, memorySize}
+use Rattle.model.specs.Map.{ownQueue, pageQueue, place, q1, runningLabel, runningPage, zeroWord}
 use Rattle.model.specs.Bytes as Memory
 use Rattle.model.specs.Map.{less, lastFault}
 use Rattle.model.specs.Mail.{fits}

@@ -6,8 +6,8 @@ use Prim.Native.Nat.{ℕ, _+_, _-_, _*_, _%_, _≤_, _<_}
 use native.Mathlib.Omega.{arith}
 use lib.ListN.{length, getD}
 use Rattle.model.specs.Map as Map
-use Rattle.model.specs.Map.{clockLine, firstControl, freeList, freeSemaphore, grantFor, headerAfter, interrupts, label, memorySize, ownQueue, ownSemaphore, pageQueue}
-use Rattle.model.specs.Map.{place, processorList, runningLabel, runningPage, semaphoreAfter, zeroWord}
+use Rattle.model.specs.Map.{clockLine, firstControl, freeList, freeSemaphore, grantFor, headerAfter, interrupts, label, memorySize, ownQueue}
+use Rattle.model.specs.Map.{ownSemaphore, pageQueue, place, processorList, runningLabel, runningPage, semaphoreAfter, zeroWord}
 use Rattle.model.specs.Bytes.{name, word}
 use Rattle.model.specs.Store.{bytes}
 use Rattle.model.specs.Map.{less}
@@ -20,8 +20,8 @@ use Rattle.laws.specs.Rules.{means, complete}
 use Rattle.laws.specs.Chain.{walk-chain}
 use Rattle.laws.specs.Heads.{page-one, sum-ext, range1-of}
 use Rattle.laws.specs.Uses.{Among, Sep, proc-page, list-short}
-use Rattle.laws.specs.Places.{in-uses, in-queues, in-procs, in-free, in-asking, in-own, in-q, in-grant, int-queue, grant-of}
-use Rattle.laws.specs.Places.{q-free, wait-page, all-pages, own-once, asking-once}
+use Rattle.laws.specs.Places.{in-uses, in-queues, in-procs, in-free, in-asking, in-own, in-q, in-grant, int-queue, grant-of, q-free, wait-page}
+use Rattle.laws.specs.Places.{all-pages, own-once, asking-once}
 use Rattle.laws.specs.Inv.{View, view, bearers, stock, stock-page, stock-else, Facts, Mem, Base, Best, Inv}
 use Rattle.laws.specs.Accepted.{lists-walk, lists-some, as-rule, judge-inv}
 
@@ -124,7 +124,9 @@ module _ {m : List ℕ} {ps : List ℕ} {L : Lists} {W : View} {hs : List ℕ} {
         runs = record {
           idle = rw (l8, l9) (f .runs .idle);
           listed = rw l8 (f .runs .listed);
-          tag = rw l8 (λ n. let h = pg (W .low runningPage) (omega (arith, f .runs .listed n)) in l9 ∙ f .runs .tag n ∙ sym (r .words .label (W .low runningPage) h));
+          tag = rw l8 (λ n.
+              let h = pg (W .low runningPage) (omega (arith, f .runs .listed n)) in
+              l9 ∙ f .runs .tag n ∙ sym (r .words .label (W .low runningPage) h));
         };
         codes = let c = f .codes in record {
           kinds = λ k h. rw (r .fixed .code k h) (c .kinds k h);

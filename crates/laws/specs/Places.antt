@@ -129,7 +129,14 @@ module _ {ps : List ℕ} {L : Lists} (s : Sep ps L) where
 
   pub int-once : (k : ℕ) → k < interrupts → InQueues ps (headerAfter k)
   int-once k h = let a = headerAfter k in let n = low-none (headerAfter k) (omega arith) in record {
-    here = omega (arith, n, count-append (headerAfter k) (owns ps) (range interrupts 2 132), range2-at interrupts 132 k h, hit-other (headerAfter k) pageQueue (omega arith));
+    here =
+        omega (
+          arith,
+          n,
+          count-append (headerAfter k) (owns ps) (range interrupts 2 132),
+          range2-at interrupts 132 k h,
+          hit-other (headerAfter k) pageQueue (omega arith),
+        );
     away = omega (
       arith,
       n,
@@ -222,5 +229,11 @@ queues-pos ps a g h = go (zero-or a)
     go : (a ≡ 0) ⊎ (1 ≤ a) → 1 ≤ a
     go (inl e) =
         let n = none-low a ps g (omega arith) in
-        absurd (omega (arith, n, count-append a (owns ps) (range interrupts 2 132), range-low interrupts 2 132 a (omega arith), hit-other a pageQueue (omega arith)))
+        absurd (omega (
+          arith,
+          n,
+          count-append a (owns ps) (range interrupts 2 132),
+          range-low interrupts 2 132 a (omega arith),
+          hit-other a pageQueue (omega arith),
+        ))
     go (inr i) = i

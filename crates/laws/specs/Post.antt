@@ -101,7 +101,12 @@ module _ {m : List ℕ} {ps : List ℕ} {L : Lists} {W : View} {hs : List ℕ} {
     alone x i r =
         let o = fw .own p h x i .owner in
         let j = rw (← at4, upd-same, o) at i in
-        absurd (omega (arith, single s (place p ownQueue) (in-own ps p h, grant-high (place p ownQueue) (omega (arith, pg))) p, hit-self p, ap (count p) (rw at4 at e)))
+        absurd (omega (
+          arith,
+          single s (place p ownQueue) (in-own ps p h, grant-high (place p ownQueue) (omega (arith, pg))) p,
+          hit-self p,
+          ap (count p) (rw at4 at e),
+        ))
 
     fm : Facts ps (upd (upd L a4 xs) a5 (upd L a4 xs a5 ++ q ∷ [])) (woken W (place p ownSemaphore) p) g
     fm = facts-mail q fw room4 p 5 h (omega arith) (omega arith) letter4 alone
@@ -118,7 +123,9 @@ module _ {m : List ℕ} {ps : List ℕ} {L : Lists} {W : View} {hs : List ℕ} {
             lists = upd (upd L a4 xs) a5 (upd L a4 xs a5 ++ q ∷ []);
             view = woken W (place p ownSemaphore) p;
             base = record {
-              mem = rw swap at (wake-mem (place p ownSemaphore) p [] xs (mail-sep b p 5 h (omega arith) (omega arith)) (rw swap (fm .sep)) x1 (own-sem s p h) pg e2);
+              mem =
+                  rw swap at (wake-mem (place p ownSemaphore) p [] xs (mail-sep b p 5 h (omega arith) (omega arith)) (rw swap (fm .sep)) x1
+                  (own-sem s p h) pg e2);
               facts = fm;
               all = λ z.
                   omega (

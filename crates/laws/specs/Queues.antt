@@ -100,7 +100,8 @@ pub last-cell : (a : ℕ) (xs : List ℕ) → CellOf (last (linkOf a) a xs) a xs
 last-cell a [] = inl refl
 last-cell a (x ∷ xs) = inr (last-in (linkOf a) a x xs)
 
-module _ (m : List ℕ) (H : ℕ → Type 0) (L : Lists) (hm : length m ≡ memorySize) (good : Good H) (apart : Apart H L) (single : Single H L) (rep : Rep m H L) where
+module _ (m : List ℕ) (H : ℕ → Type 0) (L : Lists) (hm : length m ≡ memorySize) (good : Good H) (apart : Apart H L) (single : Single H L)
+    (rep : Rep m H L) where
   page-of : (a z : ℕ) → H a → 1 ≤ count z (L a) → firstControl ≤ z
   page-of a z ia i = chain-pages m (linkOf a) a (L a) (rep a ia) z i .0
 

@@ -133,7 +133,8 @@ module _ (xs : List ℕ) (p : ℕ) (ys : List ℕ) where
         sems = λ a h. rw (at-queue (a + 1) (queue-left (a + 1) h), stock-same L A (at-other freeList (omega arith)) a) (f .sems a (queue-left (a + 1) h));
         granted = record {
           bare = λ y c.
-              rw (at-other freeList (omega arith), at-other (320 + W .label y % 16) (omega arith)) (f .granted .bare y (rw (at-other pageQueue (omega arith)) at c));
+              rw (at-other freeList (omega arith), at-other (320 + W .label y % 16) (omega arith))
+              (f .granted .bare y (rw (at-other pageQueue (omega arith)) at c));
           known = λ k h d c.
               omega (arith, named k, hit-other k (W .label p % 16) d, f .granted .known k h (omega arith) (rw (at-other (grantFor k) (omega arith)) at c));
         };

@@ -10,8 +10,8 @@ use lib.Seq.{getD-set-same}
 use lib.Dec.{ltb}
 use borrow.Author.Tests.{ltb-true, ltb-false}
 use Rattle.model.specs.Map as Map
-use Rattle.model.specs.Map.{clockLine, codeLow, codeWord, divider, entryAfter, entryAt, freeList, freeSemaphore, guardedLast, headerAfter, interrupts, memorySize}
-use Rattle.model.specs.Map.{place, processorList, runningPage, semaphoreAfter}
+use Rattle.model.specs.Map.{clockLine, codeLow, codeWord, divider, entryAfter, entryAt, freeList, freeSemaphore, guardedLast, headerAfter, interrupts}
+use Rattle.model.specs.Map.{memorySize, place, processorList, runningPage, semaphoreAfter}
 use Rattle.model.specs.Bytes.{store, word}
 use Rattle.model.specs.Lists.{count, Lists, queues}
 use Rattle.laws.specs.Count.{hit-or}
@@ -44,7 +44,8 @@ pub record Loose (b : ℕ) : Type 0 where
   pub page : (p j : ℕ) → Page p → j ≤ 6 → j ≢ 2 → j ≢ 3 → place p j ≢ b
 
 -- below page 10 only the headers of interrupts and three words of page 7 are heads
-loose-low : (b : ℕ) → b < 320 → ((k : ℕ) → k < interrupts → headerAfter k ≢ b) → ((a : ℕ) → freeList ≤ a → a ≤ processorList → a ≢ freeSemaphore → a ≢ b) → Loose b
+loose-low : (b : ℕ) → b < 320 → ((k : ℕ) → k < interrupts → headerAfter k ≢ b) → ((a : ℕ) → freeList ≤ a → a ≤ processorList → a ≢ freeSemaphore → a ≢ b)
+    → Loose b
 loose-low b u f g = record { int = f; three = g; grant = λ c1 c2 c3. omega arith; page = λ c1 c2 c3 c4 c5 c6. omega arith }
 
 -- words 2, 3 and those from 7 on of a control page
@@ -111,8 +112,8 @@ words-off {m} b v {ps} {n} {r} {l} {t} n1 n2 n7 n12 f = record {
 words-low : {m : List ℕ} (b v : ℕ) {ps : List ℕ} {n r l t : ℕ → ℕ} → b < guardedLast → Words m ps n r l t → Words (set m b v) ps n r l t
 words-low b v g f = words-off b v (λ p h. omega arith) (λ p h. omega arith) (λ p h. omega arith) (λ p h. omega arith) f
 
-pub fixed-off : {m : List ℕ} (b v : ℕ) {l c : ℕ → ℕ} {n : ℕ} {e : ℕ → ℕ} → ((a : ℕ) → clockLine ≤ a → a ≤ Map.c3 → a ≢ b) → ((a : ℕ) → runningPage ≤ a → a ≤ divider → a ≢ b)
-    → ((a : ℕ) → 256 ≤ a → a < 320 → a ≢ b) → Fixed m l c n e → Fixed (set m b v) l c n e
+pub fixed-off : {m : List ℕ} (b v : ℕ) {l c : ℕ → ℕ} {n : ℕ} {e : ℕ → ℕ} → ((a : ℕ) → clockLine ≤ a → a ≤ Map.c3 → a ≢ b)
+    → ((a : ℕ) → runningPage ≤ a → a ≤ divider → a ≢ b) → ((a : ℕ) → 256 ≤ a → a < 320 → a ≢ b) → Fixed m l c n e → Fixed (set m b v) l c n e
 fixed-off {m} b v clock turn rest f =
     fixed-same (λ a h i. other m b v a (clock a h i)) (λ a h i. other m b v a (turn a h i)) (λ a h i. other m b v a (rest a h i)) f
 

@@ -7,8 +7,8 @@ use Prim.Native.Nat.{ℕ, _+_, _-_, _*_, _/_, _%_, _≤_, _<_}
 use native.Mathlib.Omega.{arith}
 use lib.ListN.{length, length-append}
 use lib.Dec.{eqb}
-use Rattle.model.specs.Map.{freeList, freeSemaphore, grantFor, headerAfter, interrupts, ownQueue, pageQueue, place, processorList, q1, semaphoreAfter, semaphoreOf}
-use Rattle.model.specs.Map.{less}
+use Rattle.model.specs.Map.{freeList, freeSemaphore, grantFor, headerAfter, interrupts, ownQueue, pageQueue, place, processorList, q1, semaphoreAfter}
+use Rattle.model.specs.Map.{semaphoreOf, less}
 use Rattle.model.specs.Wait as Wait
 use Rattle.model.specs.Bytes.{putToWait}
 use Rattle.model.specs.Lists.{hit, count, Lists, sum, uses, queues}
@@ -179,7 +179,8 @@ module _ {ps : List ℕ} {L : Lists} {W : View} {g : ℕ} (a p w : ℕ) (f : Fac
           let c = fit .own y i (omega (arith, t .1)) in
           rw (new-reason y (sym (c .owner)), t .0) c
 
-      bare : (x : ℕ) → ((1 ≤ count x (L pageQueue)) × (x ≢ p)) ⊎ ((x ≡ p) × (pageQueue ≡ a + 1)) → (length (L freeList) ≡ 0) × (length (L (320 + W .label x % 16)) ≡ 0)
+      bare : (x : ℕ) → ((1 ≤ count x (L pageQueue)) × (x ≢ p)) ⊎ ((x ≡ p) × (pageQueue ≡ a + 1))
+          → (length (L freeList) ≡ 0) × (length (L (320 + W .label x % 16)) ≡ 0)
       bare x (inl t) = f .granted .bare x (t .0)
       bare x (inr t) = let c = fit .page (omega (arith, t .1)) in rw (t .0) (c .1, c .2)
 

@@ -196,17 +196,20 @@ clock-runs : (l : ℕ → ℕ) (t w : ℕ) → Clock l → Clock (put1 (put1 l r
 unfolding put1
 clock-runs l t w c = record { c0 = c .c0; c1 = c .c1; c2 = c .c2; c3 = c .c3; divider = c .divider; line = c .line; nought = c .nought }
 
-new-runs : {ps : List ℕ} (l b : ℕ → ℕ) (t w : ℕ) → (t ≡ 0 → w ≡ 0) → (t ≢ 0 → count t ps ≡ 1) → (t ≢ 0 → w ≡ b t) → Runs ps (put1 (put1 l runningPage t) runningLabel w) b
+new-runs : {ps : List ℕ} (l b : ℕ → ℕ) (t w : ℕ) → (t ≡ 0 → w ≡ 0) → (t ≢ 0 → count t ps ≡ 1) → (t ≢ 0 → w ≡ b t)
+    → Runs ps (put1 (put1 l runningPage t) runningLabel w) b
 unfolding put1
 new-runs l b t w z n r = record { idle = z; listed = n; tag = r }
 
 pub base-runs : {m : List ℕ} {ps : List ℕ} {L : Lists} {W : View} {hs : List ℕ} {g : ℕ} (t w : ℕ) → (t ≡ 0 → w ≡ 0) → (t ≢ 0 → count t ps ≡ 1)
-    → (t ≢ 0 → w ≡ W .label t) → Base m ps L W hs g → Base (set (set m runningPage t) runningLabel w) ps L (withLow W (put1 (put1 (W .low) runningPage t) runningLabel w)) hs g
+    → (t ≢ 0 → w ≡ W .label t) → Base m ps L W hs g → Base (set (set m runningPage t) runningLabel w) ps L
+    (withLow W (put1 (put1 (W .low) runningPage t) runningLabel w)) hs g
 base-runs {W = W} t w z n r b =
     let s = b .facts .sep in
     record {
       mem = turn-mem s (turn-mem s (b .mem) runningPage t (omega arith) (omega arith)) runningLabel w (omega arith) (omega arith);
-      facts = facts-low (put1 (put1 (W .low) runningPage t) runningLabel w) (new-runs (W .low) (W .label) t w z n r) (clock-runs (W .low) t w (b .facts .clock)) (b .facts);
+      facts = facts-low (put1 (put1 (W .low) runningPage t) runningLabel w) (new-runs (W .low) (W .label) t w z n r)
+          (clock-runs (W .low) t w (b .facts .clock)) (b .facts);
       all = b .all;
     }
 

@@ -123,7 +123,8 @@ dry (f ∷ fs) {m} {ps} {L} {W} x rest b e =
 
 first-free : (fs : List ℕ) → lists example freeList ≡ fs → Dry (lists example processorList) (lists example) (view example)
 first-free [] e =
-    let c = chain0 (example-base .facts .sep) (example-base .mem) freeList (in-free (lists example processorList), grant-low freeList (omega arith)) (omega arith) in
+    let c = chain0 (example-base .facts .sep) (example-base .mem) freeList
+    (in-free (lists example processorList), grant-low freeList (omega arith)) (omega arith) in
     let z : getD example freeList 0 ≡ 0 = rw e at c in
     absurd (omega (arith, z, example-at freeList 237 (computed 16 5 .at244)))
 first-free (f ∷ fs) e =
@@ -180,8 +181,9 @@ example-asked = go (first-free (lists example freeList) refl)
     ready = omega (arith, rw example-runs at (invariant (well example-sound) .best .ready (λ e. omega (arith, example-runs, e))))
 
     empty : lists example pageQueue ≡ []
-    empty = nil (lists example pageQueue) (chain0 (example-base .facts .sep) (example-base .mem) pageQueue (in-asking (lists example processorList), grant-low pageQueue (omega arith))
-        (omega arith))
+    empty =
+        nil (lists example pageQueue) (chain0 (example-base .facts .sep) (example-base .mem) pageQueue
+        (in-asking (lists example processorList), grant-low pageQueue (omega arith)) (omega arith))
       where
         nil : (xs : List ℕ) → Chain example 0 pageQueue xs → xs ≡ []
         nil [] c = refl

@@ -240,7 +240,8 @@ small-out {m} s q a =
 -- ---- deleting
 pub small-unlisted : {m : List ℕ} → Small m → (p : ℕ) → Small (Model.unlisted m p)
 unfolding Delete.unlisted Wait.leaveWait
-small-unlisted {m} s p = small-leave (either Small (Model.queued m (Model.seat interrupts m p) p) (small-unqueue s (Model.seat interrupts m p) p) s) processorList 1 p
+small-unlisted {m} s p =
+    small-leave (either Small (Model.queued m (Model.seat interrupts m p) p) (small-unqueue s (Model.seat interrupts m p) p) s) processorList 1 p
 
 small-returned : {m : List ℕ} → Small m → (n q : ℕ) → n < 16 → q < 256 → Small (Model.returned m n q)
 unfolding Delete.returned Delete.noticed
@@ -269,7 +270,8 @@ small-delete {m} s p l =
     let n = name m p in
     let t = small-emptied 20 n (place p q1) (omega arith) (small-emptied 20 n (place p q2) (omega arith) (small-unlisted s p)) in
     let m1 = Model.mailReturned (Model.unlisted m p) n p in
-    small-give (either Small (eqb (getD m1 (grantFor n) 0) 0) t (small-give (small-set (grantFor n) 0 (omega arith) t) (getD m1 (grantFor n) 0) (t .at (grantFor n)))) p l
+    small-give (either Small (eqb (getD m1 (grantFor n) 0) 0) t
+    (small-give (small-set (grantFor n) 0 (omega arith) t) (getD m1 (grantFor n) 0) (t .at (grantFor n)))) p l
 
 -- ---- interrupts
 small-struck : {m : List ℕ} → Small m → (k c p : ℕ) → c < 256 → Small (Model.struck m k c p)
