@@ -1,9 +1,5 @@
--- The table of worked sums, computed.
+-- The table of worked sums, computed, and the rows that refute wrong models.
 pub mod Program
 pub mod Script
 pub mod Rows
-pub mod Holding
-pub mod Runs
-pub mod Orders
-pub mod Broken
-pub mod Table
+pub mod Refuting

@@ -6,15 +6,6 @@ use mathlib.Core.List.{List, [], _∷_}
 abbrev pub address : ℕ → ℕ → List ℕ
 address t a = (t * 32 + a / 256) ∷ a % 256 ∷ []
 
-abbrev pub cvi : ℕ → ℕ → List ℕ
-cvi c a = 224 ∷ (0 + c) ∷ address 0 a
-
-abbrev pub dvi : ℕ → List ℕ
-dvi c = 224 ∷ (16 + c) ∷ []
-
-abbrev pub gin : List ℕ
-gin = 224 ∷ 32 ∷ []
-
 abbrev pub win : ℕ → ℕ → List ℕ
 win k c = 224 ∷ 48 ∷ k ∷ c ∷ []
 
@@ -36,18 +27,11 @@ st1 n = 224 ∷ (128 + n) ∷ []
 abbrev pub stp : ℕ → List ℕ
 stp n = 224 ∷ (144 + n) ∷ []
 
-abbrev pub st2 : ℕ → ℕ → List ℕ
-st2 n a = 224 ∷ (160 + n) ∷ address 0 a
-
 abbrev pub crp : ℕ → ℕ → ℕ → ℕ → List ℕ
 crp n b w a = 224 ∷ (176 + n) ∷ (b * 16 + w) ∷ address 0 a
 
 abbrev pub dep : ℕ → List ℕ
 dep n = 224 ∷ (192 + n) ∷ []
-
--- code 13: CODE1 o, I X XN as x
-abbrev pub thirteen : ℕ → ℕ → ℕ → List ℕ
-thirteen x o a = 224 ∷ (208 + x) ∷ address o a
 
 -- EXI: X XN as x
 abbrev pub exi : ℕ → ℕ → ℕ → List ℕ

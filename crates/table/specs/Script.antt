@@ -1,5 +1,6 @@
--- A row of the table is a script of calls on a whole memory of 8,192 words, with the numbers of each answer and the words to be found
--- afterwards. Every call but fresh judges the memory first.
+-- A row is a script of calls on a whole memory of 8,192 words, with the numbers of each answer and the words to be found afterwards. Every call
+-- but fresh judges the memory first. Places and answers are written in document 01's numbers, word k of page p as p * 32 + k, and not by the
+-- model's names: a row that took them from the model would follow it wherever it went.
 use Prim.Native.Nat.{ℕ, zero, suc, _+_, _*_}
 use mathlib.Core.Bool.{Bool, true, false}
 use mathlib.Core.List.{List, [], _∷_, _++_}
@@ -26,9 +27,8 @@ use Rattle.model.specs.Execute as Execute
 use Rattle.model.specs.Call as Call
 use Rattle.model.specs.declared.Registers.{Registers}
 use Rattle.model.specs.Store.{Store}
-use Rattle.model.specs.Map.{place, link, firstUnused}
 use Rattle.model.specs.Address.{at, write}
-use Rattle.model.specs.Answer.{answerOf, memoryOf, numbers, heldNumbers, verdictNumbers, doneNumber, waitsNumber, illFormed}
+use Rattle.model.specs.Answer.{answerOf, memoryOf, numbers, heldNumbers, verdictNumbers}
 use Rattle.model.specs.Call.{fresh, instruction, interrupt, readRegisters, setRegisters, judge}
 
 -- the six calls with the numbers of their answers; `host` writes page 0 and unprotected words, `made` any; `has` looks at words
@@ -106,18 +106,23 @@ module _ (S : Store) where
   plays (made a vs ∷ cs) m = plays cs (writes m a vs)
   plays (has a vs ∷ cs) m = elim (looks m a vs) [ true ↦ plays cs m | false ↦ false ]
 
-  -- each row starts on a memory of zeros
-  unfoldable pub playsAll : List Script → Bool
+  -- a row starts on a memory of zeros
+  unfoldable pub playsFromZero : Script → Bool
   unfolding plays
+  playsFromZero r = plays r (S .zeros)
+
+  unfoldable pub playsAll : List Script → Bool
+  unfolding playsFromZero
   playsAll [] = true
-  playsAll (r ∷ rs) = elim (plays r (S .zeros)) [ true ↦ playsAll rs | false ↦ false ]
+  playsAll (r ∷ rs) = elim (playsFromZero r) [ true ↦ playsAll rs | false ↦ false ]
 
 -- ---- what rows are made of
+-- the house's numbers for done and put to wait
 abbrev pub ok : List ℕ
-ok = doneNumber ∷ []
+ok = 0 ∷ []
 
 abbrev pub put-to-wait : List ℕ
-put-to-wait = waitsNumber ∷ []
+put-to-wait = 60 ∷ []
 
 abbrev pub registers : ℕ → ℕ → ℕ → ℕ → ℕ → ℕ → ℕ → Registers
 registers a s p z c l w = record { a = a; s = s; p = p; z = z; ci = c; lr = l; w = w; stopped = 0 }
@@ -137,16 +142,9 @@ repeated (suc n) vs = vs ++ repeated n vs
 
 -- n messages from 2 with flag 1 and no text, on pages p, p + 1 ..; the last of them on page p + n ends the list
 unfoldable pub mailed : ℕ → ℕ → Script → Script
-mailed zero p s = made (place p link) (0 ∷ 33 ∷ 0 ∷ []) ∷ s
-mailed (suc n) p s = made (place p link) ((p + 1) ∷ 33 ∷ 0 ∷ []) ∷ mailed n (p + 1) s
+mailed zero p s = made (p * 32) (0 ∷ 33 ∷ 0 ∷ []) ∷ s
+mailed (suc n) p s = made (p * 32) ((p + 1) ∷ 33 ∷ 0 ∷ []) ∷ mailed n (p + 1) s
 
 -- the first instruction is fault f of processor 1, entered on page 9
 abbrev pub faulty : List ℕ → ℕ → Script
-faulty ws f = begins ws (step (f ∷ 1 ∷ []) ∷ has firstUnused (2 ∷ (16 + f) ∷ 0 ∷ []) ∷ [])
-
--- the memory as fresh leaves it, changed, is refused with 21; is well-formed
-abbrev pub refuses : Script → Script
-refuses s = fresh-start 16 5 ok ∷ s ++ judges (illFormed ∷ []) ∷ []
-
-abbrev pub accepts : Script → Script
-accepts s = fresh-start 16 5 ok ∷ s ++ judges ok ∷ []
+faulty ws f = begins ws (step (f ∷ 1 ∷ []) ∷ has (9 * 32) (2 ∷ (16 + f) ∷ 0 ∷ []) ∷ [])
