@@ -47,6 +47,14 @@ pub fn wait(m: &mut [u8], s: u16, reason: u8) -> Answer
     Answer::Waits
 }
 
+// The runner waits for a page, LR staying.
+pub fn wait_for_page(m: &mut [u8]) -> Answer
+    requires { ⌜ length (now m) ≡ 8192 ⌝ }
+    ensures { λ r. ⌜ gives r (now (m .exit)) ≡ Model.waitsForPage (now (m .entry)) ⌝ }
+{
+    wait(m, 245, 0)
+}
+
 // The runner is stopped, and fault f is entered on page 9; its name.
 fn stop_runner(m: &mut [u8], f: u8) -> u8
     requires { ⌜ (length (now m) ≡ 8192) × (f < 16) ⌝ }

@@ -3,11 +3,10 @@ use Prim.Native.Nat.{ℕ, _≤_}
 use mathlib.Core.Path.{_≡_}
 use borrow.Author.Tests.{le-leb, eq-eqb, ne-eqb}
 use Rattle.model.specs.Map.{place, pageSize, link, listLink, processorList, waitIn, state}
-use Rattle.model.specs.Page.Taken.{took}
 use Rattle.model.specs.Answer.{notStartable}
 use Rattle.model.specs.Operate as Operate
-use Rattle.model.specs.Bytes.{Memory, Step, word, running, start, setLr, done, fault, takePage, waitsForPage, onPage}
-use Rattle.model.specs.Bytes.{st2Found, zeroed, headed, join, created, crpPage}
+use Rattle.model.specs.Bytes.{Memory, Step, word, start, setLr, done, fault, onPage}
+use Rattle.model.specs.Bytes.{st2Found, zeroed, headed, join, created}
 
 module _ (m : Memory) (o : Step) (p len : ℕ) where
   module _ (a x : ℕ) (ex : x ≡ word m p state) (h : 128 ≤ x) where
@@ -31,13 +30,4 @@ pub created-is : (m m₁ m₂ m₃ : Memory) (q n b w a s : ℕ) → s ≡ place
 unfolding Operate.created
 created-is m m₁ m₂ m₃ q n b w a s es e₁ e₂ e₃ = rw (← es, ← e₁, ← e₂) e₃
 
-module _ (m m₁ : Memory) (o : Step) (n b w a len r q : ℕ) (er : r ≡ running m) (eq : took q m₁ ≡ takePage m r) where
-  pub crp-waits : q ≡ 0 → o ≡ waitsForPage m₁ → o ≡ crpPage m n b w a len
-  unfolding Operate.crpPage
-  crp-waits z e = rw (← er, ← eq, Operate.crpPage, eq-eqb q 0 z) e
-
-  pub crp-made : (m₂ : Memory) → (q ≡ 0 → ⊥) → m₂ ≡ created m₁ q n b w a → o ≡ done m₂ len → o ≡ crpPage m n b w a len
-  unfolding Operate.crpPage
-  crp-made m₂ z e₂ e = rw (← er, ← eq, Operate.crpPage, ne-eqb q 0 z, ← e₂) e
-
-pub ruleset creates = (st2-starts, st2-waits, page-at, st2-at, created-is, crp-waits, crp-made)
+pub ruleset creates = (st2-starts, st2-waits, page-at, st2-at, created-is)

@@ -1,6 +1,7 @@
 // Instructions: ST1, STP, ST2, CRP and DEP. len is what LR grows by.
 use answers::done;
 use answers::fault;
+use answers::wait_for_page;
 use deleting::delete;
 use model::Answer;
 use model::ControlPage;
@@ -14,7 +15,6 @@ use processors::start;
 use processors::stop;
 use queues::join;
 use queues::page_of;
-use sending::wait_for_page;
 use words::zero;
 ghost use mathlib.Core.Path.{_≡_};
 ghost use Prim.Native.Nat.{_<_};

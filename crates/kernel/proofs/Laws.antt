@@ -1,21 +1,22 @@
--- What a public call comes to behind its refusals, and that a call allows one outcome only.
+-- The head of a call, what a call comes to behind its refusals, and that a call allows one outcome only.
 use Prim.Native.Nat.{ℕ, _≤_, _%_}
 use mathlib.Core.Path.{_≡_, refl, sym, _∙_}
 use mathlib.Core.Bool.{Bool, true, false, cond, false≢true}
 use lib.Dec.{eqb, ltb}
-use borrow.Author.Tests.{ltb-false}
+use lib.ListN.{length}
+use borrow.Author.Tests.{ltb-false, eqb-true, eq-eqb, ne-eqb}
 use native.Mathlib.Omega.{arith}
 use Rattle.model.specs.declared.Answer.the-variants.{Done}
 use Rattle.model.specs.declared.Registers.{Registers}
 use Rattle.model.specs.declared.Held.the-variants as Held
-use Rattle.model.specs.Map.{low}
-use Rattle.model.specs.Answer.{Outcome}
+use Rattle.model.specs.Map.{memorySize, low}
+use Rattle.model.specs.Answer.{Outcome, wrongLength, illFormed}
 use Rattle.model.specs.Answer.Outcome.{gives}
 use Rattle.model.specs.Fresh as Fresh
 use Rattle.model.specs.Fresh.{startable}
 use Rattle.model.specs.Call as Call
 use Rattle.model.specs.Call.{isOuter, isClass}
-use Rattle.model.specs.Bytes.{Memory, Step, running, lr, registersOf, setRegistersOf, whoRuns, delivered, fetched, started}
+use Rattle.model.specs.Bytes.{Memory, Step, refusal, head, judged, running, lr, registersOf, setRegistersOf, whoRuns, delivered, fetched, started}
 
 -- ---- what a range that was tested says: a test b did not refuse, and the next, x, is passed
 past : (b x : Bool) → cond b false x ≡ true → (b ≡ false) × (x ≡ true)
@@ -37,6 +38,27 @@ outer-range k h = ltb-false 50 k ((past (ltb 50 k) true ((past (ltb k 16) (cond 
 class-range : (k c : ℕ) → isClass k c ≡ true → c ≤ 31
 unfolding Call.isClass
 class-range k c h = ltb-false 31 c ((past (ltb 31 c) (cond (ltb k 48) (eqb c 0) true) h) .0)
+
+-- ---- the head of a call: k is what refuses it
+long-enough : (b : Bool) (k : ℕ) → cond b k wrongLength ≡ 0 → b ≡ true
+long-enough true k h = refl
+long-enough false k h = absurd (omega (arith, h))
+
+module _ (m : Memory) (k : ℕ) (ek : k ≡ refusal m) where
+  pub unrefused-length : k ≡ 0 → length m ≡ memorySize
+  unfolding Call.refusal
+  unrefused-length z = eqb-true (length m) memorySize (long-enough (eqb (length m) memorySize) (cond (judged m) 0 illFormed) (sym ek ∙ z))
+
+  module _ {A : Type 0} (refuses : ℕ → A) (o goes : Outcome A Memory) where
+    pub head-goes : k ≡ 0 → o ≡ goes → o ≡ head m refuses goes
+    unfolding Call.head
+    head-goes z e = rw (← ek, eq-eqb k 0 z) e
+
+    pub head-refused : (k ≡ 0 → ⊥) → o ≡ gives (refuses k) m → o ≡ head m refuses goes
+    unfolding Call.head
+    head-refused z e = rw (← ek, ne-eqb k 0 z) e
+
+pub ruleset heads = (unrefused-length, head-goes, head-refused)
 
 -- ---- what stands behind the refusals
 module _ (m : Memory) where

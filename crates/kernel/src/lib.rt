@@ -32,22 +32,40 @@ pub fn fresh(m: &mut [u8], line: u16, divider: u16) -> Answer
     Answer::Refused(26)
 }
 
+// What refuses every other call before anything else is looked at; 0: nothing.
+fn refusal(m: &[u8]) -> u8
+    ensures { λ r. ⌜ r ≡ Model.refusal (now (m .entry)) ⌝ }
+{
+    if m.len() != 8192 {
+        return 20;
+    }
+    if judged(m) {
+        return 0;
+    }
+    21
+}
+
+fn instruction_judged(m: &mut [u8]) -> Answer
+    requires { ⌜ length (now m) ≡ 8192 ⌝ }
+    ensures { λ r. ⌜ gives r (now (m .exit)) ≡ Model.instructionJudged (now (m .entry)) ⌝ }
+{
+    let p = running(m);
+    if p.0 == 0 {
+        return Answer::Refused(22);
+    }
+    let n = lr(m);
+    fetched(m, n)
+}
+
 // One virtual instruction by the running processor.
 pub fn instruction(m: &mut [u8]) -> Answer
     ensures { λ r. ⌜ gives r (now (m .exit)) ≡ Model.instruction (now (m .entry)) ⌝ }
 {
-    if m.len() != 8192 {
-        return Answer::Refused(20);
+    let k = refusal(m);
+    if k == 0 {
+        return instruction_judged(m);
     }
-    if judged(m) {
-        let p = running(m);
-        if p.0 == 0 {
-            return Answer::Refused(22);
-        }
-        let n = lr(m);
-        return fetched(m, n);
-    }
-    Answer::Refused(21)
+    Answer::Refused(k)
 }
 
 // Whether k is an interrupt from outside, and c a class number that it may have.
@@ -94,30 +112,33 @@ fn interrupt_judged(m: &mut [u8], k: u16, c: u16) -> Answer
 pub fn interrupt(m: &mut [u8], k: u16, c: u16) -> Answer
     ensures { λ r. ⌜ gives r (now (m .exit)) ≡ Model.interrupt (now (m .entry)) k c ⌝ }
 {
-    if m.len() != 8192 {
-        return Answer::Refused(20);
-    }
-    if judged(m) {
+    let f = refusal(m);
+    if f == 0 {
         return interrupt_judged(m, k, c);
     }
-    Answer::Refused(21)
+    Answer::Refused(f)
+}
+
+fn read_judged(m: &[u8]) -> Held
+    requires { ⌜ length (now m) ≡ 8192 ⌝ }
+    ensures { λ r. ⌜ gives r (now (m .entry)) ≡ Model.readJudged (now (m .entry)) ⌝ }
+{
+    let p = running(m);
+    if p.0 == 0 {
+        return Held::Refused(22);
+    }
+    Held::Has(Registers::of(m, p))
 }
 
 // The running processor's registers.
 pub fn read_registers(m: &[u8]) -> Held
     ensures { λ r. ⌜ gives r (now (m .entry)) ≡ Model.readRegisters (now (m .entry)) ⌝ }
 {
-    if m.len() != 8192 {
-        return Held::Refused(20);
+    let k = refusal(m);
+    if k == 0 {
+        return read_judged(m);
     }
-    if judged(m) {
-        let p = running(m);
-        if p.0 == 0 {
-            return Held::Refused(22);
-        }
-        return Held::Has(Registers::of(m, p));
-    }
-    Held::Refused(21)
+    Held::Refused(k)
 }
 
 fn set_judged(m: &mut [u8], r: Registers) -> Answer
@@ -139,24 +160,20 @@ fn set_judged(m: &mut [u8], r: Registers) -> Answer
 pub fn set_registers(m: &mut [u8], r: Registers) -> Answer
     ensures { λ o. ⌜ gives o (now (m .exit)) ≡ Model.setRegisters (now (m .entry)) r ⌝ }
 {
-    if m.len() != 8192 {
-        return Answer::Refused(20);
-    }
-    if judged(m) {
+    let k = refusal(m);
+    if k == 0 {
         return set_judged(m, r);
     }
-    Answer::Refused(21)
+    Answer::Refused(k)
 }
 
 // The judge of well-formed memory.
 pub fn judge(m: &[u8]) -> Verdict
     ensures { λ r. ⌜ gives r (now (m .entry)) ≡ Model.judge (now (m .entry)) ⌝ }
 {
-    if m.len() != 8192 {
-        return Verdict::Refused(20);
-    }
-    if judged(m) {
+    let k = refusal(m);
+    if k == 0 {
         return Verdict::WellFormed;
     }
-    Verdict::Refused(21)
+    Verdict::Refused(k)
 }

@@ -5,12 +5,11 @@ use mathlib.Core.Bool.{Bool, true, false}
 use borrow.Author.Tests.{lt-ltb, le-ltb, eq-eqb, ne-eqb}
 use Rattle.model.specs.Map.{place, pair, lengthIn, ownSemaphore, link, q2, size, longest, headWords, controlPages}
 use Rattle.model.specs.Address.{wrapped, clear}
-use Rattle.model.specs.Page.Taken.{took}
 use Rattle.model.specs.Mail.Tested.{tested}
 use Rattle.model.specs.Answer.{badArgument, protected, noMatch}
 use Rattle.model.specs.Operate as Operate
-use Rattle.model.specs.Bytes.{Memory, Step, at, word, running, pageOf, done, jumps, waits, fault, takePage, deliver, makeNotice, writeMessage}
-use Rattle.model.specs.Bytes.{waitsForPage, posted, leave, giveBack, copyOut, sent, smeText, inQ1, inQ2, move, wnm, received, rme, testQ1, tmeQ1}
+use Rattle.model.specs.Bytes.{Memory, Step, at, word, running, pageOf, done, jumps, waits, fault, deliver, makeNotice, writeMessage}
+use Rattle.model.specs.Bytes.{posted, leave, giveBack, copyOut, sent, smeText, inQ1, inQ2, move, wnm, received, rme, testQ1, tmeQ1}
 
 module _ (m m₁ m₂ : Memory) (q n f a l p : ℕ) (ep : p ≡ pageOf m n) where
   pub posted-notice : (r : ℕ) → p ≡ 0 → r ≡ running m → m₁ ≡ makeNotice m q n f → m₂ ≡ deliver m₁ r q → m₂ ≡ posted m q n f a l
@@ -20,15 +19,6 @@ module _ (m m₁ m₂ : Memory) (q n f a l p : ℕ) (ep : p ≡ pageOf m n) wher
   pub posted-message : (b : ℕ) → (p ≡ 0 → ⊥) → b ≡ wrapped a 1 → m₁ ≡ writeMessage m q f b l → m₂ ≡ deliver m₁ p q → m₂ ≡ posted m q n f a l
   unfolding Operate.posted
   posted-message b z eb e₁ e₂ = rw (← ep, ne-eqb p 0 z, ← eb, ← e₁) e₂
-
-module _ (m m₁ : Memory) (o : Step) (n f a l len r q : ℕ) (er : r ≡ running m) (eq : took q m₁ ≡ takePage m r) where
-  pub sent-waits : q ≡ 0 → o ≡ waitsForPage m₁ → o ≡ sent m n f a l len
-  unfolding Operate.sent
-  sent-waits z h = rw (← er, ← eq, Operate.sent, eq-eqb q 0 z) h
-
-  pub sent-done : (m₂ : Memory) → (q ≡ 0 → ⊥) → m₂ ≡ posted m₁ q n f a l → o ≡ done m₂ len → o ≡ sent m n f a l len
-  unfolding Operate.sent
-  sent-done m₂ z e₂ h = rw (← er, ← eq, Operate.sent, ne-eqb q 0 z, ← e₂) h
 
 pub received-is : (m m₁ m₂ m₃ : Memory) (q a r h : ℕ) → r ≡ running m → m₁ ≡ copyOut m q a → h ≡ place r q2 → m₂ ≡ leave m₁ h link q → m₃ ≡ giveBack m₂ q
     → m₃ ≡ received m q a
@@ -85,8 +75,6 @@ module _ (m : Memory) (o : Step) (n f a len : ℕ) where
 pub ruleset sends = (
   posted-notice,
   posted-message,
-  sent-waits,
-  sent-done,
   text-long,
   text-sent,
   text-guarded,

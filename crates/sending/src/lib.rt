@@ -3,6 +3,7 @@ use answers::done;
 use answers::fault;
 use answers::jump;
 use answers::wait;
+use answers::wait_for_page;
 use mail::copy_out;
 use mail::deliver;
 use mail::in_q1;
@@ -28,14 +29,6 @@ ghost use Prim.Native.Nat.{_<_};
 ghost use lib.ListN.{length};
 ghost use Rattle.model.specs.Answer.Outcome.{gives};
 ghost use Rattle.model.specs.Bytes as Model;
-
-// The runner waits for a page, LR staying.
-pub fn wait_for_page(m: &mut [u8]) -> Answer
-    requires { ⌜ length (now m) ≡ 8192 ⌝ }
-    ensures { λ r. ⌜ gives r (now (m .exit)) ≡ Model.waitsForPage (now (m .entry)) ⌝ }
-{
-    wait(m, 245, 0)
-}
 
 // Page q is posted to processor n with flag f and l words of text behind a; where there is none, it comes back as a notice.
 fn post(m: &mut [u8], q: ControlPage, n: Name, f: u8, a: u16, l: u8)

@@ -1,21 +1,15 @@
 use borrow.Author.Needs.{needs}
 use Rattle.model.specs.Call as Call
-use Rattle.processors.proofs.Ways.{ways}
-use Rattle.kernel.proofs.Laws.{calls}
+use Rattle.kernel.proofs.Laws.{heads}
 use Rattle.kernel.proofs.instruction.Statement.{statement}
 use Rattle.kernel.proofs.instruction.Tie as tie
 
 pub instruction-spec : {M : Type 1} → statement M
 unfolding Call.instruction
 instruction-spec = tie.close (tie.spec
-    (λ c. search (needs, ways, calls))
     (λ c κs. search needs)
-    (λ c κs. search needs)
+    (λ c κs. search (needs, heads))
     (λ c. search needs)
-    (λ c. search (needs, ways, calls))
-    (λ c κs. search needs)
-    (λ c κs. search needs)
+    (λ c. search (needs, heads))
     (λ c. search needs)
-    (λ c. search (needs, ways, calls))
-    (λ c. search needs)
-    (λ c. search (needs, ways, calls)))
+    (λ c. search (needs, heads)))

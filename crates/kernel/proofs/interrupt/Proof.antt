@@ -1,16 +1,15 @@
 use borrow.Author.Needs.{needs}
 use Rattle.model.specs.Call as Call
-use Rattle.processors.proofs.Ways.{ways}
+use Rattle.kernel.proofs.Laws.{heads}
 use Rattle.kernel.proofs.interrupt.Statement.{statement}
 use Rattle.kernel.proofs.interrupt.Tie as tie
 
 pub interrupt-spec : {M : Type 1} → statement M
 unfolding Call.interrupt
 interrupt-spec = tie.close (tie.spec
-    (λ c. search (needs, ways))
     (λ c κs. search needs)
-    (λ c κs. search needs)
+    (λ c κs. search (needs, heads))
     (λ c. search needs)
-    (λ c. search (needs, ways))
+    (λ c. search (needs, heads))
     (λ c. search needs)
-    (λ c. search (needs, ways)))
+    (λ c. search (needs, heads)))

@@ -1,13 +1,12 @@
 use borrow.Author.Needs.{needs}
 use Rattle.model.specs.Call as Call
-use Rattle.processors.proofs.Ways.{ways}
+use Rattle.kernel.proofs.Laws.{heads}
 use Rattle.kernel.proofs.judge.Statement.{statement}
 use Rattle.kernel.proofs.judge.Tie as tie
 
 pub judge-spec : {M : Type 1} → statement M
 unfolding Call.judge
 judge-spec = tie.close (tie.spec
-    (λ c. search (needs, ways))
     (λ c κs. search needs)
-    (λ c. search (needs, ways))
-    (λ c. search (needs, ways)))
+    (λ c. search (needs, heads))
+    (λ c. search (needs, heads)))

@@ -1,17 +1,13 @@
 use borrow.Author.Needs.{needs}
 use Rattle.model.specs.Call as Call
-use Rattle.processors.proofs.Ways.{ways}
-use Rattle.kernel.proofs.Laws.{calls}
+use Rattle.kernel.proofs.Laws.{heads}
 use Rattle.kernel.proofs.read_registers.Statement.{statement}
 use Rattle.kernel.proofs.read_registers.Tie as tie
 
 pub read-registers-spec : {M : Type 1} → statement M
 unfolding Call.readRegisters
 read-registers-spec = tie.close (tie.spec
-    (λ c. search (needs, ways, calls))
     (λ c κs. search needs)
-    (λ c κs. search needs)
-    (λ c. search (needs, ways, calls))
-    (λ c κs. search needs)
-    (λ c. search (needs, ways, calls))
-    (λ c. search (needs, ways, calls)))
+    (λ c κs. search (needs, heads))
+    (λ c. search (needs, heads))
+    (λ c. search (needs, heads)))

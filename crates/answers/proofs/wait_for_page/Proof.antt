@@ -1,7 +1,7 @@
 use borrow.Author.Needs.{needs}
 use Rattle.model.specs.Operate as Operate
-use Rattle.sending.proofs.wait_for_page.Statement.{statement}
-use Rattle.sending.proofs.wait_for_page.Tie as tie
+use Rattle.answers.proofs.wait_for_page.Statement.{statement}
+use Rattle.answers.proofs.wait_for_page.Tie as tie
 
 returns : tie.Need-returns
 unfolding Operate.waitsForPage
