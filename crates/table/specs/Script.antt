@@ -63,13 +63,13 @@ module _ (S : Store) where
   -- whether a script runs as it says. To open it opens the whole machine
   unfoldable pub plays : Script → S .M → Bool
   unfolding
-      Call.isOuter Call.isClass Call.fresh Call.instruction Call.interruptJudged Call.interrupt Call.readRegisters Call.setJudged
+      Call.isOuter Call.isClass Call.refusal Call.head Call.fresh Call.instructionJudged Call.instruction Call.interruptJudged Call.interrupt Call.readJudged Call.readRegisters Call.setJudged
       Call.setRegisters Call.judge Address.guarded Address.clear Address.copy Address.zeroed Queue.first Queue.walk Queue.cellOf Queue.join
       Queue.leave Processor.isNamed Processor.stop Processor.start Processor.setLr Processor.advance Processor.registersOf
       Processor.setFlagsLr Processor.setRegistersOf Processor.handBack Processor.inRange Instruction.directCounted Instruction.directCreating
       Instruction.direct Instruction.pointedCreating Instruction.pointed Instruction.within Instruction.indexed Instruction.setCode Operate.cvi
       Operate.dvi Operate.gin
-      Operate.win Operate.posted Operate.waitsForPage Operate.sent Operate.smeText Operate.sme Operate.wnm Operate.received Operate.rme
+      Operate.win Operate.posted Operate.waitsForPage Operate.withPage Operate.sent Operate.smeText Operate.sme Operate.wnm Operate.received Operate.rme
       Operate.tmeQ1 Operate.tme Operate.st1 Operate.stp Operate.dep Operate.onPage Operate.named Operate.st2Found Operate.st2 Operate.headed
       Operate.created Operate.crpPage Operate.crp Operate.adds Operate.storesA Operate.ands Operate.increments Operate.worked Operate.returnTo
       Operate.reaches Operate.follows Operate.thirteen Wait.enqueue Wait.unqueue Wait.putToWait Wait.wake Wait.queued Wait.seat Wait.leaveWait
