@@ -51,6 +51,7 @@ pub mod Kinds
 pub mod Calls
 -- What the promises cite
 pub mod Refusals
+pub mod Numbers
 pub mod Frame
 pub mod Turns
 pub mod Four

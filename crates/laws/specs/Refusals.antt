@@ -63,7 +63,7 @@ kind-kept m k o (faulted f i j e) q = absurd (no (rw e at q))
   where
     no : answerOf (Model.fault m f) ≡ Refused k → ⊥
     no q = let z : _≡_ {A = ℕ} 0 1 = cc in omega arith
-kind-kept m k o (refused j l e) q = rw e
+kind-kept m k o (refused j l u e) q = rw e
 
 pub instruction-kept : (m : List ℕ) (k : ℕ) → Kept m k (instruction m)
 unfolding Call.instruction Call.instructionJudged
@@ -117,7 +117,7 @@ kind-fault m f n o (faulted j i l e) q = e ∙ ap (λ (x : ℕ). Model.fault m x
   where
     number : answerOf (Model.fault m j) ≡ Fault f n → j ≡ f
     number q = cc
-kind-fault m f n o (refused j l e) q = absurd (no (rw e at q))
+kind-fault m f n o (refused j l u e) q = absurd (no (rw e at q))
   where
     no : Refused j ≡ Fault f n → ⊥
     no q = let z : _≡_ {A = ℕ} 0 1 = cc in omega arith
@@ -177,7 +177,7 @@ kind-never m o (faulted f i j e) q = no (rw e at q)
   where
     no : answerOf (Model.fault m f) ≡ Refused 21 → ⊥
     no q = let z : _≡_ {A = ℕ} 0 1 = cc in omega arith
-kind-never m o (refused j l e) q = other-number m j l (rw e at q)
+kind-never m o (refused j l u e) q = other-number m j l (rw e at q)
 
 module _ {m : List ℕ} (h : Sound m) where
   size-is : eqb (length m) memorySize ≡ true

@@ -1,0 +1,183 @@
+-- Refusals and faults: "The answer gives its number". Every answer of every call, on any memory, has the paper's number and values, and these tell the case:
+-- from the numbers the answer can be had again. Assumes nothing.
+use mathlib.Core.Path.{_≡_, refl, sym, ap, _∙_}
+use mathlib.Core.Logic.{_≢_}
+use mathlib.Core.Bool.{Bool, true, false, cond}
+use mathlib.Core.List.{List, [], _∷_}
+use Prim.Native.Nat.{ℕ, _+_, _-_, _*_, _/_, _%_, _≤_, _<_}
+use native.Mathlib.Omega.{arith}
+use lib.ListN.{length, getD}
+use lib.Dec.{eqb}
+use borrow.Author.Tests.{ne-eqb, eqb-true, eqb-false}
+use Rattle.model.specs.declared.Registers.{Registers}
+use Rattle.model.specs.declared.Answer.{Answer}
+use Rattle.model.specs.declared.Answer.the-variants.{Done, Waits, HandedOut, Fault, Refused}
+use Rattle.model.specs.declared.Held.{Held}
+use Rattle.model.specs.declared.Held.the-variants as Held
+use Rattle.model.specs.declared.Verdict.{Verdict}
+use Rattle.model.specs.declared.Verdict.the-variants as Verdict
+use Rattle.model.specs.Map.{memorySize, lastFault, fiveBits}
+use Rattle.model.specs.Processor as Processor
+use Rattle.model.specs.Processor.{inRange}
+use Rattle.model.specs.Fault as Faults
+use Rattle.model.specs.Fresh.{startable}
+use Rattle.model.specs.Answer as Answer
+use Rattle.model.specs.Answer.{Outcome, answerOf, memoryOf, numbers, heldNumbers, verdictNumbers, doneNumber, waitsNumber, wrongLength, illFormed, outOfRange}
+use Rattle.model.specs.Answer.Outcome.{gives}
+use Rattle.model.specs.Call as Call
+use Rattle.model.specs.Call.{isOuter, isClass}
+use Rattle.model.specs.Bytes as Model
+use Rattle.model.specs.Bytes.{Step, fresh, instruction, interrupt, readRegisters, setRegisters, judge, judged, refusal, running, lr, registersOf}
+use Rattle.laws.specs.Words.{either}
+use Rattle.laws.specs.Judged.{WellFormed, invariant}
+use Rattle.laws.specs.Who.{running-at, running-in, state-at}
+use Rattle.laws.specs.Kinds.{Kind, fetched-kind}
+use Rattle.laws.specs.Kinds as Kinds
+
+-- ---- the answer that has these numbers
+unfoldable pub told : List ℕ → Answer
+told [] = Done
+told (k ∷ []) = cond (eqb k doneNumber) Done (cond (eqb k waitsNumber) Waits (Refused k))
+told (f ∷ n ∷ []) = Fault f n
+told (k ∷ p ∷ a ∷ ns) = HandedOut p a
+
+unfoldable pub toldVerdict : List ℕ → Verdict
+toldVerdict [] = Verdict.WellFormed
+toldVerdict (k ∷ ns) = cond (eqb k doneNumber) Verdict.WellFormed (Verdict.Refused k)
+
+-- of registers the paper has seven; the stopped bit is none of them
+unfoldable pub toldHeld : List ℕ → Held
+toldHeld ns =
+    cond (eqb (length ns) 1) (Held.Refused (getD ns 0 0))
+    (Held.Has (record {
+      a = getD ns 1 0;
+      s = getD ns 2 0;
+      p = getD ns 3 0;
+      z = getD ns 4 0;
+      ci = getD ns 5 0;
+      lr = getD ns 6 0;
+      w = getD ns 7 0;
+      stopped = 0;
+    }))
+
+-- ---- what an answer may be: faults 1-12, refusals 20-26
+abbrev pub firstRefusal : ℕ
+firstRefusal = wrongLength
+
+abbrev pub lastRefusal : ℕ
+lastRefusal = outOfRange
+
+pub data Proper : Answer → Type 0 where
+  done : Proper Done
+  waits : Proper Waits
+  handed : (p a : ℕ) → Proper (HandedOut p a)
+  fault : (f n : ℕ) → 1 ≤ f → f ≤ lastFault → Proper (Fault f n)
+  refused : (k : ℕ) → firstRefusal ≤ k → k ≤ lastRefusal → Proper (Refused k)
+
+pub proper-told : (a : Answer) → Proper a → told (numbers a) ≡ a
+unfolding told Answer.numbers
+proper-told _ done = refl
+proper-told _ waits = refl
+proper-told _ (handed p a) = refl
+proper-told _ (fault f n l u) = refl
+proper-told _ (refused k l u) = rw (ne-eqb k doneNumber (omega arith), ne-eqb k waitsNumber (omega arith))
+
+-- ---- the number of a refusal from the start: of the length, then of the judge
+abbrev number : Bool → Bool → ℕ
+number x y = cond x (cond y 0 illFormed) wrongLength
+
+refusal-low : (m : List ℕ) → refusal m ≢ 0 → (firstRefusal ≤ refusal m) × (refusal m ≤ lastRefusal)
+unfolding Call.refusal
+refusal-low m = go (eqb (length m) memorySize) (judged m)
+  where
+    go : (x y : Bool) → number x y ≢ 0 → (firstRefusal ≤ number x y) × (number x y ≤ lastRefusal)
+    go false y d = (omega arith, omega arith)
+    go true false d = (omega arith, omega arith)
+    go true true d = absurd (d refl)
+
+-- where nothing refuses, the memory is well-formed
+pub accepted : (m : List ℕ) → refusal m ≡ 0 → WellFormed m
+unfolding Call.refusal
+accepted m = go (eqb (length m) memorySize) (judged m) refl refl
+  where
+    go : (x y : Bool) → eqb (length m) memorySize ≡ x → judged m ≡ y → number x y ≡ 0 → WellFormed m
+    go false y e f z = absurd (omega arith)
+    go true false e f z = absurd (omega arith)
+    go true true e f z = record { size = eqb-true (length m) memorySize e; accepted = f }
+
+-- of any kind of answer: a refusal from the start has one of these numbers
+head-told : {A : Type 0} (P : Outcome A (List ℕ) → Type 0) (m : List ℕ) (refuses : ℕ → A) (o : Outcome A (List ℕ))
+    → ((k : ℕ) → firstRefusal ≤ k → k ≤ lastRefusal → P (gives (refuses k) m)) → P o → P (Model.head m refuses o)
+unfolding Call.head
+head-told P m refuses o h g = go (eqb (refusal m) 0) refl
+  where
+    go : (c : Bool) → eqb (refusal m) 0 ≡ c → P (cond c o (gives (refuses (refusal m)) m))
+    go true e = g
+    go false e = let t = refusal-low m (eqb-false (refusal m) 0 e) in h (refusal m) (t .0) (t .1)
+
+-- ---- every call answers so
+abbrev P : Step → Type 0
+P o = Proper (answerOf o)
+
+a-refusal : (m : List ℕ) (k : ℕ) → firstRefusal ≤ k → k ≤ lastRefusal → P (gives (Refused k) m)
+unfolding Answer.answerOf
+a-refusal m k l u = refused k l u
+
+a-done : (m : List ℕ) → P (gives Done m)
+unfolding Answer.answerOf
+a-done m = done
+
+kind-proper : (m : List ℕ) (o : Step) → Kind m o → P o
+unfolding Answer.answerOf Faults.fault
+kind-proper m o (Kinds.Kind.done e) = rw e done
+kind-proper m o (Kinds.Kind.waits e) = rw e waits
+kind-proper m o (Kinds.Kind.handed p a e) = rw e (handed p a)
+kind-proper m o (Kinds.Kind.faulted f l u e) = rw e (fault f (Model.name m (running m)) l u)
+kind-proper m o (Kinds.Kind.refused k l u e) = rw e (refused k (omega arith) u)
+
+pub instruction-proper : (m : List ℕ) → Proper (answerOf (instruction m))
+unfolding Call.instruction Call.instructionJudged
+instruction-proper m =
+    head-told P m Refused _ (a-refusal m) (either P (eqb (running m) 0) (a-refusal m 22 (omega arith) (omega arith))
+    (kind-proper m (Model.fetched m (lr m)) (fetched-kind m (lr m))))
+
+pub fresh-proper : (m : List ℕ) (line d : ℕ) → Proper (answerOf (fresh m line d))
+unfolding Call.fresh
+fresh-proper m line d =
+    either P (eqb (length m) memorySize) (either P (startable line d) (a-done (Model.started m line d)) (a-refusal m 26 (omega arith) (omega arith)))
+    (a-refusal m 20 (omega arith) (omega arith))
+
+pub interrupt-proper : (m : List ℕ) (k c : ℕ) → Proper (answerOf (interrupt m k c))
+unfolding Call.interrupt Call.interruptJudged
+interrupt-proper m k c =
+    head-told P m Refused _ (a-refusal m) (either P (isOuter k) (either P (isClass k c) (a-done (Model.whoRuns (Model.delivered m k c)))
+    (a-refusal m 25 (omega arith) (omega arith))) (a-refusal m 24 (omega arith) (omega arith)))
+
+pub set-proper : (m : List ℕ) (r : Registers) → Proper (answerOf (setRegisters m r))
+unfolding Call.setRegisters Call.setJudged
+set-proper m r =
+    head-told P m Refused _ (a-refusal m) (either P (eqb (running m) 0) (a-refusal m 22 (omega arith) (omega arith))
+    (either P (inRange r) (a-done (Model.setRegistersOf m (running m) r)) (a-refusal m 26 (omega arith) (omega arith))))
+
+pub judge-told : (m : List ℕ) → toldVerdict (verdictNumbers (answerOf (judge m))) ≡ answerOf (judge m)
+unfolding Call.judge Answer.answerOf Answer.verdictNumbers toldVerdict
+judge-told m =
+    head-told (λ o. toldVerdict (verdictNumbers (answerOf o)) ≡ answerOf o) m Verdict.Refused _ (λ k l u. rw (ne-eqb k doneNumber (omega arith))) refl
+
+-- the one that runs is not stopped
+run-ready : {m : List ℕ} → WellFormed m → running m ≢ 0 → registersOf m (running m) .stopped ≡ 0
+unfolding Processor.registersOf
+run-ready {m} w d =
+    let i = invariant w in
+    let b = i .base in
+    let n = rw (running-at b) at d in
+    omega (arith, i .best .ready n)
+
+pub read-told : (m : List ℕ) → toldHeld (heldNumbers (answerOf (readRegisters m))) ≡ answerOf (readRegisters m)
+unfolding Call.readRegisters Call.readJudged Call.head Answer.answerOf Answer.heldNumbers toldHeld Processor.registersOf
+read-told m = go (eqb (refusal m) 0) (eqb (running m) 0) refl refl
+  where
+    go : (x y : Bool) → eqb (refusal m) 0 ≡ x → eqb (running m) 0 ≡ y → toldHeld (heldNumbers (answerOf (readRegisters m))) ≡ answerOf (readRegisters m)
+    go false y e f = rw e
+    go true true e f = rw (e, f)
+    go true false e f = rw (e, f, run-ready (accepted m (eqb-true (refusal m) 0 e)) (eqb-false (running m) 0 f))
