@@ -10,8 +10,8 @@ use lib.ListN.{getD, set}
 use lib.Dec.{ltb}
 use borrow.Author.Tests.{ltb-true}
 use Rattle.model.specs.Map.{highLr, lowLr, memorySize, place, runningPage, state}
-use Rattle.model.specs.Bytes.{running, store, word}
-use Rattle.model.specs.Map.{lastFault}
+use Rattle.model.specs.Bytes.{name, running, store, word}
+use Rattle.model.specs.Map.{lastFault, pair}
 use Rattle.model.specs.Fault as Fault
 use Rattle.model.specs.Answer as Answer
 use Rattle.model.specs.Answer.{memoryOf}
@@ -137,13 +137,18 @@ module _ {m : List ℕ} {ps : List ℕ} {L : Lists} {W : View} (b : Base m ps L 
   unfolding Answer.jumps Answer.memoryOf
   jumps-fine a = well-formed (who-inv (lr-base b a) .1)
 
-  pub fault-fine : (f : ℕ) → W .low runningPage ≢ 0 → 1 ≤ f → f ≤ lastFault → Fine (fault m f)
-  unfolding Fault.fault Answer.memoryOf
-  fault-fine f n i j =
+  -- stopped and entered, before who runs
+  pub fault-base : (f : ℕ) → W .low runningPage ≢ 0 → 1 ≤ f → f ≤ lastFault
+      → (X : View) × Base (entered (stop m (running m)) (pair (name m (running m)) f)) ps L X [] 32
+  fault-base f n i j =
       let r = W .low runningPage in
       let h = running-in b n in
-      let t = entered-base (W .label r % 16 * 16 + f) (name-entry (W .label r) f (b .facts .names .range r h) i j) (stop-base b r h) in
-      rw (running-at b, label-at b r h) (well-formed (who-inv (t .1) .1))
+      rw (running-at b, label-at b r h)
+      (entered-base (W .label r % 16 * 16 + f) (name-entry (W .label r) f (b .facts .names .range r h) i j) (stop-base b r h))
+
+  pub fault-fine : (f : ℕ) → W .low runningPage ≢ 0 → 1 ≤ f → f ≤ lastFault → Fine (fault m f)
+  unfolding Fault.fault Answer.memoryOf
+  fault-fine f n i j = well-formed (who-inv (fault-base f n i j .1) .1)
 
   pub waits-fine : (a w : ℕ) → W .low runningPage ≢ 0 → 1 ≤ count (a + 1) (queues ps) → W .state (W .low runningPage) % 128 / 64 ≡ 0
       → Fit ps L W a (W .low runningPage) w

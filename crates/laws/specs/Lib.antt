@@ -52,6 +52,7 @@ pub mod Calls
 -- What the promises cite
 pub mod Refusals
 pub mod Numbers
+pub mod Faulty
 pub mod Frame
 pub mod Turns
 pub mod Four

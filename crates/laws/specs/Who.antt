@@ -332,6 +332,11 @@ module _ {m : List ℕ} {ps : List ℕ} {L : Lists} {W : View} {hs : List ℕ} {
             best = best-new t (tag t) (tag-zero t) (tag-of t) f;
           })
 
+  -- who is chosen is on the list
+  pub chosen-in : Model.chosen m ≢ 0 → 1 ≤ count (Model.chosen m) ps
+  unfolding Turn.chosen
+  chosen-in = rw (running-at, listed) (fits-best .listed)
+
   pub who-runs : Turned (whoRuns m)
   unfolding Turn.whoRuns Turn.chosen
   who-runs = rw (running-at, listed) (switched (fold (better m) (stays m r) ps) fits-best)

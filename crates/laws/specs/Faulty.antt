@@ -1,0 +1,148 @@
+-- Refusals and faults: "A fault sets the stopped bit, enters page 9, leaves LR; then who runs. The answer gives its number and the name." From the answer
+-- alone, on any memory of bytes: which memory a faulty instruction leaves, word for word. Assumes nothing.
+use mathlib.Core.Path.{_≡_, refl, sym, ap, _∙_}
+use mathlib.Core.Logic.{_≢_}
+use mathlib.Core.Bool.{Bool, true, false, cond}
+use mathlib.Core.List.{List, [], _∷_}
+use Prim.Native.Nat.{ℕ, _+_, _-_, _*_, _/_, _%_, _≤_, _<_}
+use native.Mathlib.Omega.{arith}
+use lib.ListN.{length, getD, set}
+use lib.Dec.{eqb, ltb}
+use borrow.Author.Tests.{eqb-true, eqb-false}
+use Rattle.model.specs.declared.Answer.{Answer}
+use Rattle.model.specs.declared.Answer.the-variants.{Done, Waits, HandedOut, Fault, Refused}
+use Rattle.model.specs.Map.{memorySize, place, pair, state, stopSet, firstUnused, entryAt, entriesFull, lastFault, processorList, runningPage}
+use Rattle.model.specs.Processor as Processor
+use Rattle.model.specs.Fault as Faults
+use Rattle.model.specs.Answer as Answer
+use Rattle.model.specs.Answer.{answerOf, memoryOf, numbers}
+use Rattle.model.specs.Answer.Outcome.{gives}
+use Rattle.model.specs.Call as Call
+use Rattle.model.specs.Bytes as Model
+use Rattle.model.specs.Bytes.{lists, instruction, refusal, running, name, at, word, write, store, whoRuns, chosen}
+use Rattle.laws.specs.Chain.{Page}
+use Rattle.laws.specs.Uses.{proc-page}
+use Rattle.laws.specs.Inv.{View, view, Base}
+use Rattle.laws.specs.Frames.{other}
+use Rattle.laws.specs.Words.{either}
+use Rattle.laws.specs.Judged.{WellFormed, invariant}
+use Rattle.laws.specs.Who.{running-at, running-in, chosen-in}
+use Rattle.laws.specs.Ends.{run-page, fault-base}
+use Rattle.laws.specs.Turns.{Turned, who-turns}
+use Rattle.laws.specs.Refusals.{instruction-faults}
+use Rattle.laws.specs.Numbers as Numbers
+use Rattle.laws.specs.Numbers.{Proper, told, proper-told, instruction-proper, accepted}
+
+-- ---- the memory with the processor that runs stopped, and with fault f of name n entered while page 9 has room
+abbrev pub halted : List ℕ → List ℕ
+halted m = store m (running m) state (stopSet (word m (running m) state))
+
+abbrev pub recorded : List ℕ → ℕ → ℕ → List ℕ
+recorded m f n =
+    cond (ltb (at m firstUnused) entriesFull)
+    (write (write (halted m) (entryAt (at m firstUnused)) (pair n f)) firstUnused (at m firstUnused + 1))
+    (halted m)
+
+-- ---- from m to m′ by fault f of name n
+pub record Faulted (m : List ℕ) (f n : ℕ) (m′ : List ℕ) : Type 0 where
+  -- the one that ran
+  pub named : n ≡ name m (running m)
+  pub low : 1 ≤ f
+  pub high : f ≤ lastFault
+  -- stopped, entered, then who runs
+  pub memory : m′ ≡ whoRuns (recorded m f n)
+  -- so: the same memory, if it is the running one that is chosen; else another, or nobody, runs, and every word is as that says
+  pub stays : running m ≡ chosen (recorded m f n) → m′ ≡ recorded m f n
+  pub turns : running m ≢ chosen (recorded m f n) → Turned (recorded m f n) m′ (running m) (chosen (recorded m f n))
+
+-- ---- what the answer tells
+fault-of : (a : Answer) (f n : ℕ) → Proper a → numbers a ≡ f ∷ n ∷ [] → a ≡ Fault f n
+unfolding told
+fault-of a f n p e = sym (proper-told a p) ∙ ap told e
+
+range-of : (a : Answer) (f n : ℕ) → Proper a → a ≡ Fault f n → (1 ≤ f) × (f ≤ lastFault)
+range-of _ f n Proper.done e = let z : _≡_ {A = ℕ} 0 1 = cc in absurd (omega arith)
+range-of _ f n Proper.waits e = let z : _≡_ {A = ℕ} 0 1 = cc in absurd (omega arith)
+range-of _ f n (Proper.handed p a) e = let z : _≡_ {A = ℕ} 0 1 = cc in absurd (omega arith)
+range-of _ f n (Proper.fault g k l u) e = let z : g ≡ f = cc in (omega arith, omega arith)
+range-of _ f n (Proper.refused k l u) e = let z : _≡_ {A = ℕ} 0 1 = cc in absurd (omega arith)
+
+not-refused : (k f n : ℕ) → Refused k ≡ Fault f n → ⊥
+not-refused k f n e = let z : _≡_ {A = ℕ} 0 1 = cc in omega arith
+
+fault-open : (m : List ℕ) (f n : ℕ) → answerOf (instruction m) ≡ Fault f n → (refusal m ≡ 0) × (running m ≢ 0)
+unfolding Call.instruction Call.instructionJudged Call.head Answer.answerOf
+fault-open m f n = go (eqb (refusal m) 0) (eqb (running m) 0) refl refl
+  where
+    go : (x y : Bool) → eqb (refusal m) 0 ≡ x → eqb (running m) 0 ≡ y → answerOf (instruction m) ≡ Fault f n → (refusal m ≡ 0) × (running m ≢ 0)
+    go false y e g h = absurd (not-refused (refusal m) f n (rw e at h))
+    go true true e g h = absurd (not-refused 22 f n (rw (e, g) at h))
+    go true false e g h = (eqb-true (refusal m) 0 e, eqb-false (running m) 0 g)
+
+name-of : (m : List ℕ) (f n : ℕ) → answerOf (Model.fault m f) ≡ Fault f n → n ≡ name m (running m)
+unfolding Faults.fault Answer.answerOf
+name-of m f n e = cc
+
+-- ---- the theorem
+module _ (m : List ℕ) (f n : ℕ) (e : numbers (answerOf (instruction m)) ≡ f ∷ n ∷ []) where
+  is : answerOf (instruction m) ≡ Fault f n
+  is = fault-of (answerOf (instruction m)) f n (instruction-proper m) e
+
+  range : (1 ≤ f) × (f ≤ lastFault)
+  range = range-of (answerOf (instruction m)) f n (instruction-proper m) is
+
+  w : WellFormed m
+  w = accepted m (fault-open m f n is .0)
+
+  step : instruction m ≡ Model.fault m f
+  step = instruction-faults m f n is
+
+  by : n ≡ name m (running m)
+  by = name-of m f n (sym (ap (λ (o : Model.Step). answerOf o) step) ∙ is)
+
+  b : Base m (lists m processorList) (lists m) (view m) [] 32
+  b = invariant w .base
+
+  runs : running m ≢ 0
+  runs = fault-open m f n is .1
+
+  page : Page (running m)
+  page = run-page b runs
+
+  next-same : at (halted m) firstUnused ≡ at m firstUnused
+  next-same = other m (place (running m) state) (stopSet (word m (running m) state)) firstUnused (omega (arith, page))
+
+  recorded-is : Model.entered (Model.stop m (running m)) (pair (name m (running m)) f) ≡ recorded m f n
+  unfolding Faults.entered Processor.stop
+  recorded-is = rw (next-same, ← by)
+
+  memory-is : memoryOf (instruction m) ≡ whoRuns (recorded m f n)
+  unfolding Faults.fault Answer.memoryOf
+  memory-is = ap (λ (o : Model.Step). memoryOf o) step ∙ ap whoRuns recorded-is
+
+  after : (X : View) × Base (recorded m f n) (lists m processorList) (lists m) X [] 32
+  after = rw recorded-is at (fault-base b f runs (range .0) (range .1))
+
+  run-same : running (recorded m f n) ≡ running m
+  run-same =
+      let h = other m (place (running m) state) (stopSet (word m (running m) state)) runningPage (omega (arith, page)) in
+      either (λ (x : List ℕ). running x ≡ running m) (ltb (at m firstUnused) entriesFull)
+      (other (set (halted m) (entryAt (at m firstUnused)) (pair n f)) firstUnused (at m firstUnused + 1) runningPage (omega arith)
+      ∙ other (halted m) (entryAt (at m firstUnused)) (pair n f) runningPage (omega arith) ∙ h) h
+
+  turn : (running (recorded m f n) ≡ chosen (recorded m f n) → whoRuns (recorded m f n) ≡ recorded m f n)
+      × (running (recorded m f n) ≢ chosen (recorded m f n)
+      → Turned (recorded m f n) (whoRuns (recorded m f n)) (running (recorded m f n)) (chosen (recorded m f n)))
+  turn =
+      let c = after .1 in
+      who-turns (recorded m f n) (c .mem .size) (run-page c) (λ d. proc-page (c .facts .sep) (chosen (recorded m f n)) (chosen-in c d))
+
+  pub faulted : Faulted m f n (memoryOf (instruction m))
+  faulted = record {
+    named = by;
+    low = range .0;
+    high = range .1;
+    memory = memory-is;
+    stays = λ q. memory-is ∙ turn .0 (run-same ∙ q);
+    turns = λ d. rw memory-is (rw run-same at (turn .1 (λ q. d (sym run-same ∙ q))));
+  }
