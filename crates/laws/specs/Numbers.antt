@@ -8,7 +8,7 @@ use Prim.Native.Nat.{ℕ, _+_, _-_, _*_, _/_, _%_, _≤_, _<_}
 use native.Mathlib.Omega.{arith}
 use lib.ListN.{length, getD}
 use lib.Dec.{eqb}
-use borrow.Author.Tests.{ne-eqb, eqb-true, eqb-false}
+use borrow.Author.Tests.{eq-eqb, ne-eqb, eqb-true, eqb-false}
 use Rattle.model.specs.declared.Registers.{Registers}
 use Rattle.model.specs.declared.Answer.{Answer}
 use Rattle.model.specs.declared.Answer.the-variants.{Done, Waits, HandedOut, Fault, Refused}
@@ -22,7 +22,7 @@ use Rattle.model.specs.Processor.{inRange}
 use Rattle.model.specs.Fault as Faults
 use Rattle.model.specs.Fresh.{startable}
 use Rattle.model.specs.Answer as Answer
-use Rattle.model.specs.Answer.{Outcome, answerOf, memoryOf, numbers, heldNumbers, verdictNumbers, doneNumber, waitsNumber, wrongLength, illFormed, outOfRange}
+use Rattle.model.specs.Answer.{Outcome, answerOf, memoryOf, numbers, heldNumbers, verdictNumbers, doneNumber, waitsNumber, handedOutNumber, wrongLength, illFormed, outOfRange}
 use Rattle.model.specs.Answer.Outcome.{gives}
 use Rattle.model.specs.Call as Call
 use Rattle.model.specs.Call.{isOuter, isClass}
@@ -181,3 +181,68 @@ read-told m = go (eqb (refusal m) 0) (eqb (running m) 0) refl refl
     go false y e f = rw e
     go true true e f = rw (e, f)
     go true false e f = rw (e, f, run-ready (accepted m (eqb-true (refusal m) 0 e)) (eqb-false (running m) 0 f))
+
+-- ---- refusals and own codes by their numbers
+pub refused-of : (a : Answer) → Proper a → (k : ℕ) → firstRefusal ≤ k → k ≤ lastRefusal → numbers a ≡ k ∷ [] → a ≡ Refused k
+unfolding told
+refused-of a p k l u e = sym (proper-told a p) ∙ ap told e ∙ rw (ne-eqb k doneNumber (omega arith), ne-eqb k waitsNumber (omega arith))
+
+pub handed-of : (a : Answer) → Proper a → (p b : ℕ) → numbers a ≡ handedOutNumber ∷ p ∷ b ∷ [] → a ≡ HandedOut p b
+unfolding told
+handed-of a h p b e = sym (proper-told a h) ∙ ap told e
+
+-- a call refuses with k: the answer has that number alone, and the memory is m
+abbrev pub Refuses : {A : Type 0} → (A → List ℕ) → Outcome A (List ℕ) → ℕ → List ℕ → Type 0
+Refuses ns o k m = (ns (answerOf o) ≡ k ∷ []) × (memoryOf o ≡ m)
+
+head-refuses : {A : Type 0} (ns : A → List ℕ) (no : ℕ → A) → ((k : ℕ) → ns (no k) ≡ k ∷ []) → (m : List ℕ) (o : Outcome A (List ℕ)) (k : ℕ)
+    → refusal m ≡ k → k ≢ 0 → Refuses ns (Model.head m no o) k m
+unfolding Call.head Answer.answerOf Answer.memoryOf
+head-refuses ns refuses h m o k e d = rw (e, ne-eqb k 0 d) (h k, refl)
+
+plain : (k : ℕ) → numbers (Refused k) ≡ k ∷ []
+unfolding Answer.numbers
+plain k = refl
+
+held : (k : ℕ) → heldNumbers (Held.Refused k) ≡ k ∷ []
+unfolding Answer.heldNumbers
+held k = refl
+
+verdict : (k : ℕ) → verdictNumbers (Verdict.Refused k) ≡ k ∷ []
+unfolding Answer.verdictNumbers
+verdict k = refl
+
+-- every call but fresh refuses what is refused from the start
+pub record RefuseAll (m : List ℕ) (k : ℕ) : Type 0 where
+  pub instruction : Refuses numbers (instruction m) k m
+  pub interrupt : (n c : ℕ) → Refuses numbers (interrupt m n c) k m
+  pub set : (r : Registers) → Refuses numbers (setRegisters m r) k m
+  pub read : Refuses heldNumbers (readRegisters m) k m
+  pub judge : Refuses verdictNumbers (judge m) k m
+
+all-refuse : (m : List ℕ) (k : ℕ) → refusal m ≡ k → k ≢ 0 → RefuseAll m k
+unfolding Call.instruction Call.interrupt Call.setRegisters Call.readRegisters Call.judge
+all-refuse m k e d = record {
+  instruction = head-refuses numbers Refused plain m _ k e d;
+  interrupt = λ n c. head-refuses numbers Refused plain m _ k e d;
+  set = λ r. head-refuses numbers Refused plain m _ k e d;
+  read = head-refuses heldNumbers Held.Refused held m _ k e d;
+  judge = head-refuses verdictNumbers Verdict.Refused verdict m _ k e d;
+}
+
+pub length-refused : (m : List ℕ) → length m ≢ memorySize → RefuseAll m wrongLength
+unfolding Call.refusal
+length-refused m d = all-refuse m wrongLength (rw (ne-eqb (length m) memorySize d)) (omega arith)
+
+pub fresh-length : (m : List ℕ) → length m ≢ memorySize → (line d : ℕ) → Refuses numbers (fresh m line d) wrongLength m
+unfolding Call.fresh Answer.answerOf Answer.memoryOf
+fresh-length m d line e = rw (ne-eqb (length m) memorySize d) (plain wrongLength, refl)
+
+pub broken-refused : (m : List ℕ) → length m ≡ memorySize → judged m ≡ false → RefuseAll m illFormed
+unfolding Call.refusal
+broken-refused m l j = all-refuse m illFormed (rw (eq-eqb (length m) memorySize l, j)) (omega arith)
+
+-- fresh takes any memory of 8,192 words
+pub fresh-takes : (m : List ℕ) → length m ≡ memorySize → (line d : ℕ) → startable line d ≡ true → numbers (answerOf (fresh m line d)) ≡ doneNumber ∷ []
+unfolding Call.fresh Answer.answerOf Answer.numbers
+fresh-takes m l line d s = rw (eq-eqb (length m) memorySize l, s)
