@@ -23,6 +23,7 @@ use Rattle.laws.specs.Uses.{Head, list-short}
 use Rattle.laws.specs.Places.{in-q, in-procs, q-free, grant-low}
 use Rattle.laws.specs.Inv.{View, Base, Message}
 use Rattle.laws.specs.Mails.{mail-chain, mail-queue}
+use Rattle.history.specs.Order.{only}
 
 -- ---- a message: a notice, or mail
 pub record Letter : Type 0 where
@@ -44,6 +45,10 @@ mailOf m q = record { notice = isNotice m q; sender = sender m q; flag = flag m 
 -- of sender s with flag f
 unfoldable pub key : ℕ → ℕ → Letter → Bool
 key s f x = eqb s (x .sender) && eqb f (x .flag)
+
+-- those of one sender and flag, in their order
+abbrev pub ofSenderAndFlag : ℕ → ℕ → List Letter → List Letter
+ofSenderAndFlag s f = only (key s f)
 
 -- what waits for the processor of page p, Q2 then Q1
 unfoldable pub waitingFor : List ℕ → ℕ → List Letter

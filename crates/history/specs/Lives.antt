@@ -33,7 +33,10 @@ pub record Past : Type 0 where
 abbrev pub noneYet : Past
 noneYet = record { put = λ p. []; read = λ p. [] }
 
--- p is on the processor list
+-- the processor of page p lives: it is on the processor list
+abbrev pub Living : List ℕ → ℕ → Type 0
+Living m p = 1 ≤ count p (processors m)
+
 unfoldable pub lives : List ℕ → ℕ → Bool
 lives m p = leb 1 (count p (processors m))
 

@@ -1,18 +1,19 @@
 -- Well-formed: "every control page is used once": as a processor, as a free page, as a message in one queue, or as a grant. Said by counting in the lists
 -- of each use. Assumes nothing.
 use mathlib.Core.Path.{_≡_, refl, ap, _∙_}
+use mathlib.Core.Logic.{_⊎_, inl, inr}
 use mathlib.Core.List.{List, [], _∷_, _++_}
-use Prim.Native.Nat.{ℕ, zero, suc, _+_, _-_, _*_, _≤_}
+use Prim.Native.Nat.{ℕ, zero, suc, _+_, _-_, _*_, _≤_, _<_}
 use native.Mathlib.Omega.{arith}
 use lib.ListN.{getD}
-use Rattle.model.specs.Map.{firstControl, grantFor}
+use Rattle.model.specs.Map.{firstControl, lastControl, grantFor}
 use Rattle.model.specs.Map.{place, q1, q2, freeList, grants, pageSize}
 use Rattle.model.specs.Lists as Model
 use Rattle.model.specs.Lists.{count, Lists, sum, range, some, mails}
 use Rattle.model.specs.Bytes.{processors, queue}
 use Rattle.laws.specs.Count.{hit-self, count-append}
 use Rattle.laws.specs.Chain.{walk-chain}
-use Rattle.laws.specs.Heads.{one, page-one, sum-append}
+use Rattle.laws.specs.Heads.{one, one-page, page-one, sum-append}
 use Rattle.laws.specs.Uses.{list-short}
 use Rattle.laws.specs.Places.{in-free, grant-low}
 use Rattle.laws.specs.Inv.{View, Base}
@@ -90,3 +91,12 @@ module _ {m : List ℕ} {ps : List ℕ} {L : Lists} {W : View} {g : ℕ} (b : Ba
 -- each control page has exactly one of the four uses
 pub used-once : {m : List ℕ} → Sound m → (z : ℕ) → firstControl ≤ z → z ≤ 255 → asProcessor m z + asFree m z + asMessage m z + asGrant m z ≡ 1
 used-once h z l u = four (invariant (well h) .base) z ∙ page-one z (l, omega arith)
+
+-- no other number is a page of any list
+pub used-never : {m : List ℕ} → Sound m → (z : ℕ) → (z < firstControl) ⊎ (lastControl < z) → asProcessor m z + asFree m z + asMessage m z + asGrant m z ≡ 0
+used-never h z o = four (invariant (well h) .base) z ∙ none (one z) refl o
+  where
+    none : (n : ℕ) → one z ≡ n → (z < firstControl) ⊎ (lastControl < z) → n ≡ 0
+    none zero e q = refl
+    none (suc n) e (inl q) = let p = one-page z (omega arith) in absurd (omega (arith, p))
+    none (suc n) e (inr q) = let p = one-page z (omega arith) in absurd (omega (arith, p))

@@ -33,6 +33,8 @@ use Rattle.laws.specs.Judged.{WellFormed, invariant}
 use Rattle.laws.specs.Who.{running-at, running-in, state-at}
 use Rattle.laws.specs.Kinds.{Kind, fetched-kind}
 use Rattle.laws.specs.Kinds as Kinds
+use Rattle.laws.specs.Calls.{Sound}
+use Rattle.laws.specs.Refusals.{instruction-never, interrupt-never, set-never, read-never, judge-accepts}
 
 -- ---- the answer that has these numbers
 unfoldable pub told : List ℕ → Answer
@@ -246,3 +248,25 @@ broken-refused m l j = all-refuse m illFormed (rw (eq-eqb (length m) memorySize 
 pub fresh-takes : (m : List ℕ) → length m ≡ memorySize → (line d : ℕ) → startable line d ≡ true → numbers (answerOf (fresh m line d)) ≡ doneNumber ∷ []
 unfolding Call.fresh Answer.answerOf Answer.numbers
 fresh-takes m l line d s = rw (eq-eqb (length m) memorySize l, s)
+
+-- ---- a well-formed memory is not refused with 21
+module _ {m : List ℕ} (h : Sound m) where
+  never : (a : Answer) → Proper a → a ≢ Refused illFormed → numbers a ≢ illFormed ∷ []
+  never a p d e = d (refused-of a p illFormed (omega arith) (omega arith) e)
+
+  pub instruction-not : numbers (answerOf (instruction m)) ≢ illFormed ∷ []
+  instruction-not = never (answerOf (instruction m)) (instruction-proper m) (instruction-never h)
+
+  pub interrupt-not : (k c : ℕ) → numbers (answerOf (interrupt m k c)) ≢ illFormed ∷ []
+  interrupt-not k c = never (answerOf (interrupt m k c)) (interrupt-proper m k c) (interrupt-never h k c)
+
+  pub set-not : (r : Registers) → numbers (answerOf (setRegisters m r)) ≢ illFormed ∷ []
+  set-not r = never (answerOf (setRegisters m r)) (set-proper m r) (set-never h r)
+
+  pub read-not : heldNumbers (answerOf (readRegisters m)) ≢ illFormed ∷ []
+  unfolding toldHeld
+  read-not e = read-never h (sym (read-told m) ∙ ap toldHeld e)
+
+  pub judge-yes : verdictNumbers (answerOf (judge m)) ≡ doneNumber ∷ []
+  unfolding Answer.verdictNumbers
+  judge-yes = rw (judge-accepts h)

@@ -128,6 +128,37 @@ instruction-faults m f n =
     head-each (Faulted m f n) m Refused _ (not-fault m f n) (either (Faulted m f n) (eqb (running m) 0) (not-fault m f n 22)
     (kind-fault m f n (Model.fetched m (lr m)) (fetched-kind m (lr m))))
 
+-- ---- an own code handed out leaves the memory
+abbrev pub Hands : List ℕ → ℕ → ℕ → Step → Type 0
+Hands m p a o = answerOf o ≡ HandedOut p a → memoryOf o ≡ m
+
+not-handed : (m : List ℕ) (p a k : ℕ) → Hands m p a (Model.refused m k)
+unfolding Answer.memoryOf
+not-handed m p a k q = refl
+
+kind-hands : (m : List ℕ) (p a : ℕ) (o : Step) → Kind m o → Hands m p a o
+unfolding Answer.answerOf Answer.memoryOf Faults.fault
+kind-hands m p a o (done e) q = absurd (no (sym e ∙ q))
+  where
+    no : Done ≡ HandedOut p a → ⊥
+    no q = let z : _≡_ {A = ℕ} 0 1 = cc in omega arith
+kind-hands m p a o (waits e) q = absurd (no (sym e ∙ q))
+  where
+    no : Waits ≡ HandedOut p a → ⊥
+    no q = let z : _≡_ {A = ℕ} 0 1 = cc in omega arith
+kind-hands m p a o (handed b c e) q = rw e
+kind-hands m p a o (faulted f i j e) q = absurd (no (rw e at q))
+  where
+    no : answerOf (Model.fault m f) ≡ HandedOut p a → ⊥
+    no q = let z : _≡_ {A = ℕ} 0 1 = cc in omega arith
+kind-hands m p a o (refused j l u e) q = rw e
+
+pub instruction-hands : (m : List ℕ) (p a : ℕ) → Hands m p a (instruction m)
+unfolding Call.instruction Call.instructionJudged
+instruction-hands m p a =
+    head-each (Hands m p a) m Refused _ (not-handed m p a) (either (Hands m p a) (eqb (running m) 0) (not-handed m p a 22)
+    (kind-hands m p a (Model.fetched m (lr m)) (fetched-kind m (lr m))))
+
 -- reading and judging never write
 pub read-kept : (m : List ℕ) → memoryOf (readRegisters m) ≡ m
 unfolding Call.readRegisters Call.readJudged Answer.memoryOf

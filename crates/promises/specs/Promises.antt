@@ -1,158 +1,119 @@
--- What the kernel promises, on one page. A memory is a list of 8,192 words of 8 bits; `Sound m` says that it is one and that the judge accepts it;
--- `Reached m` that it comes from a fresh start by any calls, and any changes of page 0 and of unprotected words by the host between them.
--- Each statement is followed by its proof in the laws. Assumes nothing.
+-- What the kernel promises of its calls, on one page. A memory is a list of words; `Small m` says that each is below 256, as every word of a lent slice is;
+-- `Sound m` that there are 8,192 of them and that the judge accepts them; `Reached m` that m comes from a fresh start by any calls, and any changes of page 0
+-- and of unprotected words by the host between them (laws/specs/Calls.antt). An answer is spoken of by document 01's numbers, `numbers`, `heldNumbers` and
+-- `verdictNumbers` (model/specs/Answer.antt). Each statement is followed by its proof in the laws. Assumes nothing.
 use mathlib.Core.Path.{_≡_}
-use mathlib.Core.Logic.{_≢_}
-use mathlib.Core.Bool.{true}
-use mathlib.Core.List.{List, [], _∷_, _++_}
+use mathlib.Core.Logic.{_≢_, _⊎_}
+use mathlib.Core.Bool.{true, false}
+use mathlib.Core.List.{List, [], _∷_}
 use Prim.Native.Nat.{ℕ, _+_, _≤_, _<_}
-use native.Mathlib.Omega.{arith}
 use lib.ListN.{length}
 use Rattle.model.specs.declared.Registers.{Registers}
-use Rattle.model.specs.declared.Answer.the-variants.{Fault, Refused}
-use Rattle.model.specs.declared.Held.the-variants as Held
-use Rattle.model.specs.declared.Verdict.the-variants as Verdict
-use Rattle.model.specs.Map.{place, pair, state, q1, ownQueue, freeList, pageQueue, processorList, firstUnused, entryAt, entriesFull, stopSet, waitIn}
+use Rattle.model.specs.Map.{memorySize, firstControl, lastControl}
 use Rattle.model.specs.Fresh.{startable}
-use Rattle.model.specs.Answer.{answerOf, memoryOf}
-use Rattle.model.specs.Lists.{count, Lists, uses, queues}
-use Rattle.model.specs.Bytes.{lists, judged, fresh, instruction, interrupt, setRegisters, readRegisters, judge, fault, running, name, at, word, join, leave}
-use Rattle.model.specs.Bytes.{giveBack, deliver, putToWait, wake}
-use Rattle.laws.specs.Chain.{Page}
-use Rattle.laws.specs.Uses.{Head, proc-page}
-use Rattle.laws.specs.Places.{InUses}
-use Rattle.laws.specs.Inv.{View, view, Message, Base, Inv}
-use Rattle.laws.specs.Accepted.{judge-inv}
-use Rattle.laws.specs.Judged.{inv-judge, invariant}
+use Rattle.model.specs.Answer.{answerOf, memoryOf, numbers, heldNumbers, verdictNumbers, doneNumber, handedOutNumber, wrongLength, illFormed}
+use Rattle.model.specs.Bytes.{judged, fresh, instruction, interrupt, setRegisters, readRegisters, judge, running}
 use Rattle.laws.specs.Words.{Small}
-use Rattle.laws.specs.Who.{running-in}
-use Rattle.laws.specs.Waits.{Fit}
-use Rattle.laws.specs.Calls.{Sound, well, Host, Reached, fresh-starts, fresh-sound, instruction-sound, interrupt-sound, set-sound, host-sound, reached-sound}
-use Rattle.laws.specs.Refusals.{instruction-kept, fresh-kept, interrupt-kept, set-kept, read-kept, judge-kept, instruction-faults}
-use Rattle.laws.specs.Refusals.{instruction-never, fresh-never, interrupt-never, set-never, read-never, judge-accepts}
-use Rattle.laws.specs.Four.{asProcessor, asFree, asMessage, asGrant, used-once}
-use Rattle.laws.specs.Frame.{Unmoved, fault-answer, fault-frame, fault-full, fault-stops, fault-enters}
-use Rattle.laws.specs.Witness.{example, example-reached, example-runs, InHand, InHandMessage, InHandAsked, example-hand, example-message, example-asked}
-use Rattle.laws.specs.Meaning.{Becomes, join-appends, leave-takes, give-frees, Grants, give-grants, deliver-appends, wait-appends, wake-takes}
+use Rattle.laws.specs.Calls.{Sound, Host, Reached, fresh-starts, fresh-sound, instruction-sound, interrupt-sound, set-sound, host-sound, reached-sound}
+use Rattle.laws.specs.Numbers as Numbers
+use Rattle.laws.specs.Numbers.{told, toldHeld, toldVerdict, proper-told, instruction-proper, fresh-proper, interrupt-proper, set-proper, firstRefusal, lastRefusal}
+use Rattle.laws.specs.Numbers.{Refuses, RefuseAll, refused-of, handed-of}
+use Rattle.laws.specs.Refusals.{instruction-kept, fresh-kept, interrupt-kept, set-kept, read-kept, judge-kept, instruction-hands}
+use Rattle.laws.specs.Faulty.{Faulted, faulted}
+use Rattle.laws.specs.Four.{asProcessor, asFree, asMessage, asGrant, used-once, used-never}
+use Rattle.laws.specs.Witness.{example, example-reached, example-runs}
 
--- ---- the judge accepts a memory exactly where the lists fit together
-pub judge-says : (m : List ℕ) → length m ≡ 8192 → judged m ≡ true → Inv m (lists m processorList) (lists m) (view m)
-judge-says = judge-inv
+-- ---- the numbers tell the answer: from them it can be had again, of every call, on any memory
+pub the-numbers-tell : (m : List ℕ) (line d k c : ℕ) (r : Registers) → (told (numbers (answerOf (instruction m))) ≡ answerOf (instruction m))
+    × (told (numbers (answerOf (interrupt m k c))) ≡ answerOf (interrupt m k c))
+    × (told (numbers (answerOf (setRegisters m r))) ≡ answerOf (setRegisters m r))
+    × (told (numbers (answerOf (fresh m line d))) ≡ answerOf (fresh m line d))
+    × (toldHeld (heldNumbers (answerOf (readRegisters m))) ≡ answerOf (readRegisters m))
+    × (toldVerdict (verdictNumbers (answerOf (judge m))) ≡ answerOf (judge m))
+the-numbers-tell m line d k c r = (
+  proper-told (answerOf (instruction m)) (instruction-proper m),
+  proper-told (answerOf (interrupt m k c)) (interrupt-proper m k c),
+  proper-told (answerOf (setRegisters m r)) (set-proper m r),
+  proper-told (answerOf (fresh m line d)) (fresh-proper m line d),
+  Numbers.read-told m,
+  Numbers.judge-told m,
+)
 
-pub judge-must : {m : List ℕ} {ps : List ℕ} {L : Lists} {W : View} → Inv m ps L W → judged m ≡ true
-judge-must = inv-judge
+-- ---- a memory of the wrong length is refused with 20 by every call, a broken one with 21 by every call but fresh; it comes back untouched
+pub wrong-length-refused : (m : List ℕ) → length m ≢ memorySize → RefuseAll m wrongLength × ((line d : ℕ) → Refuses numbers (fresh m line d) wrongLength m)
+wrong-length-refused m n = (Numbers.length-refused m n, Numbers.fresh-length m n)
 
--- ---- a fresh start gives a well-formed memory, whatever was there; every call, and the host, leave one well-formed
-pub fresh-well-formed : {m : List ℕ} → length m ≡ 8192 → Small m → (line d : ℕ) → startable line d ≡ true → Sound (memoryOf (fresh m line d))
-fresh-well-formed = fresh-starts
+pub broken-refused : (m : List ℕ) → length m ≡ memorySize → judged m ≡ false → RefuseAll m illFormed
+broken-refused = Numbers.broken-refused
 
-pub instruction-keeps : {m : List ℕ} → Sound m → Sound (memoryOf (instruction m))
-instruction-keeps = instruction-sound
+-- fresh takes it, whatever it holds
+pub fresh-takes-any : (m : List ℕ) → length m ≡ memorySize → (line d : ℕ) → startable line d ≡ true → numbers (answerOf (fresh m line d)) ≡ doneNumber ∷ []
+fresh-takes-any = Numbers.fresh-takes
 
-pub interrupt-keeps : {m : List ℕ} → Sound m → (k c : ℕ) → Sound (memoryOf (interrupt m k c))
-interrupt-keeps = interrupt-sound
-
-pub set-keeps : {m : List ℕ} → Sound m → (r : Registers) → Sound (memoryOf (setRegisters m r))
-set-keeps = set-sound
-
-pub fresh-keeps : {m : List ℕ} → Sound m → (line d : ℕ) → Sound (memoryOf (fresh m line d))
-fresh-keeps = fresh-sound
+-- ---- "Refusals leave all memory untouched": each call, each number, any memory; reading and judging never write
+pub refusal-keeps : (m : List ℕ) (line d n c : ℕ) (r : Registers) (k : ℕ) → firstRefusal ≤ k → k ≤ lastRefusal
+    → (numbers (answerOf (instruction m)) ≡ k ∷ [] → memoryOf (instruction m) ≡ m)
+    × (numbers (answerOf (interrupt m n c)) ≡ k ∷ [] → memoryOf (interrupt m n c) ≡ m)
+    × (numbers (answerOf (setRegisters m r)) ≡ k ∷ [] → memoryOf (setRegisters m r) ≡ m)
+    × (numbers (answerOf (fresh m line d)) ≡ k ∷ [] → memoryOf (fresh m line d) ≡ m)
+refusal-keeps m line d n c r k l u = (
+  λ e. instruction-kept m k (refused-of (answerOf (instruction m)) (instruction-proper m) k l u e),
+  λ e. interrupt-kept m n c k (refused-of (answerOf (interrupt m n c)) (interrupt-proper m n c) k l u e),
+  λ e. set-kept m r k (refused-of (answerOf (setRegisters m r)) (set-proper m r) k l u e),
+  λ e. fresh-kept m line d k (refused-of (answerOf (fresh m line d)) (fresh-proper m line d) k l u e),
+)
 
 pub read-and-judge-keep : (m : List ℕ) → (memoryOf (readRegisters m) ≡ m) × (memoryOf (judge m) ≡ m)
 read-and-judge-keep m = (read-kept m, judge-kept m)
 
+-- "handed out (own code: ..; memory unchanged)"
+pub handed-out-keeps : (m : List ℕ) (program arguments : ℕ) → numbers (answerOf (instruction m)) ≡ handedOutNumber ∷ program ∷ arguments ∷ []
+    → memoryOf (instruction m) ≡ m
+handed-out-keeps m p a e = instruction-hands m p a (handed-of (answerOf (instruction m)) (instruction-proper m) p a e)
+
+-- ---- a faulty instruction stops only the processor that ran it, is entered while page 9 has room, and changes nothing else but who runs. From the answer
+-- alone: `Faulted` says who, which fault, and what every word of the memory is afterwards (laws/specs/Faulty.antt, Turns.antt)
+pub a-fault : (m : List ℕ) (f n : ℕ) → numbers (answerOf (instruction m)) ≡ f ∷ n ∷ [] → Faulted m f n (memoryOf (instruction m))
+a-fault = faulted
+
+-- ---- a fresh start gives a well-formed memory, whatever was there; every call, and the host, leave one well-formed
+pub fresh-well-formed : {m : List ℕ} → length m ≡ memorySize → Small m → (line d : ℕ) → startable line d ≡ true → Sound (memoryOf (fresh m line d))
+fresh-well-formed = fresh-starts
+
+pub calls-keep : {m : List ℕ} → Sound m → (line d k c : ℕ) (r : Registers) → Sound (memoryOf (instruction m)) × Sound (memoryOf (interrupt m k c))
+    × Sound (memoryOf (setRegisters m r)) × Sound (memoryOf (fresh m line d))
+calls-keep h line d k c r = (instruction-sound h, interrupt-sound h k c, set-sound h r, fresh-sound h line d)
+
 pub host-keeps : {m m′ : List ℕ} → Host m m′ → Sound m → Sound m′
 host-keeps = host-sound
 
--- ---- so: from a fresh start on, no call is ever refused as not well-formed, and each control page has exactly one use
+-- ---- so: from a fresh start on, no call is ever refused as not well-formed
 pub always-well-formed : (m : List ℕ) → Reached m → Sound m
 always-well-formed = reached-sound
 
-pub never-21 : (m : List ℕ) → Reached m → (line d k c : ℕ) (r : Registers) → (answerOf (instruction m) ≢ Refused 21) × (answerOf (interrupt m k c) ≢ Refused 21)
-    × (answerOf (setRegisters m r) ≢ Refused 21) × (answerOf (fresh m line d) ≢ Refused 21) × (answerOf (readRegisters m) ≢ Held.Refused 21)
-    × (answerOf (judge m) ≡ Verdict.WellFormed)
-never-21 m h line d k c r =
-    let s = reached-sound m h in
-    (instruction-never s, interrupt-never s k c, set-never s r, fresh-never s line d, read-never s, judge-accepts s)
+pub never-21 : (m : List ℕ) → Reached m → (k c : ℕ) (r : Registers) → (numbers (answerOf (instruction m)) ≢ illFormed ∷ [])
+    × (numbers (answerOf (interrupt m k c)) ≢ illFormed ∷ []) × (numbers (answerOf (setRegisters m r)) ≢ illFormed ∷ [])
+    × (heldNumbers (answerOf (readRegisters m)) ≢ illFormed ∷ []) × (verdictNumbers (answerOf (judge m)) ≡ doneNumber ∷ [])
+never-21 m h k c r =
+    let s = reached-sound m h in (
+      Numbers.instruction-not s,
+      Numbers.interrupt-not s k c,
+      Numbers.set-not s r,
+      Numbers.read-not s,
+      Numbers.judge-yes s,
+    )
 
-pub one-use : (m : List ℕ) → Reached m → (z : ℕ) → 236 ≤ z → z ≤ 255 → asProcessor m z + asFree m z + asMessage m z + asGrant m z ≡ 1
+-- ---- each control page has exactly one use: a processor, free, a message in one queue, or granted; and no other number is in any of these lists
+pub one-use : (m : List ℕ) → Reached m → (z : ℕ) → firstControl ≤ z → z ≤ lastControl → asProcessor m z + asFree m z + asMessage m z + asGrant m z ≡ 1
 one-use m h = used-once (reached-sound m h)
 
--- ---- "Refusals leave all memory untouched": each call, each number, any memory
-pub refusal-keeps : (m : List ℕ) (line d n c k : ℕ) (r : Registers) → (answerOf (instruction m) ≡ Refused k → memoryOf (instruction m) ≡ m)
-    × (answerOf (interrupt m n c) ≡ Refused k → memoryOf (interrupt m n c) ≡ m) × (answerOf (setRegisters m r) ≡ Refused k → memoryOf (setRegisters m r) ≡ m)
-    × (answerOf (fresh m line d) ≡ Refused k → memoryOf (fresh m line d) ≡ m)
-refusal-keeps m line d n c k r = (instruction-kept m k, interrupt-kept m n c k, set-kept m r k, fresh-kept m line d k)
+pub no-other-use : (m : List ℕ) → Reached m → (z : ℕ) → (z < firstControl) ⊎ (lastControl < z)
+    → asProcessor m z + asFree m z + asMessage m z + asGrant m z ≡ 0
+no-other-use m h = used-never (reached-sound m h)
 
--- ---- "A fault sets the stopped bit, enters page 9, leaves LR; then who runs": an instruction that faults is this step, and it changes no other word
-pub fault-is : (m : List ℕ) (f n : ℕ) → answerOf (instruction m) ≡ Fault f n → instruction m ≡ fault m f
-fault-is = instruction-faults
-
-module _ {m : List ℕ} (h : Sound m) (f : ℕ) (runs : running m ≢ 0) where
-  page : Page (running m)
-  page = let b = invariant (well h) .base in proc-page (b .facts .sep) (running m) (running-in b runs)
-
-  next : (1 ≤ at m firstUnused) × (at m firstUnused ≤ entriesFull)
-  next = invariant (well h) .base .facts .faults .range
-
-  pub fault-names : answerOf (fault m f) ≡ Fault f (name m (running m))
-  fault-names = fault-answer m f
-
-  pub fault-keeps : (a : ℕ) → Unmoved (running m) a → a ≢ place (running m) state → a ≢ firstUnused → a ≢ entryAt (at m firstUnused)
-      → at (memoryOf (fault m f)) a ≡ at m a
-  fault-keeps = fault-frame m f (h .size) (page .0) (omega (arith, page .1))
-
-  pub fault-keeps-page-9 : at m firstUnused ≡ entriesFull → (a : ℕ) → Unmoved (running m) a → a ≢ place (running m) state → at (memoryOf (fault m f)) a ≡ at m a
-  fault-keeps-page-9 e = fault-full m f (h .size) (page .0) (omega (arith, page .1)) (omega arith)
-
-  pub fault-sets-stopped : word (memoryOf (fault m f)) (running m) state ≡ stopSet (word m (running m) state)
-  fault-sets-stopped = fault-stops m f (h .size) (page .0) (omega (arith, page .1)) (next .1)
-
-  pub fault-entry : at m firstUnused < entriesFull
-      → (at (memoryOf (fault m f)) (entryAt (at m firstUnused)) ≡ pair (name m (running m)) f) × (at (memoryOf (fault m f)) firstUnused ≡ at m firstUnused + 1)
-  fault-entry = fault-enters m f (h .size) (page .0) (omega (arith, page .1)) (next .0)
-
--- ---- the steps mean what they say, of a memory with the page q in hand (below there is one); no other list changes
-module _ {m : List ℕ} {ps : List ℕ} {L : Lists} {W : View} {hs : List ℕ} {g q : ℕ} (b : Base m ps L W (q ∷ hs) g) where
-  pub joining : (a : ℕ) → Head ps a → InUses ps a → a ≢ processorList → Becomes ps m (join m a 0 q) a (lists m a ++ q ∷ [])
-  joining = join-appends b
-
-  pub giving-back-frees : lists m pageQueue ≡ [] → Becomes ps m (giveBack m q) freeList (lists m freeList ++ q ∷ [])
-  giving-back-frees = give-frees b
-
-  pub giving-back-grants : (p : ℕ) (ws : List ℕ) → lists m pageQueue ≡ p ∷ ws → Grants ps m (giveBack m q) (name m p) q ws
-  giving-back-grants = give-grants b
-
-  pub delivering : (p : ℕ) → 1 ≤ count p ps → Message (W .note q) (W .reason q) → (lists (deliver m p q) (place p q1) ≡ lists m (place p q1) ++ q ∷ [])
-      × ((c : ℕ) → 1 ≤ count c (uses ps ++ queues ps) → c ≢ place p q1 → c ≢ place p ownQueue → lists (deliver m p q) c ≡ lists m c)
-  delivering = deliver-appends b
-
-pub leaving : {m : List ℕ} {ps : List ℕ} {L : Lists} {W : View} {hs : List ℕ} {g : ℕ} → Base m ps L W hs g → (a q : ℕ) (xs ys : List ℕ) → Head ps a
-    → a ≢ processorList → lists m a ≡ xs ++ q ∷ ys → Becomes ps m (leave m a 0 q) a (xs ++ ys)
-leaving = leave-takes
-
-pub waiting-joins : {m : List ℕ} {ps : List ℕ} {L : Lists} {W : View} {hs : List ℕ} {g : ℕ} → Base m ps L W hs g → (s p w : ℕ)
-    → 1 ≤ count (s + 1) (queues ps) → 1 ≤ count p ps → waitIn (W .state p) ≡ 0 → Fit ps L W s p w
-    → Becomes ps m (putToWait m s p w) (s + 1) (lists m (s + 1) ++ p ∷ [])
-waiting-joins = wait-appends
-
-pub waking-leaves : {m : List ℕ} {ps : List ℕ} {L : Lists} {W : View} {hs : List ℕ} {g : ℕ} → Base m ps L W hs g → (s p : ℕ) (xs ys : List ℕ)
-    → 1 ≤ count (s + 1) (queues ps) → lists m (s + 1) ≡ xs ++ p ∷ ys → Becomes ps m (wake m s p) (s + 1) (xs ++ ys)
-waking-leaves = wake-takes
-
--- ---- the premises can be met: a fresh start on a memory of zeros is reached, someone runs there, and from it pages come in hand, one of them a message,
--- one while a processor waits for a page
+-- ---- it is not empty talk: a fresh start on a memory of zeros is reached, and someone runs there
 pub reached-example : Reached example
 reached-example = example-reached
 
-pub running-example : running example ≡ 236
+pub running-example : running example ≡ firstControl
 running-example = example-runs
-
-pub in-hand-example : InHand
-in-hand-example = example-hand
-
-pub message-example : InHandMessage
-message-example = example-message
-
-pub asked-example : InHandAsked
-asked-example = example-asked
