@@ -3,15 +3,15 @@ use mathlib.Core.Path.{_≡_, refl, sym, ap, _∙_}
 use mathlib.Core.Logic.{_≢_, _⊎_, inl, inr}
 use mathlib.Core.Bool.{true, false}
 use mathlib.Core.List.{List, [], _∷_}
-use Prim.Native.Nat.{ℕ, _+_, _-_, _*_, _/_, _%_, _≤_, _<_}
+use Prim.Native.Nat.{ℕ, suc, _+_, _-_, _*_, _/_, _%_, _≤_, _<_}
 use native.Mathlib.Omega.{arith}
 use lib.ListN.{length, getD}
 use Rattle.model.specs.Map as Map
-use Rattle.model.specs.Map.{firstControl, freeList, freeSemaphore, grantFor, headerAfter, interrupts, longest, memorySize, ownQueue, ownSemaphore}
-use Rattle.model.specs.Map.{pageQueue, place, processorList, semaphoreAfter}
+use Rattle.model.specs.Map.{controlPages, firstControl, freeList, freeSemaphore, grantFor, headerAfter, interrupts, lastControl, lastFlag, lastName}
+use Rattle.model.specs.Map.{less, longest, lower, memorySize, notice, ownQueue, ownSemaphore, pageQueue, place, processorList, q1, q2, semaphoreAfter}
+use Rattle.model.specs.Map.{upper}
 use Rattle.model.specs.Bytes.{word}
 use Rattle.model.specs.Store.{bytes}
-use Rattle.model.specs.Map.{less}
 use Rattle.model.specs.Bytes.{lists, judged, walk}
 use Rattle.model.specs.Lists as Model
 use Rattle.model.specs.Lists.{count, Lists, sum, some, linkOf, uses, queues, isGrant}
@@ -27,7 +27,7 @@ use Rattle.laws.specs.Places.{in-uses, in-queues, grant-is}
 use Rattle.laws.specs.Inv.{view, Message, stock, stock-page, stock-else, Inv}
 
 -- ---- lists
-pub lists-walk : (m : List ℕ) (a : ℕ) → isGrant a ≡ false → lists m a ≡ walk 21 m (linkOf a) a
+pub lists-walk : (m : List ℕ) (a : ℕ) → isGrant a ≡ false → lists m a ≡ walk (suc controlPages) m (linkOf a) a
 unfolding Model.lists
 lists-walk m a e = rw (e, Model.lists)
 
@@ -36,7 +36,7 @@ unfolding Model.lists
 lists-some m a e = rw (e, Model.lists)
 
 -- ---- its rules
-pages-of : (xs : List ℕ) → ((z : ℕ) → 1 ≤ count z xs → (firstControl ≤ z) × (z ≤ 255)) → Pages xs
+pages-of : (xs : List ℕ) → ((z : ℕ) → 1 ≤ count z xs → (firstControl ≤ z) × (z ≤ lastControl)) → Pages xs
 pages-of [] h = tt
 pages-of (x ∷ xs) h = let r = h x (omega (arith, hit-self x)) in ((r .0, omega arith), pages-of xs (λ z i. h z (omega arith)))
 
@@ -61,7 +61,7 @@ module _ (m : List ℕ) (ps : List ℕ) (L : Lists) (h : means (Judge.listed byt
   once u z = go (page-or z)
     where
       go : Page z ⊎ (one z ≡ 0) → sum z L (uses ps) ≡ one z
-      go (inl p) = u z (omega (arith, range1-at 20 firstControl z (p .0) (omega arith))) ∙ sym (page-one z p)
+      go (inl p) = u z (omega (arith, range1-at controlPages firstControl z (p .0) (omega arith))) ∙ sym (page-one z p)
       go (inr e) = sum-pos z L (uses ps) (λ a i. none z a e (in-uses ps a i)) ∙ sym e
 
   only : means (Judge.waitingBits bytes m ps L) → (z : ℕ) → sum z L (queues ps) ≤ count z ps
@@ -69,7 +69,7 @@ module _ (m : List ℕ) (ps : List ℕ) (L : Lists) (h : means (Judge.listed byt
   only u z = go (page-or z)
     where
       go : Page z ⊎ (one z ≡ 0) → sum z L (queues ps) ≤ count z ps
-      go (inl p) = u .1 z (omega (arith, range1-at 20 firstControl z (p .0) (omega arith)))
+      go (inl p) = u .1 z (omega (arith, range1-at controlPages firstControl z (p .0) (omega arith)))
       go (inr e) = omega (arith, sum-pos z L (queues ps) (λ a i. none z a e (in-queues ps a i)))
 
 -- the parts of two sentences that the invariant says in one
@@ -77,16 +77,16 @@ sems : (m : List ℕ) (L : Lists) {ps : List ℕ} → ((k : ℕ) → k < interru
     → ((p : ℕ) → 1 ≤ count p ps → Page p) → ((p : ℕ) → 1 ≤ count p ps → word m p ownSemaphore ≡ less 0 (length (L (place p ownQueue))))
     → getD m freeSemaphore 0 ≡ less (length (L freeList)) (length (L pageQueue)) → (s : ℕ) → Seat ps s → getD m s 0 ≡ less (stock L s) (length (L (s + 1)))
 sems m L f pg g h s (line k i e) =
-    let d : semaphoreAfter k + 1 ≡ 132 + 2 * k = omega arith in
+    let d : semaphoreAfter k + 1 ≡ headerAfter k = omega arith in
     rw (e, d, stock-else L (semaphoreAfter k) (omega arith)) (f k i)
 sems m L f pg g h s (page e) = rw (e, stock-page L) h
 sems m L f pg g h s (own p i e) =
-    let d : place p ownSemaphore + 1 ≡ p * 32 + 4 = omega arith in
+    let d : place p ownSemaphore + 1 ≡ place p ownQueue = omega arith in
     let n = pg p i in
     rw (e, d, stock-else L (place p ownSemaphore) (omega arith)) (g p i)
 
 abbrev pub MessageRule : ℕ → ℕ → Type 0
-MessageRule n w = ((1 ≤ n / 16) × (n / 16 ≤ 15)) × (((1 ≤ n % 16) × (n % 16 ≤ 7)) × (w ≢ 128 → w ≤ longest))
+MessageRule n w = ((1 ≤ upper n) × (upper n ≤ lastName)) × (((1 ≤ lower n) × (lower n ≤ lastFlag)) × (w ≢ notice → w ≤ longest))
 
 of-rule : {n w : ℕ} → MessageRule n w → Message n w
 of-rule t = record { sender = t .0 .0; known = t .0 .1; flag = t .1 .0 .0; small = t .1 .0 .1; long = t .1 .1 }
@@ -94,14 +94,14 @@ of-rule t = record { sender = t .0 .0; known = t .0 .1; flag = t .1 .0 .0; small
 pub as-rule : {n w : ℕ} → Message n w → MessageRule n w
 as-rule t = ((t .sender, t .known), ((t .flag, t .small), t .long))
 
-mail : (m : List ℕ) (ps : List ℕ) (L : Lists) → means (Judge.messages bytes m ps L) → (p w : ℕ) → 1 ≤ count p ps → 5 ≤ w → w ≤ 6
+mail : (m : List ℕ) (ps : List ℕ) (L : Lists) → means (Judge.messages bytes m ps L) → (p w : ℕ) → 1 ≤ count p ps → q1 ≤ w → w ≤ q2
     → (q : ℕ) → 1 ≤ count q (L (place p w)) → MessageRule (word m q Map.note) (word m q Map.size)
 unfolding Judge.messages Judge.mail Judge.message Judge.sized
-mail m ps L t p w h i j q c = go (hit-or w 5)
+mail m ps L t p w h i j q c = go (hit-or w q1)
   where
-    go : (w ≡ 5) ⊎ (w ≢ 5) → MessageRule (word m q Map.note) (word m q Map.size)
+    go : (w ≡ q1) ⊎ (w ≢ q1) → MessageRule (word m q Map.note) (word m q Map.size)
     go (inl e) = t p h .0 q (rw e at c)
-    go (inr n) = let e : w ≡ 6 = omega arith in t p h .1 q (rw e at c)
+    go (inr n) = let e : w ≡ q2 = omega arith in t p h .1 q (rw e at c)
 
 -- the judged words and lists of a memory that the judge accepts
 pub judge-inv : (m : List ℕ) → length m ≡ memorySize → judged m ≡ true → Inv m (lists m processorList) (lists m) (view m)
@@ -125,7 +125,7 @@ judge-inv m size e =
             rep = λ a h.
                 let q = t .listed a (h .0) in
                 let w = lists-walk m a (h .1) in
-                rw w (chain-walk 21 m (linkOf a) a (omega (arith, q .0, ap length w)) (rw w at (pages-of (L a) (q .1))));
+                rw w (chain-walk (suc controlPages) m (linkOf a) a (omega (arith, q .0, ap length w)) (rw w at (pages-of (L a) (q .1))));
             grant = λ k h. lists-some m (grantFor k) (grant-is k h);
           };
           reads = record {

@@ -9,7 +9,8 @@ use lib.ListN.{length, getD}
 use lib.Dec.{eqb, ltb}
 use borrow.Author.Tests.{eqb-false, eq-eqb, ltb-false, lt-ltb, le-ltb, le-leb}
 use Rattle.model.specs.Map as Map
-use Rattle.model.specs.Map.{guardedLast, memorySize, place}
+use Rattle.model.specs.Map.{aWord, firstOuter, guardedEnd, guardedFrom, guardedLast, guardedTo, lastClass, lastLine, lastOuter, memorySize, pageSize}
+use Rattle.model.specs.Map.{place}
 use Rattle.model.specs.Bytes.{running}
 use Rattle.model.specs.declared.Registers.{Registers}
 use Rattle.model.specs.Address as Address
@@ -48,18 +49,18 @@ well h = record { size = h .size; accepted = h .accepted }
 -- ---- fresh, on any memory of 8,192 words
 pub args-of : (line d : ℕ) → startable line d ≡ true → Args line d
 unfolding Fresh.startable
-args-of line d h = go (ltb line 16) (ltb 47 line) (eqb d 0) (ltb 255 d) refl refl refl refl
+args-of line d h = go (ltb line firstOuter) (ltb lastLine line) (eqb d 0) (ltb aWord d) refl refl refl refl
   where
-    go : (x y z t : Bool) → ltb line 16 ≡ x → ltb 47 line ≡ y → eqb d 0 ≡ z → ltb 255 d ≡ t → Args line d
+    go : (x y z t : Bool) → ltb line firstOuter ≡ x → ltb lastLine line ≡ y → eqb d 0 ≡ z → ltb aWord d ≡ t → Args line d
     go true y z t e f i j = let c = rw e at h in let k : _≡_ {A = ℕ} 0 1 = cc in absurd (omega arith)
     go false true z t e f i j = let c = rw (e, f) at h in let k : _≡_ {A = ℕ} 0 1 = cc in absurd (omega arith)
     go false false true t e f i j = let c = rw (e, f, i) at h in let k : _≡_ {A = ℕ} 0 1 = cc in absurd (omega arith)
     go false false false true e f i j = let c = rw (e, f, i, j) at h in let k : _≡_ {A = ℕ} 0 1 = cc in absurd (omega arith)
     go false false false false e f i j =
-        let a = ltb-false line 16 e in
-        let b = ltb-false 47 line f in
+        let a = ltb-false line firstOuter e in
+        let b = ltb-false lastLine line f in
         let c = eqb-false d 0 i in
-        let k = ltb-false 255 d j in
+        let k = ltb-false aWord d j in
         (omega arith, omega arith, omega arith, omega arith)
 
 pub fresh-starts : {m : List ℕ} → length m ≡ memorySize → Small m → (line d : ℕ) → startable line d ≡ true → Sound (memoryOf (fresh m line d))
@@ -69,22 +70,22 @@ fresh-starts {m} l s line d h =
     rw (eq-eqb (length m) memorySize l, h) (sound (started-well m line d l a) (small-started s line d (omega (arith, a)) (omega (arith, a))))
 
 -- ---- what an interrupt from outside may be
-pub outer-of : (k : ℕ) → isOuter k ≡ true → (16 ≤ k) × (k ≤ 50)
+pub outer-of : (k : ℕ) → isOuter k ≡ true → (firstOuter ≤ k) × (k ≤ lastOuter)
 unfolding Call.isOuter
-outer-of k h = go (ltb k 16) (ltb 50 k) refl refl
+outer-of k h = go (ltb k firstOuter) (ltb lastOuter k) refl refl
   where
-    go : (x y : Bool) → ltb k 16 ≡ x → ltb 50 k ≡ y → (16 ≤ k) × (k ≤ 50)
+    go : (x y : Bool) → ltb k firstOuter ≡ x → ltb lastOuter k ≡ y → (firstOuter ≤ k) × (k ≤ lastOuter)
     go true y e f = let c = rw e at h in let z : _≡_ {A = ℕ} 0 1 = cc in absurd (omega arith)
     go false true e f = let c = rw (e, f) at h in let z : _≡_ {A = ℕ} 0 1 = cc in absurd (omega arith)
-    go false false e f = let a = ltb-false k 16 e in let b = ltb-false 50 k f in (omega arith, omega arith)
+    go false false e f = let a = ltb-false k firstOuter e in let b = ltb-false lastOuter k f in (omega arith, omega arith)
 
-class-of : (k c : ℕ) → isClass k c ≡ true → c ≤ 31
+class-of : (k c : ℕ) → isClass k c ≡ true → c ≤ lastClass
 unfolding Call.isClass
-class-of k c h = go (ltb 31 c) refl
+class-of k c h = go (ltb lastClass c) refl
   where
-    go : (x : Bool) → ltb 31 c ≡ x → c ≤ 31
+    go : (x : Bool) → ltb lastClass c ≡ x → c ≤ lastClass
     go true e = let d = rw e at h in let z : _≡_ {A = ℕ} 0 1 = cc in absurd (omega arith)
-    go false e = let a = ltb-false 31 c e in omega arith
+    go false e = let a = ltb-false lastClass c e in omega arith
 
 -- ---- the head of a call: a refusal, on the memory as it was, or what the call does
 pub head-each : {A : Type 0} (P : Outcome A (List ℕ) → Type 0) (m : List ℕ) (refuses : ℕ → A) (o : Outcome A (List ℕ)) → ((k : ℕ) → P (gives (refuses k) m))
@@ -159,15 +160,15 @@ module _ {m : List ℕ} (h : Sound m) where
 pub record Host (m m′ : List ℕ) : Type 0 where
   pub size : length m′ ≡ length m
   pub small : Small m′
-  pub same : (a : ℕ) → 32 ≤ a → guarded a ≡ true → getD m′ a 0 ≡ getD m a 0
+  pub same : (a : ℕ) → pageSize ≤ a → guarded a ≡ true → getD m′ a 0 ≡ getD m a 0
 
-pub guarded-low : (a : ℕ) → 128 ≤ a → a < 352 → guarded a ≡ true
+pub guarded-low : (a : ℕ) → guardedFrom ≤ a → a < guardedTo → guarded a ≡ true
 unfolding Address.guarded
-guarded-low a l u = rw (le-ltb a 16 (omega arith), le-ltb a 128 l, lt-ltb a 352 u)
+guarded-low a l u = rw (le-ltb a guardedEnd (omega arith), le-ltb a guardedFrom l, lt-ltb a guardedTo u)
 
 pub guarded-high : (a : ℕ) → guardedLast ≤ a → guarded a ≡ true
 unfolding Address.guarded
-guarded-high a l = rw (le-ltb a 16 (omega arith), le-ltb a 128 (omega arith), le-ltb a 352 (omega arith), le-leb guardedLast a l)
+guarded-high a l = rw (le-ltb a guardedEnd (omega arith), le-ltb a guardedFrom (omega arith), le-ltb a guardedTo (omega arith), le-leb guardedLast a l)
 
 host-kept : {m m′ : List ℕ} → Host m m′ → Kept m m′
 host-kept k = record {

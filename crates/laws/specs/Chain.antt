@@ -8,7 +8,7 @@ use native.Mathlib.Omega.{arith}
 use lib.ListN.{length, getD, set, length-set}
 use lib.Seq.{getD-set-same, getD-set-other}
 use borrow.Author.Tests.{eq-eqb, ne-eqb}
-use Rattle.model.specs.Map.{firstControl, memorySize, place}
+use Rattle.model.specs.Map.{controlPages, firstControl, lastControl, memorySize, pageSize, place}
 use Rattle.model.specs.Bytes.{store, word}
 use Rattle.model.specs.Store.{bytes}
 use Rattle.model.specs.Queue as Queue
@@ -16,7 +16,7 @@ use Rattle.model.specs.Lists.{count}
 use Rattle.laws.specs.Count.{hit-self, hit-other, hit-or, count-append, count-ne, count-mid}
 
 abbrev pub Page : ℕ → Type 0
-Page x = (firstControl ≤ x) × (x < 256)
+Page x = (firstControl ≤ x) × (x < suc lastControl)
 
 -- from the cell a the links k lead through exactly the pages xs, and then to 0
 abbrev pub Chain : List ℕ → ℕ → ℕ → List ℕ → Type 0
@@ -32,7 +32,7 @@ unfolding Queue.walk
 walk-end zero m k a e = refl
 walk-end (suc n) m k a e = rw (eq-eqb (getD m a 0) 0 e, Queue.walk)
 
-walk-step : (n : ℕ) (m : List ℕ) (k a : ℕ) → getD m a 0 ≢ 0 → walk (suc n) m k a ≡ getD m a 0 ∷ walk n m k (getD m a 0 * 32 + k)
+walk-step : (n : ℕ) (m : List ℕ) (k a : ℕ) → getD m a 0 ≢ 0 → walk (suc n) m k a ≡ getD m a 0 ∷ walk n m k (place (getD m a 0) k)
 unfolding Queue.walk
 walk-step n m k a h = rw (ne-eqb (getD m a 0) 0 h, Queue.walk)
 
@@ -49,9 +49,9 @@ Pages (x ∷ xs) = Page x × Pages xs
 -- a walk that came to its end before its fuel did: what the judge computes
 pub chain-walk : (n : ℕ) (m : List ℕ) (k a : ℕ) → length (walk n m k a) < n → Pages (walk n m k a) → Chain m k a (walk n m k a)
 chain-walk zero m k a h p = absurd (omega arith)
-chain-walk (suc n) m k a h p = go (hit-or (getD m a 0) 0) (chain-walk n m k (getD m a 0 * 32 + k))
+chain-walk (suc n) m k a h p = go (hit-or (getD m a 0) 0) (chain-walk n m k (place (getD m a 0) k))
   where
-    go : (getD m a 0 ≡ 0) ⊎ (getD m a 0 ≢ 0) → (let c = getD m a 0 * 32 + k in length (walk n m k c) < n → Pages (walk n m k c) → Chain m k c (walk n m k c))
+    go : (getD m a 0 ≡ 0) ⊎ (getD m a 0 ≢ 0) → (let c = place (getD m a 0) k in length (walk n m k c) < n → Pages (walk n m k c) → Chain m k c (walk n m k c))
         → Chain m k a (walk (suc n) m k a)
     go (inl e) ih = rw (walk-end (suc n) m k a e) e
     go (inr e) ih =
@@ -76,10 +76,10 @@ chain-put m b v k a xs n o h = chain-move m (set m b v) k a a xs (getD-set-other
     (λ e. o x i (sym e))) h
 
 -- a page that is not in xs has no link in it
-pub off-page : (q j k : ℕ) (xs : List ℕ) → j < 32 → k < 32 → count q xs ≡ 0 → Off (place q j) k xs
+pub off-page : (q j k : ℕ) (xs : List ℕ) → j < pageSize → k < pageSize → count q xs ≡ 0 → Off (place q j) k xs
 off-page q j k xs hj hk n x i = let d : x ≢ q = count-ne x q xs n i in omega arith
 
-pub off-word : (q j k : ℕ) (xs : List ℕ) → j < 32 → k < 32 → j ≢ k → Off (place q j) k xs
+pub off-word : (q j k : ℕ) (xs : List ℕ) → j < pageSize → k < pageSize → j ≢ k → Off (place q j) k xs
 off-word q j k xs hj hk n x i = omega arith
 
 -- ---- join: at the end, with link 0
@@ -95,10 +95,10 @@ cell-end (suc n) m k a [] c h = rw (eq-eqb (getD m a 0) 0 c, Queue.cellOf)
 cell-end zero m k a (x ∷ xs) c h = absurd (omega arith)
 cell-end (suc n) m k a (x ∷ xs) c h = rw (ne-eqb (getD m a 0) 0 (omega arith), Queue.cellOf, c .0) (cell-end n m k (place x k) xs (c .2) (omega arith))
 
-pub join-is : (m : List ℕ) (k a p : ℕ) (xs : List ℕ) → Chain m k a xs → length xs ≤ 20 → a ≢ place p k → Off (place p k) k xs
+pub join-is : (m : List ℕ) (k a p : ℕ) (xs : List ℕ) → Chain m k a xs → length xs ≤ controlPages → a ≢ place p k → Off (place p k) k xs
     → Queue.join bytes m a k p ≡ set (store m p k 0) (last k a xs) p
 unfolding Queue.join
-join-is m k a p xs c h n o = rw (cell-end 20 (store m p k 0) k a xs (chain-put m (place p k) 0 k a xs (λ e. n (sym e)) o c) h)
+join-is m k a p xs c h n o = rw (cell-end controlPages (store m p k 0) k a xs (chain-put m (place p k) 0 k a xs (λ e. n (sym e)) o c) h)
 
 pub last-in : (k a : ℕ) (x : ℕ) (xs : List ℕ) → (z : ℕ) × (1 ≤ count z (x ∷ xs)) × (last k a (x ∷ xs) ≡ place z k)
 last-in k a x [] = (x, omega (arith, hit-self x), refl)
@@ -112,11 +112,11 @@ last-not k a (y ∷ ys) b n o = let r = last-in k a y ys in rw (r .2) (o (r .0) 
 abbrev pub NoDup : List ℕ → Type 0
 NoDup xs = (z : ℕ) → count z xs ≤ 1
 
-off-next : (x k : ℕ) (xs : List ℕ) → k < 32 → NoDup (x ∷ xs) → Off (place x k) k xs
+off-next : (x k : ℕ) (xs : List ℕ) → k < pageSize → NoDup (x ∷ xs) → Off (place x k) k xs
 off-next x k xs hk d = off-page x k k xs hk hk (omega (arith, d x, hit-self x))
 
-pub chain-join : (m : List ℕ) (k a p : ℕ) (xs : List ℕ) → length m ≡ memorySize → a < memorySize → k < 32 → Page p → a ≢ place p k → Off a k xs → NoDup (p ∷ xs)
-    → Chain m k a xs → Chain (set (store m p k 0) (last k a xs) p) k a (xs ++ p ∷ [])
+pub chain-join : (m : List ℕ) (k a p : ℕ) (xs : List ℕ) → length m ≡ memorySize → a < memorySize → k < pageSize → Page p → a ≢ place p k → Off a k xs
+    → NoDup (p ∷ xs) → Chain m k a xs → Chain (set (store m p k 0) (last k a xs) p) k a (xs ++ p ∷ [])
 chain-join m k a p [] hm ha hk hp np o d c = (
   getD-set-same (store m p k 0) a p 0 (rw length-set (omega arith)),
   hp,
@@ -141,13 +141,13 @@ cell-page (suc n) m k a p (x ∷ xs) ys c h z =
     let e = count-ne x p (x ∷ xs) z (omega (arith, hit-self x)) in
     rw (ne-eqb (getD m a 0) p (omega arith), Queue.cellOf, c .0) (cell-page n m k (place x k) p xs ys (c .2) (omega arith) (omega arith))
 
-pub leave-is : (m : List ℕ) (k a p : ℕ) (xs ys : List ℕ) → Chain m k a (xs ++ p ∷ ys) → length xs ≤ 20 → count p xs ≡ 0
-    → Queue.leave bytes m a k p ≡ set (set m (last k a xs) (word m p k)) (place p k) 0
+pub leave-is : (m : List ℕ) (k a p : ℕ) (xs ys : List ℕ) → Chain m k a (xs ++ p ∷ ys) → length xs ≤ controlPages → count p xs ≡ 0
+    → Queue.leave bytes m a k p ≡ store (set m (last k a xs) (word m p k)) p k 0
 unfolding Queue.leave
-leave-is m k a p xs ys c h z = rw (cell-page 20 m k a p xs ys c h z)
+leave-is m k a p xs ys c h z = rw (cell-page controlPages m k a p xs ys c h z)
 
-pub chain-leave : (m : List ℕ) (k a p : ℕ) (xs ys : List ℕ) → length m ≡ memorySize → a < memorySize → k < 32 → Off a k (xs ++ p ∷ ys) → NoDup (xs ++ p ∷ ys)
-    → Chain m k a (xs ++ p ∷ ys) → Chain (set (set m (last k a xs) (word m p k)) (place p k) 0) k a (xs ++ ys)
+pub chain-leave : (m : List ℕ) (k a p : ℕ) (xs ys : List ℕ) → length m ≡ memorySize → a < memorySize → k < pageSize → Off a k (xs ++ p ∷ ys)
+    → NoDup (xs ++ p ∷ ys) → Chain m k a (xs ++ p ∷ ys) → Chain (store (set m (last k a xs) (word m p k)) p k 0) k a (xs ++ ys)
 chain-leave m k a p [] ys hm ha hk o d c =
     let v = word m p k in
     chain-move m (store (set m a v) p k 0) k (place p k) a ys

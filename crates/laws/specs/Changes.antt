@@ -7,8 +7,8 @@ use mathlib.Core.List.{List}
 use Prim.Native.Nat.{ℕ, _+_, _-_, _*_, _/_, _%_, _≤_, _<_}
 use native.Mathlib.Omega.{arith}
 use lib.ListN.{length}
-use Rattle.model.specs.Map.{freeList, grantFor, headerAfter, interrupts, ownQueue, ownSemaphore, pageQueue, place, processorList, q1, runningPage}
-use Rattle.model.specs.Map.{semaphoreAfter, less}
+use Rattle.model.specs.Map.{freeList, freeSemaphore, grantFor, headerAfter, interrupts, less, lower, ownQueue, ownSemaphore, pageQueue, pageSize}
+use Rattle.model.specs.Map.{place, processorList, q1, q2, runningPage, semaphoreAfter, upper, waitIn, zerosIn}
 use Rattle.model.specs.Mail.{fits}
 use Rattle.model.specs.Lists.{count, Lists, sum, uses, queues}
 use Rattle.laws.specs.Count.{hit-or, count-append, zero-or}
@@ -27,18 +27,18 @@ pub queue-once : {ps : List ℕ} {L : Lists} → Sep ps L → (s : ℕ) → 1 �
 queue-once {ps} s a h = go (seat-of ps a h)
   where
     go : Seat ps a → InQueues ps (a + 1)
-    go (line k u e) = let d : a + 1 ≡ 132 + 2 * k = omega arith in rw d (int-once s k u)
+    go (line k u e) = let d : a + 1 ≡ headerAfter k = omega arith in rw d (int-once s k u)
     go (page e) = rw e (asking-once s)
-    go (own p u e) = let d : a + 1 ≡ p * 32 + 4 = omega arith in rw d (own-once s p u)
+    go (own p u e) = let d : a + 1 ≡ place p ownQueue = omega arith in rw d (own-once s p u)
 
 -- the semaphores of the three kinds
 pub int-sem : (ps : List ℕ) (k : ℕ) → k < interrupts → 1 ≤ count (semaphoreAfter k + 1) (queues ps)
-int-sem ps k h = let d : semaphoreAfter k + 1 ≡ 132 + 2 * k = omega arith in rw d (int-queue ps k h)
+int-sem ps k h = let d : semaphoreAfter k + 1 ≡ headerAfter k = omega arith in rw d (int-queue ps k h)
 
 pub own-sem : {ps : List ℕ} {L : Lists} → Sep ps L → (p : ℕ) → 1 ≤ count p ps → 1 ≤ count (place p ownSemaphore + 1) (queues ps)
-own-sem s p h = let d : place p ownSemaphore + 1 ≡ p * 32 + 4 = omega arith in rw d (omega (arith, own-once s p h .here))
+own-sem s p h = let d : place p ownSemaphore + 1 ≡ place p ownQueue = omega arith in rw d (omega (arith, own-once s p h .here))
 
-pub page-sem : (ps : List ℕ) → 1 ≤ count (245 + 1) (queues ps)
+pub page-sem : (ps : List ℕ) → 1 ≤ count (freeSemaphore + 1) (queues ps)
 page-sem ps = omega arith
 
 -- ---- lists of uses
@@ -61,11 +61,11 @@ pub record News (ps : List ℕ) (L K : Lists) (W : View) (h : ℕ → ℕ) (g : 
   pub sep : Sep ps K
   pub same : (b : ℕ) → 1 ≤ count b (queues ps) → K b ≡ L b
   pub sems : (s : ℕ) → 1 ≤ count (s + 1) (queues ps) → h s ≡ less (stock K s) (length (L (s + 1)))
-  pub bare : (p : ℕ) → 1 ≤ count p (L pageQueue) → (length (K freeList) ≡ 0) × (length (K (320 + W .label p % 16)) ≡ 0)
-  pub known : (k : ℕ) → k < 32 → k ≢ g → length (K (grantFor k)) ≢ 0 → bearers (W .label) ps k ≡ 1
-  pub mail : (p w : ℕ) → 1 ≤ count p ps → 5 ≤ w → w ≤ 6 → (q : ℕ) → 1 ≤ count q (K (place p w)) → Message (W .note q) (W .reason q)
+  pub bare : (p : ℕ) → 1 ≤ count p (L pageQueue) → (length (K freeList) ≡ 0) × (length (K (grantFor (lower (W .label p)))) ≡ 0)
+  pub known : (k : ℕ) → k < pageSize → k ≢ g → length (K (grantFor k)) ≢ 0 → bearers (W .label) ps k ≡ 1
+  pub mail : (p w : ℕ) → 1 ≤ count p ps → q1 ≤ w → w ≤ q2 → (q : ℕ) → 1 ≤ count q (K (place p w)) → Message (W .note q) (W .reason q)
   pub none : (p x : ℕ) → 1 ≤ count p ps → 1 ≤ count x (L (place p ownQueue)) → (q : ℕ) → 1 ≤ count q (K (place p q1))
-      → fits (W .reason p / 16) (W .reason p % 16) (W .note q) ≡ false
+      → fits (upper (W .reason p)) (lower (W .reason p)) (W .note q) ≡ false
 
 pub facts-uses : {ps : List ℕ} {L : Lists} {W : View} {g : ℕ} (K : Lists) (h : ℕ → ℕ) → News ps L K W h g → Facts ps L W g → Facts ps K (withSem W h) g
 facts-uses {ps} {L} {W} K h n f =
@@ -123,7 +123,7 @@ facts-less {ps} {L} {W} a K i na nf c l f =
       sep = uses-sep s a i na K (λ z. omega (arith, uses-upd s a i na K z, c z, s .most z));
       same = queue-same s a i na K;
       sems = λ b h. rw (stock-same L (upd L a K) (upd-other L a freeList K (λ e. nf (sym e))) b) (f .sems b h);
-      bare = λ p h. let t = f .granted .bare p h in (omega (arith, t .0, ls freeList), omega (arith, t .1, ls (320 + W .label p % 16)));
+      bare = λ p h. let t = f .granted .bare p h in (omega (arith, t .0, ls freeList), omega (arith, t .1, ls (grantFor (lower (W .label p)))));
       known = λ k h d n. f .granted .known k h d (λ z. n (omega (arith, ls (grantFor k))));
       mail = λ p w h u v q j. f .mail p w h u v q (omega (arith, cs (place p w) q));
       none = λ p x h j q d. f .own p h x j .none q (omega (arith, cs (place p q1) q));
@@ -164,16 +164,16 @@ facts-off {ps} {L} {W} {X} q out free o f =
     let s = f .sep in
     let ne : (p : ℕ) → 1 ≤ count p ps → p ≢ q = λ p h e. (let c = ap (λ (y : ℕ). count y ps) e in omega arith) in
     let nw : (a p : ℕ) → 1 ≤ count a (queues ps) → 1 ≤ count p (L a) → p ≢ q = λ a p h j. ne p (wait-page s a p h j) in
-    let nm : (p w x : ℕ) → 1 ≤ count p ps → 5 ≤ w → w ≤ 6 → 1 ≤ count x (L (place p w)) → x ≢ q = λ p w x h u v j e.
+    let nm : (p w x : ℕ) → 1 ≤ count p ps → q1 ≤ w → w ≤ q2 → 1 ≤ count x (L (place p w)) → x ≢ q = λ p w x h u v j e.
     (let c = ap (λ (y : ℕ). count y (L (place p w))) e in
     let r = proc-page s p h in
     omega (arith, free (place p w) (omega (arith, q-once s p w u v h .here)) (omega arith))) in
     let same : (k : ℕ) → bearers (X .label) ps k ≡ bearers (W .label) ps k = λ k.
-    ap (count k) (each-ext (λ p. X .label p % 16) (λ p. W .label p % 16) ps (λ p h. ap (λ (x : ℕ). x % 16) (o .label p (ne p h)))) in
+    ap (count k) (each-ext (λ p. lower (X .label p)) (λ p. lower (W .label p)) ps (λ p h. ap (λ (x : ℕ). lower x) (o .label p (ne p h)))) in
     record {
       sep = f .sep;
       names = record {
-        differ = λ p h. rw (same (X .label p % 16), o .label p (ne p h)) (f .names .differ p h);
+        differ = λ p h. rw (same (lower (X .label p)), o .label p (ne p h)) (f .names .differ p h);
         range = λ p h. rw (o .label p (ne p h)) (f .names .range p h);
       };
       seats = record {
@@ -186,7 +186,7 @@ facts-off {ps} {L} {W} {X} q out free o f =
       own = λ p h x j. let t = f .own p h x j in record {
         owner = t .owner;
         flag = rw (o .reason p (ne p h)) (t .flag);
-        none = λ y c. rw (o .reason p (ne p h), o .note y (nm p 5 y h (omega arith) (omega arith) c)) (t .none y c);
+        none = λ y c. rw (o .reason p (ne p h), o .note y (nm p q1 y h (omega arith) (omega arith) c)) (t .none y c);
       };
       sems = λ a h. rw (o .sem) (f .sems a h);
       granted = record {
@@ -232,7 +232,7 @@ facts-entry {W = W} n e h f = facts-rest (W .low) (W .code) n e (f .runs) (f .co
 
 -- word 12, where neither the waiting bit nor the zeros change
 pub facts-state : {ps : List ℕ} {L : Lists} {W : View} {g : ℕ} (t : ℕ → ℕ)
-    → ((p : ℕ) → 1 ≤ count p ps → (t p % 128 / 64 ≡ W .state p % 128 / 64) × (t p % 64 / 16 ≡ 0)) → Facts ps L W g → Facts ps L (withState W t) g
+    → ((p : ℕ) → 1 ≤ count p ps → (waitIn (t p) ≡ waitIn (W .state p)) × (zerosIn (t p) ≡ 0)) → Facts ps L W g → Facts ps L (withState W t) g
 facts-state t h f = record {
   sep = f .sep;
   names = f .names;

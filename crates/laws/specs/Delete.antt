@@ -9,7 +9,8 @@ use native.Mathlib.Omega.{arith}
 use lib.ListN.{length, getD, set}
 use lib.Dec.{eqb}
 use borrow.Author.Tests.{eqb-true, eqb-false, eq-eqb, ne-eqb, leb-true}
-use Rattle.model.specs.Map.{grantFor, link, note, place, q1, q2, runningPage, size, state}
+use Rattle.model.specs.Map.{controlPages, grantFor, lastFlag, lastName, link, lower, note, notice, pageSize, place, q1, q2, runningPage, size, state}
+use Rattle.model.specs.Map.{upper}
 use Rattle.model.specs.Bytes.{running, store, word}
 use Rattle.model.specs.Delete as Delete
 use Rattle.model.specs.Bytes as Model
@@ -20,7 +21,7 @@ use Rattle.laws.specs.Chain.{Page, Chain, NoDup, chain-move, chain-leave
 use Rattle.laws.specs.Queues.{upd-same}
 use Rattle.laws.specs.Heads.{one-le, short}
 use Rattle.laws.specs.Uses.{proc-page}
-use Rattle.laws.specs.Inv.{View, view, Message, Facts, Base}
+use Rattle.laws.specs.Inv.{Base, Facts, Message, View, noOne, view}
 use Rattle.laws.specs.Judged.{WellFormed}
 use Rattle.laws.specs.Frames.{other, only-refl, only-set}
 use Rattle.laws.specs.Views.{retold}
@@ -41,7 +42,7 @@ pub record Returned (m m1 : List ℕ) (ps : List ℕ) (hs : List ℕ) (g : ℕ) 
   pub lists : Lists
   pub view : View
   pub base : Base m1 ps lists view hs g
-  pub still : (y j : ℕ) → 1 ≤ count y hs → j < 32 → word m1 y j ≡ word m y j
+  pub still : (y j : ℕ) → 1 ≤ count y hs → j < pageSize → word m1 y j ≡ word m y j
 
 module _ {m : List ℕ} {ps : List ℕ} {L : Lists} {W : View} {hs : List ℕ} {g q : ℕ} (b : Base m ps L W (q ∷ hs) g) where
   given : Returned m (giveBack m q) ps hs g
@@ -50,23 +51,23 @@ module _ {m : List ℕ} {ps : List ℕ} {L : Lists} {W : View} {hs : List ℕ} {
   not-q : (y : ℕ) → 1 ≤ count y hs → y ≢ q
   not-q y h e = omega (arith, b .all q, one-le q, hit-self q, ap (λ (z : ℕ). count z hs) e)
 
-  notice-still : (n f p y j : ℕ) → 1 ≤ n → n ≤ 15 → 1 ≤ f → f ≤ 7 → 1 ≤ count p ps → 1 ≤ count y hs → j < 32
+  notice-still : (n f p y j : ℕ) → 1 ≤ n → n ≤ lastName → 1 ≤ f → f ≤ lastFlag → 1 ≤ count p ps → 1 ≤ count y hs → j < pageSize
       → word (deliver (makeNotice m q n f) p q) y j ≡ word m y j
   notice-still n f p y j n1 n2 f1 f2 hp h l =
       let o = notice-only b n f in
       deliver-still (hand-base q (in-hand b) o b) y j h l p hp (retold-letter b o (notice-letter b n f n1 n2 f1 f2)) ∙ only-word o y j (not-q y h) l
 
-  pub returned-base : (n : ℕ) → 1 ≤ n → n ≤ 15 → Message (word m q note) (word m q size) → Returned m (returned m n q) ps hs g
+  pub returned-base : (n : ℕ) → 1 ≤ n → n ≤ lastName → Message (word m q note) (word m q size) → Returned m (returned m n q) ps hs g
   unfolding Delete.returned Delete.noticed
-  returned-base n n1 n2 t = go (eqb (word m q size) 128) (eqb (pageOf m (word m q note / 16)) 0) refl refl
+  returned-base n n1 n2 t = go (eqb (word m q size) notice) (eqb (pageOf m (upper (word m q note))) 0) refl refl
     where
-      go : (x y : Bool) → eqb (word m q size) 128 ≡ x → eqb (pageOf m (word m q note / 16)) 0 ≡ y → Returned m (returned m n q) ps hs g
+      go : (x y : Bool) → eqb (word m q size) notice ≡ x → eqb (pageOf m (upper (word m q note))) 0 ≡ y → Returned m (returned m n q) ps hs g
       go true y e f = rw e given
       go false true e f = rw (e, f) given
       go false false e f =
-          let p = pageOf m (word m q note / 16) in
-          let fl = word m q note % 16 in
-          let hp = named-in b (word m q note / 16) (eqb-false p 0 f) in
+          let p = pageOf m (upper (word m q note)) in
+          let fl = lower (word m q note) in
+          let hp = named-in b (upper (word m q note)) (eqb-false p 0 f) in
           let r = notice-base b n fl p n1 n2 (t .flag) (t .small) hp in
           rw (e, f) (record { lists = r .lists; view = r .view; base = r .base; still = λ y j h l. notice-still n fl p y j n1 n2 (t .flag) (t .small) hp h l })
 
@@ -76,29 +77,29 @@ unfolding Delete.emptied
 emptied-end zero m n h e = refl
 emptied-end (suc i) m n h e = rw (eq-eqb (getD m h 0) 0 e, Delete.emptied)
 
-emptied-step : (i : ℕ) (m : List ℕ) (n h : ℕ) → getD m h 0 ≢ 0 → emptied (suc i) m n h ≡ emptied i (returned (leave m h 0 (getD m h 0)) n (getD m h 0)) n h
+emptied-step : (i : ℕ) (m : List ℕ) (n h : ℕ) → getD m h 0 ≢ 0 → emptied (suc i) m n h ≡ emptied i (returned (leave m h link (getD m h 0)) n (getD m h 0)) n h
 unfolding Delete.emptied
 emptied-step i m n h d = rw (ne-eqb (getD m h 0) 0 d, Delete.emptied)
 
-pub emptied-next : (i : ℕ) (m : List ℕ) (n h x : ℕ) → getD m h 0 ≡ x → x ≢ 0 → emptied (suc i) m n h ≡ emptied i (returned (leave m h 0 x) n x) n h
-emptied-next i m n h x e d = emptied-step i m n h (λ z. d (sym e ∙ z)) ∙ ap (λ (y : ℕ). emptied i (returned (leave m h 0 y) n y) n h) e
+pub emptied-next : (i : ℕ) (m : List ℕ) (n h x : ℕ) → getD m h 0 ≡ x → x ≢ 0 → emptied (suc i) m n h ≡ emptied i (returned (leave m h link x) n x) n h
+emptied-next i m n h x e d = emptied-step i m n h (λ z. d (sym e ∙ z)) ∙ ap (λ (y : ℕ). emptied i (returned (leave m h link y) n y) n h) e
 
 -- from m on, the words of the pages rest stay, but for the header h
 pub record Drained (m m1 : List ℕ) (ps : List ℕ) (rest : List ℕ) (g h : ℕ) : Type 0 where
   pub lists : Lists
   pub view : View
   pub base : Base m1 ps lists view rest g
-  pub still : (y j : ℕ) → 1 ≤ count y rest → j < 32 → place y j ≢ h → word m1 y j ≡ word m y j
+  pub still : (y j : ℕ) → 1 ≤ count y rest → j < pageSize → place y j ≢ h → word m1 y j ≡ word m y j
 
 -- word w of page p heads the queue xs; p and xs are in hand
 pub record Queue (m : List ℕ) (ps : List ℕ) (p w : ℕ) (xs rest : List ℕ) (g : ℕ) : Type 0 where
   pub lists : Lists
   pub view : View
   pub base : Base m ps lists view (xs ++ rest) g
-  pub chain : Chain m 0 (place p w) xs
+  pub chain : Chain m link (place p w) xs
   pub letters : Letters m xs
 
-module _ (p w n : ℕ) (u : 5 ≤ w) (v : w ≤ 6) (n1 : 1 ≤ n) (n2 : n ≤ 15) (ps rest : List ℕ) (g : ℕ) (hp : 1 ≤ count p rest) where
+module _ (p w n : ℕ) (u : q1 ≤ w) (v : w ≤ q2) (n1 : 1 ≤ n) (n2 : n ≤ lastName) (ps rest : List ℕ) (g : ℕ) (hp : 1 ≤ count p rest) where
   abbrev h : ℕ
   h = place p w
 
@@ -122,10 +123,10 @@ module _ (p w n : ℕ) (u : 5 ≤ w) (v : w ≤ 6) (n1 : 1 ≤ n) (n2 : n ≤ 15
     abbrev pub m1 : List ℕ
     m1 = store (set m h (word m x link)) x link 0
 
-    pub left : leave m h 0 x ≡ m1
+    pub left : leave m h link x ≡ m1
     left = leave-is m 0 h x [] xs (q .chain) (omega arith) refl
 
-    chain1 : Chain m1 0 h xs
+    chain1 : Chain m1 link h xs
     chain1 = chain-leave m 0 h x [] xs (q .base .mem .size) (omega (arith, pg)) (omega arith) (λ z i. omega arith) once (q .chain)
 
     pub base1 : Base m1 ps (q .lists) (retold m1 (retold (set m h (word m x link)) (q .view) p) x) (x ∷ xs ++ rest) g
@@ -133,14 +134,14 @@ module _ (p w n : ℕ) (u : 5 ≤ w) (v : w ≤ 6) (n1 : 1 ≤ n) (n2 : n ≤ 15
         hand-base x (omega (arith, hit-self x)) (only-set (place x link) 0 (omega arith) (omega arith) (only-refl x (set m h (word m x link))))
         (hand-base p in-p (only-set h (word m x link) (omega arith) (omega arith) (only-refl p m)) (q .base))
 
-    pub letter1 : (y : ℕ) → 1 ≤ count y (x ∷ xs) → Message (word m1 y 1) (word m1 y 2)
+    pub letter1 : (y : ℕ) → 1 ≤ count y (x ∷ xs) → Message (word m1 y note) (word m1 y size)
     letter1 y i =
         let s = set m h (word m x link) in
         rw (
-          other s (place x link) 0 (place y 1) (omega arith),
-          other s (place x link) 0 (place y 2) (omega arith),
-          other m h (word m x link) (place y 1) (omega arith),
-          other m h (word m x link) (place y 2) (omega arith),
+          other s (place x link) 0 (place y note) (omega arith),
+          other s (place x link) 0 (place y size) (omega arith),
+          other m h (word m x link) (place y note) (omega arith),
+          other m h (word m x link) (place y size) (omega arith),
         ) (q .letters .at y i)
 
     -- and is returned
@@ -158,12 +159,12 @@ module _ (p w n : ℕ) (u : 5 ≤ w) (v : w ≤ 6) (n1 : 1 ≤ n) (n2 : n ≤ 15
       lists = back .lists;
       view = back .view;
       base = back .base;
-      chain = chain-move m1 m2 0 h h xs (back .still p w (rest-in p hp) (omega arith)) (λ y i. back .still y 0 (omega (arith, count-append y xs rest))
+      chain = chain-move m1 m2 link h h xs (back .still p w (rest-in p hp) (omega arith)) (λ y i. back .still y link (omega (arith, count-append y xs rest))
           (omega arith)) chain1;
       letters = record {
         at = λ y i.
             let j : 1 ≤ count y (xs ++ rest) = omega (arith, count-append y xs rest) in
-            rw (back .still y 1 j (omega arith), back .still y 2 j (omega arith)) (letter1 y (omega arith));
+            rw (back .still y note j (omega arith), back .still y size j (omega arith)) (letter1 y (omega arith));
       };
     }
 
@@ -173,7 +174,7 @@ module _ (p w n : ℕ) (u : 5 ≤ w) (v : w ≤ 6) (n1 : 1 ≤ n) (n2 : n ≤ 15
     pub nonzero : x ≢ 0
     nonzero = omega (arith, px)
 
-    stays : (y j : ℕ) → 1 ≤ count y rest → j < 32 → place y j ≢ h → word m2 y j ≡ word m y j
+    stays : (y j : ℕ) → 1 ≤ count y rest → j < pageSize → place y j ≢ h → word m2 y j ≡ word m y j
     stays y j i l d =
         let e = apart y i in
         back .still y j (rest-in y i) l ∙ other (set m h (word m x link)) (place x link) 0 (place y j) (omega arith)
@@ -195,46 +196,46 @@ module _ (p w n : ℕ) (u : 5 ≤ w) (v : w ≤ 6) (n1 : 1 ≤ n) (n2 : n ≤ 15
 
 -- ---- both queues
 pub tot-short : {m : List ℕ} {ps : List ℕ} {L : Lists} {W : View} {hs : List ℕ} {g : ℕ} → Base m ps L W hs g → (xs : List ℕ)
-    → ((z : ℕ) → count z xs ≤ count z hs) → length xs ≤ 20
+    → ((z : ℕ) → count z xs ≤ count z hs) → length xs ≤ controlPages
 tot-short b xs f = short xs (λ z. omega (arith, f z, b .all z))
 
-mail-back : {m : List ℕ} (p n g : ℕ) → 1 ≤ n → n ≤ 15 → Bag m p g → Any (mailReturned m n p) (p ∷ []) g
+mail-back : {m : List ℕ} (p n g : ℕ) → 1 ≤ n → n ≤ lastName → Bag m p g → Any (mailReturned m n p) (p ∷ []) g
 unfolding Delete.mailReturned
 mail-back {m} p n g n1 n2 t =
     let r1 = t .q1 ++ p ∷ [] in
-    let a2 : Queue m (t .procs) p 6 (t .q2) (t .q1 ++ p ∷ []) g = record {
+    let a2 : Queue m (t .procs) p q2 (t .q2) (t .q1 ++ p ∷ []) g = record {
       lists = t .lists;
       view = t .view;
       base = rw (append-assoc (t .q2) (t .q1) (p ∷ [])) at (t .base);
       chain = t .chain2;
       letters = t .letters2;
     } in
-    let d2 = drain p 6 n (omega arith) (omega arith) n1 n2 (t .procs) (t .q1 ++ p ∷ []) g (count-mid p (t .q1) [])
-    (t .q2) 20
+    let d2 = drain p q2 n (omega arith) (omega arith) n1 n2 (t .procs) (t .q1 ++ p ∷ []) g (count-mid p (t .q1) [])
+    (t .q2) controlPages
     (tot-short (a2 .base) (t .q2) (λ z. omega (arith, count-append z (t .q2) (t .q1 ++ p ∷ [])))) a2 in
     second d2
   where
-    second : Drained m (emptied 20 m n (place p q2)) (t .procs) (t .q1 ++ p ∷ []) g (place p q2)
-        → Any (emptied 20 (emptied 20 m n (place p q2)) n (place p q1)) (p ∷ []) g
+    second : Drained m (emptied controlPages m n (place p q2)) (t .procs) (t .q1 ++ p ∷ []) g (place p q2)
+        → Any (emptied controlPages (emptied controlPages m n (place p q2)) n (place p q1)) (p ∷ []) g
     second d =
-        let m1 = emptied 20 m n (place p q2) in
+        let m1 = emptied controlPages m n (place p q2) in
         let in1 : (y : ℕ) → 1 ≤ count y (t .q1) → 1 ≤ count y (t .q1 ++ p ∷ []) = λ y i. omega (arith, count-append y (t .q1) (p ∷ [])) in
         let inp : 1 ≤ count p (t .q1 ++ p ∷ []) = count-mid p (t .q1) [] in
-        let a1 : Queue m1 (t .procs) p 5 (t .q1) (p ∷ []) g = record {
+        let a1 : Queue m1 (t .procs) p q1 (t .q1) (p ∷ []) g = record {
           lists = d .lists;
           view = d .view;
           base = d .base;
-          chain = chain-move m m1 0 (place p q1) (place p q1) (t .q1) (d .still p 5 inp (omega arith) (omega arith)) (λ y i. d .still y 0 (in1 y i)
+          chain = chain-move m m1 link (place p q1) (place p q1) (t .q1) (d .still p q1 inp (omega arith) (omega arith)) (λ y i. d .still y link (in1 y i)
               (omega arith) (omega arith)) (t .chain1);
           letters = record {
-            at = λ y i. rw (d .still y 1 (in1 y i) (omega arith) (omega arith), d .still y 2 (in1 y i) (omega arith) (omega arith)) (t .letters1 .at y i);
+            at = λ y i. rw (d .still y note (in1 y i) (omega arith) (omega arith), d .still y size (in1 y i) (omega arith) (omega arith)) (t .letters1 .at y i);
           };
         } in
-        any-of (drain p 5 n (omega arith) (omega arith) n1 n2 (t .procs) (p ∷ []) g (omega (arith, hit-self p)) (t .q1) 20
+        any-of (drain p q1 n (omega arith) (omega arith) n1 n2 (t .procs) (p ∷ []) g (omega (arith, hit-self p)) (t .q1) controlPages
         (tot-short (d .base) (t .q1) (λ z. omega (arith, count-append z (t .q1) (p ∷ [])))) a1 .base)
 
 -- ---- the grant of the name that is deleted
-pub facts-whole : {ps : List ℕ} {L : Lists} {W : View} {n : ℕ} → length (L (grantFor n)) ≡ 0 → Facts ps L W n → Facts ps L W 32
+pub facts-whole : {ps : List ℕ} {L : Lists} {W : View} {n : ℕ} → length (L (grantFor n)) ≡ 0 → Facts ps L W n → Facts ps L W noOne
 facts-whole {ps} {L} {W} {n} e f = record {
   sep = f .sep;
   names = f .names;
@@ -249,14 +250,14 @@ facts-whole {ps} {L} {W} {n} e f = record {
   faults = f .faults;
 }
 
-grant-back : {m : List ℕ} {hs : List ℕ} (n : ℕ) → n < 32 → Any m hs n → Any (grantReturned m n) hs 32
+grant-back : {m : List ℕ} {hs : List ℕ} (n : ℕ) → n < pageSize → Any m hs n → Any (grantReturned m n) hs noOne
 unfolding Delete.grantReturned
 grant-back {m} {hs} n l t = go (eqb (getD m (grantFor n) 0) 0) refl
   where
     b : Base m (t .procs) (t .lists) (t .view) hs n
     b = t .base
 
-    go : (c : Bool) → eqb (getD m (grantFor n) 0) 0 ≡ c → Any (grantReturned m n) hs 32
+    go : (c : Bool) → eqb (getD m (grantFor n) 0) 0 ≡ c → Any (grantReturned m n) hs noOne
     go true e =
         let z = eqb-true (getD m (grantFor n) 0) 0 e in
         let k = ap length (b .mem .holds .grant n l) ∙ ap (λ (x : ℕ). length (some x)) z in
@@ -272,11 +273,11 @@ grant-back {m} {hs} n l t = go (eqb (getD m (grantFor n) 0) 0) refl
         }) .base))
 
 -- ---- "In order: ..; then its own page."
-pub delete-base : {m : List ℕ} {ps : List ℕ} {L : Lists} {W : View} (p : ℕ) → 1 ≤ count p ps → W .low runningPage ≢ p → Base m ps L W [] 32
-    → Any (delete m p) [] 32
+pub delete-base : {m : List ℕ} {ps : List ℕ} {L : Lists} {W : View} (p : ℕ) → 1 ≤ count p ps → W .low runningPage ≢ p → Base m ps L W [] noOne
+    → Any (delete m p) [] noOne
 unfolding Delete.delete
 delete-base {m} {W = W} p hp d b =
-    let n = W .label p % 16 in
+    let n = lower (W .label p) in
     let r = b .facts .names .range p hp in
     let t1 = mail-back p n n (r .name) (omega arith) (unlisted-bag p hp d b) in
     let t2 = grant-back n (omega arith) t1 in
@@ -290,6 +291,6 @@ module _ {m : List ℕ} (w : WellFormed m) (d : running m ≢ 0) where
   named-fine c n len =
       let p = pageOf m n in
       named-each (bad w d) c n len (λ z. done-fine (start-base b p (named-in b n z)) len) (λ z. done-fine (stop-base b p (named-in b n z)) len) (λ g.
-      let l = leb-true 128 (getD m (pageOf m n * 32 + 12) 0) (g .stopped) in
+      let l = leb-true _ (word m (pageOf m n) state) (g .stopped) in
       let d : running m ≢ pageOf m n = λ q. (let c = ap (λ (y : ℕ). word m y state) q in omega (arith, ready)) in
       done-fine (delete-base (pageOf m n) (named-in b n (g .found)) d b .base) len)

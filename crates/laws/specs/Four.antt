@@ -6,14 +6,13 @@ use mathlib.Core.List.{List, [], _∷_, _++_}
 use Prim.Native.Nat.{ℕ, zero, suc, _+_, _-_, _*_, _≤_, _<_}
 use native.Mathlib.Omega.{arith}
 use lib.ListN.{getD}
-use Rattle.model.specs.Map.{firstControl, lastControl, grantFor}
-use Rattle.model.specs.Map.{place, q1, q2, freeList, grants, pageSize}
+use Rattle.model.specs.Map.{controlPages, firstControl, freeList, grantFor, grants, grantsEnd, lastControl, link, pageSize, place, q1, q2}
 use Rattle.model.specs.Lists as Model
 use Rattle.model.specs.Lists.{count, Lists, sum, range, some, mails}
 use Rattle.model.specs.Bytes.{processors, queue}
 use Rattle.laws.specs.Count.{hit-self, count-append}
 use Rattle.laws.specs.Chain.{walk-chain}
-use Rattle.laws.specs.Heads.{one, one-page, page-one, sum-append}
+use Rattle.laws.specs.Heads.{one, one-page, page-one, sum-append, grantWords}
 use Rattle.laws.specs.Uses.{list-short}
 use Rattle.laws.specs.Places.{in-free, grant-low}
 use Rattle.laws.specs.Inv.{View, Base}
@@ -56,22 +55,22 @@ module _ {m : List ℕ} {ps : List ℕ} {L : Lists} {W : View} {g : ℕ} (b : Ba
         count-append z (queue m (place p q1)) (queue m (place p q2) ++ mailOf m qs),
         count-append z (queue m (place p q2)) (mailOf m qs),
         in-mail z qs (λ y i. f y (omega arith)),
-        ap (count z) (mail-queue b p 5 h (omega arith) (omega arith)),
-        ap (count z) (mail-queue b p 6 h (omega arith) (omega arith)),
+        ap (count z) (mail-queue b p q1 h (omega arith) (omega arith)),
+        ap (count z) (mail-queue b p q2 h (omega arith) (omega arith)),
       )
 
-  granted : (z n a : ℕ) → 320 ≤ a → a + n ≤ 352 → count z (pagesIn n m a) ≡ sum z L (range n 1 a)
+  granted : (z n a : ℕ) → grants ≤ a → a + n ≤ grantsEnd → count z (pagesIn n m a) ≡ sum z L (range n 1 a)
   unfolding Model.range
   granted z zero a l u = refl
   granted z (suc n) a l u =
-      let e : grantFor (a - 320) ≡ a = omega arith in
-      let c = rw e at (b .mem .holds .grant (a - 320) (omega arith)) in
+      let e : grantFor (a - grants) ≡ a = omega arith in
+      let c = rw e at (b .mem .holds .grant (a - grants) (omega arith)) in
       omega (arith, count-append z (some (getD m a 0)) (pagesIn n m (a + 1)), granted z n (a + 1) (omega arith) (omega arith), ap (count z) c)
 
   free : queue m freeList ≡ L freeList
   free =
       let s = b .facts .sep in
-      walk-chain 20 m 0 freeList (L freeList) (chain0 s (b .mem) freeList (in-free ps, grant-low freeList (omega arith)) (omega arith))
+      walk-chain controlPages m link freeList (L freeList) (chain0 s (b .mem) freeList (in-free ps, grant-low freeList (omega arith)) (omega arith))
       (list-short s freeList (in-free ps))
 
   pub four : (z : ℕ) → asProcessor m z + asFree m z + asMessage m z + asGrant m z ≡ one z
@@ -84,12 +83,12 @@ module _ {m : List ℕ} {ps : List ℕ} {L : Lists} {W : View} {g : ℕ} (b : Ba
         ap (count z) free,
         ap (λ (qs : List ℕ). count z (mailOf m qs)) (listed b),
         in-mail z ps (λ p i. i),
-        granted z 32 320 (omega arith) (omega arith),
-        sum-append z L (mails ps) (range 32 1 320),
+        granted z pageSize grants (omega arith) (omega arith),
+        sum-append z L (mails ps) grantWords,
       )
 
 -- each control page has exactly one of the four uses
-pub used-once : {m : List ℕ} → Sound m → (z : ℕ) → firstControl ≤ z → z ≤ 255 → asProcessor m z + asFree m z + asMessage m z + asGrant m z ≡ 1
+pub used-once : {m : List ℕ} → Sound m → (z : ℕ) → firstControl ≤ z → z ≤ lastControl → asProcessor m z + asFree m z + asMessage m z + asGrant m z ≡ 1
 used-once h z l u = four (invariant (well h) .base) z ∙ page-one z (l, omega arith)
 
 -- no other number is a page of any list

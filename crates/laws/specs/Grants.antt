@@ -9,7 +9,7 @@ use native.Mathlib.Omega.{arith}
 use lib.ListN.{length, getD, set}
 use lib.Dec.{eqb}
 use borrow.Author.Tests.{ne-eqb}
-use Rattle.model.specs.Map.{freeList, freeSemaphore, grantFor, label, link, pageQueue, place, q1, reason, state}
+use Rattle.model.specs.Map.{freeList, freeSemaphore, grantFor, label, link, lower, lowered, pageQueue, pageSize, place, q1, raised, reason, state}
 use Rattle.model.specs.Bytes.{word}
 use Rattle.model.specs.Page as Page
 use Rattle.model.specs.Page.Taken.{took}
@@ -65,7 +65,7 @@ module _ {m : List ℕ} {ps : List ℕ} {L : Lists} {W : View} {hs : List ℕ} {
   s = b .facts .sep
 
   abbrev n : ℕ
-  n = W .label p % 16
+  n = lower (W .label p)
 
   abbrev A : Lists
   A = upd L pageQueue ws
@@ -97,13 +97,17 @@ module _ {m : List ℕ} {ps : List ℕ} {L : Lists} {W : View} {hs : List ℕ} {
       )
 
   -- another that waits has another name
-  twins : (x : ℕ) → 1 ≤ count x (A pageQueue) → W .label x % 16 ≡ n → ⊥
+  twins : (x : ℕ) → 1 ≤ count x (A pageQueue) → lower (W .label x) ≡ n → ⊥
   twins x h d =
       let i : 1 ≤ count x ws = rw (upd-same L pageQueue ws) at h in
       let hx : 1 ≤ count x (L pageQueue) = rw e (omega arith) in
       let no : x ≢ p = λ z.
       omega (arith, ap (λ (y : ℕ). count y ws) z, ap (count p) e, hit-self p, sum-one p L pageQueue (queues ps) (omega arith), s .waits p, proc-once s p) in
-      omega (arith, each-two (λ y. W .label y % 16) x p ps no d (wait-page s pageQueue x (omega arith) hx) waiter-proc, b .facts .names .differ p waiter-proc)
+      omega (
+        arith,
+        each-two (λ y. lower (W .label y)) x p ps no d (wait-page s pageQueue x (omega arith) hx) waiter-proc,
+        b .facts .names .differ p waiter-proc,
+      )
 
   facts-grant : Facts ps K (woken W freeSemaphore p) g
   facts-grant =
@@ -113,13 +117,13 @@ module _ {m : List ℕ} {ps : List ℕ} {L : Lists} {W : View} {hs : List ℕ} {
         sep = uses-sep (fw .sep) (grantFor n) i (omega arith) (some q) (λ z. omega (arith, more z, b .all z));
         same = queue-same (fw .sep) (grantFor n) i (omega arith) (some q);
         sems = λ a h. rw (stock-same A K (o freeList (omega arith)) a) (fw .sems a h);
-        bare = λ x h. rw (o freeList (omega arith), o (320 + W .label x % 16) (λ d. twins x h (omega arith))) (fw .granted .bare x h);
+        bare = λ x h. rw (o freeList (omega arith), o (grantFor (lower (W .label x))) (λ d. twins x h (omega arith))) (fw .granted .bare x h);
         known = λ k h d c. known k h d c (hit-or k n);
         mail = λ y w h u v. rw (o (place y w) (let t = proc-page s y h in omega arith)) (fw .mail y w h u v);
         none = λ y x h j. rw (o (place y q1) (let t = proc-page s y h in omega arith)) (fw .own y h x j .none);
       }) fw
     where
-      known : (k : ℕ) → k < 32 → k ≢ g → length (K (grantFor k)) ≢ 0 → (k ≡ n) ⊎ (k ≢ n) → count k (each-of (λ y. W .label y % 16) ps) ≡ 1
+      known : (k : ℕ) → k < pageSize → k ≢ g → length (K (grantFor k)) ≢ 0 → (k ≡ n) ⊎ (k ≢ n) → count k (each-of (λ y. lower (W .label y)) ps) ≡ 1
       known k h d c (inl t) = rw t (b .facts .names .differ p waiter-proc)
       known k h d c (inr t) = fw .granted .known k h d (rw (upd-other A (grantFor n) (grantFor k) (some q) (omega arith)) at c)
 
@@ -167,7 +171,7 @@ pub any-of : {m : List ℕ} {ps : List ℕ} {L : Lists} {W : View} {hs : List �
 any-of {ps = ps} {L = L} {W = W} b = record { procs = ps; lists = L; view = W; base = b }
 
 module _ {m : List ℕ} {ps : List ℕ} {L : Lists} {W : View} {hs : List ℕ} {g q : ℕ} (b : Base m ps L W (q ∷ hs) g) where
-  asking : Chain m 0 pageQueue (L pageQueue)
+  asking : Chain m link pageQueue (L pageQueue)
   asking = chain0 (b .facts .sep) (b .mem) pageQueue (in-asking ps, grant-low pageQueue (omega arith)) (omega arith)
 
   pub give-is-free : L pageQueue ≡ [] → giveBack m q ≡ freePage m q
@@ -183,13 +187,13 @@ module _ {m : List ℕ} {ps : List ℕ} {L : Lists} {W : View} {hs : List ℕ} {
     where
       go : (xs : List ℕ) → L pageQueue ≡ xs → Gave (giveBack m q) ps hs g W
       go [] e = rw (give-is-free e) (record {
-        lists = upd L freeList (L 244 ++ q ∷ []);
-        view = withSem W (put1 (W .sem) freeSemaphore ((W .sem 245 + 1) % 256));
+        lists = upd L freeList (L freeList ++ q ∷ []);
+        view = withSem W (put1 (W .sem) freeSemaphore (raised (W .sem freeSemaphore)));
         base = give-free b e;
         low = refl;
       })
       go (p ∷ ws) e = rw (give-is-grant p ws e) (record {
-        lists = upd (upd L pageQueue ws) (320 + W .label p % 16) (some q);
+        lists = upd (upd L pageQueue ws) (grantFor (lower (W .label p))) (some q);
         view = woken W freeSemaphore p;
         base = give-grant b p ws e;
         low = refl;
@@ -209,7 +213,7 @@ module _ {m : List ℕ} {ps : List ℕ} {L : Lists} {W : View} {hs : List ℕ} {
   unfolding Page.freePage
   free-frame =
       let s = b .facts .sep in
-      let v = (getD m freeSemaphore 0 + 1) % 256 in
+      let v = raised (getD m freeSemaphore 0) in
       join-frame s (sem-mem s (b .mem) freeSemaphore v (page-sem ps)) freeList (in-free ps, grant-low freeList (omega arith)) (omega arith) q
       (hand-page b q (in-hand b)) (hand-new b) c (o .low freeList (omega arith) (omega arith)) (o .free) (o .hand)
       ∙ other m freeSemaphore v c (o .low freeSemaphore (omega arith) (omega arith))
@@ -218,7 +222,7 @@ module _ {m : List ℕ} {ps : List ℕ} {L : Lists} {W : View} {hs : List ℕ} {
   unfolding Page.grantPage
   grant-frame p ws e =
       let s = b .facts .sep in
-      let n = W .label p % 16 in
+      let n = lower (W .label p) in
       let same = upd-other L (grantFor n) pageQueue (some q) (omega arith) in
       let t = o .waiter p (rw e (omega (arith, hit-self p))) in
       rw (b .mem .reads .words .label p (proc-page s p (waiter-proc b p ws e)))
@@ -236,7 +240,7 @@ module _ {m : List ℕ} {ps : List ℕ} {L : Lists} {W : View} {hs : List ℕ} {
 -- ---- take a page
 pub data Takes (m : List ℕ) (p : ℕ) (ps : List ℕ) (L : Lists) (W : View) (hs : List ℕ) (g : ℕ) : Type 0 where
   gets : (q : ℕ) (m1 : List ℕ) → takePage m p ≡ took q m1 → q ≢ 0 → (t : Gave m1 ps (q ∷ hs) g W) → t .view .label ≡ W .label → Takes m p ps L W hs g
-  lacks : takePage m p ≡ took 0 m → L freeList ≡ [] → length (L (320 + W .label p % 16)) ≡ 0 → Takes m p ps L W hs g
+  lacks : takePage m p ≡ took 0 m → L freeList ≡ [] → length (L (grantFor (lower (W .label p)))) ≡ 0 → Takes m p ps L W hs g
 
 pub take-page : {m : List ℕ} {ps : List ℕ} {L : Lists} {W : View} {hs : List ℕ} {g : ℕ} (p : ℕ) → 1 ≤ count p ps → Base m ps L W hs g
     → Takes m p ps L W hs g
@@ -244,30 +248,30 @@ unfolding Page.takePage Page.firstFree
 take-page {m} {ps} {L} {W} {hs} {g} p h b = go (getD m (grantFor n) 0) refl (L freeList) refl
   where
     n : ℕ
-    n = W .label p % 16
+    n = lower (W .label p)
 
     at-label : word m p label ≡ W .label p
     at-label = b .mem .reads .words .label p (proc-page (b .facts .sep) p h)
 
-    free : Chain m 0 freeList (L freeList)
+    free : Chain m link freeList (L freeList)
     free = chain0 (b .facts .sep) (b .mem) freeList (in-free ps, grant-low freeList (omega arith)) (omega arith)
 
-    go : (x : ℕ) → getD m (320 + W .label p % 16) 0 ≡ x → (xs : List ℕ) → L freeList ≡ xs → Takes m p ps L W hs g
+    go : (x : ℕ) → getD m (grantFor (lower (W .label p))) 0 ≡ x → (xs : List ℕ) → L freeList ≡ xs → Takes m p ps L W hs g
     go zero e [] f =
         let c : getD m freeList 0 ≡ 0 = rw f at free in
-        lacks (rw (at-label, e, c)) f (ap length (b .mem .holds .grant (W .label p % 16) (omega arith)) ∙ ap (λ (x : ℕ). length (some x)) e)
+        lacks (rw (at-label, e, c)) f (ap length (b .mem .holds .grant (lower (W .label p)) (omega arith)) ∙ ap (λ (x : ℕ). length (some x)) e)
     go zero e (q ∷ fs) f =
         let c = rw f at free in
         gets q (takeFree m q) (rw (at-label, e, c .0, ne-eqb q 0 (omega arith))) (omega arith) (record {
           lists = upd L freeList fs;
-          view = withSem W (put1 (W .sem) freeSemaphore ((W .sem 245 + 255) % 256));
+          view = withSem W (put1 (W .sem) freeSemaphore (lowered (W .sem freeSemaphore)));
           base = take-free q fs b f;
           low = refl;
         }) refl
     go (suc x) e xs f =
-        gets (suc x) (set m (320 + W .label p % 16) 0) (rw (at-label, e, ne-eqb (suc x) 0 (omega arith))) (omega arith) (record {
-          lists = upd L (320 + W .label p % 16) [];
+        gets (suc x) (set m (grantFor (lower (W .label p))) 0) (rw (at-label, e, ne-eqb (suc x) 0 (omega arith))) (omega arith) (record {
+          lists = upd L (grantFor (lower (W .label p))) [];
           view = W;
-          base = take-grant b (W .label p % 16) (suc x) (omega arith) (b .mem .holds .grant (W .label p % 16) (omega arith) ∙ ap some e);
+          base = take-grant b (lower (W .label p)) (suc x) (omega arith) (b .mem .holds .grant (lower (W .label p)) (omega arith) ∙ ap some e);
           low = refl;
         }) refl

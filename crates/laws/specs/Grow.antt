@@ -6,10 +6,10 @@ use Prim.Native.Nat.{ℕ, _+_, _-_, _*_, _/_, _%_, _≤_, _<_}
 use native.Mathlib.Omega.{arith}
 use lib.ListN.{length, getD, set, length-set}
 use lib.Dec.{eqb}
-use Rattle.model.specs.Map.{freeList, grantFor, guardedLast, headerAfter, interrupts, listLink, ownQueue, ownSemaphore, pageQueue, place, processorList, q1}
-use Rattle.model.specs.Map.{q2, runningPage}
+use Rattle.model.specs.Map as Map
+use Rattle.model.specs.Map.{freeList, grantFor, guardedLast, headerAfter, interrupts, less, listLink, lower, ownQueue, ownSemaphore, pageQueue}
+use Rattle.model.specs.Map.{pageSize, place, processorList, q1, q2, runningPage, waitIn, zerosIn}
 use Rattle.model.specs.Bytes.{store, word}
-use Rattle.model.specs.Map.{less}
 use Rattle.model.specs.Bytes.{join}
 use Rattle.model.specs.Lists.{hit, count, Lists, sum, linkOf, uses, queues}
 use Rattle.laws.specs.Count.{hit-self, hit-other, hit-or, one-hit, count-append}
@@ -29,11 +29,11 @@ use Rattle.laws.specs.Still.{Aside, aside-hand}
 
 -- ---- the new page q: its words, and that nobody bears its name
 pub record New (m : List ℕ) (ps : List ℕ) (W : View) (q : ℕ) : Type 0 where
-  pub empty : (w : ℕ) → 3 ≤ w → w ≤ 6 → word m q w ≡ 0
+  pub empty : (w : ℕ) → ownSemaphore ≤ w → w ≤ q2 → word m q w ≡ 0
   pub label : Label (W .label q)
-  pub unnamed : bearers (W .label) ps (W .label q % 16) ≡ 0
-  pub bit : W .state q % 128 / 64 ≡ 0
-  pub zeros : W .state q % 64 / 16 ≡ 0
+  pub unnamed : bearers (W .label) ps (lower (W .label q)) ≡ 0
+  pub bit : waitIn (W .state q) ≡ 0
+  pub zeros : zerosIn (W .state q) ≡ 0
   pub reason : W .reason q ≡ 0
 
 module _ {m : List ℕ} {ps : List ℕ} {L : Lists} {W : View} {hs : List ℕ} {g : ℕ} (q : ℕ) (b : Base m ps L W (q ∷ hs) g) (n : New m ps W q) where
@@ -52,15 +52,15 @@ module _ {m : List ℕ} {ps : List ℕ} {L : Lists} {W : View} {hs : List ℕ} {
   pub grown : Lists
   grown = upd (upd (upd A (place q ownQueue) []) (place q q1) []) (place q q2) []
 
-  new-list : (w : ℕ) → 4 ≤ w → w ≤ 6 → grown (place q w) ≡ []
+  new-list : (w : ℕ) → ownQueue ≤ w → w ≤ q2 → grown (place q w) ≡ []
   unfolding grown
-  new-list w l u = go (hit-or w 6) (hit-or w 5)
+  new-list w l u = go (hit-or w q2) (hit-or w q1)
     where
-      go : (w ≡ 6) ⊎ (w ≢ 6) → (w ≡ 5) ⊎ (w ≢ 5) → grown (place q w) ≡ []
+      go : (w ≡ q2) ⊎ (w ≢ q2) → (w ≡ q1) ⊎ (w ≢ q1) → grown (place q w) ≡ []
       go (inl e) f = rw (e, upd-same)
       go (inr e) (inl f) = rw (f, upd-other (upd (upd A (place q ownQueue) []) (place q q1) []) (place q q2) (place q q1) [] (omega arith), upd-same)
       go (inr e) (inr f) =
-          let d : w ≡ 4 = omega arith in
+          let d : w ≡ ownQueue = omega arith in
           rw (
             d,
             upd-other (upd (upd A (place q ownQueue) []) (place q q1) []) (place q q2) (place q ownQueue) [] (omega arith),
@@ -80,7 +80,7 @@ module _ {m : List ℕ} {ps : List ℕ} {L : Lists} {W : View} {hs : List ℕ} {
   -- at a head of before
   at-old : (a : ℕ) → Among ps a → grown a ≡ A a
   at-old a h =
-      old-list a (head-off s q 4 a pg (omega arith) out h) (head-off s q 5 a pg (omega arith) out h) (head-off s q 6 a pg (omega arith) out h)
+      old-list a (head-off s q ownQueue a pg (omega arith) out h) (head-off s q q1 a pg (omega arith) out h) (head-off s q q2 a pg (omega arith) out h)
 
   at-same : (a : ℕ) → Among ps a → a ≢ processorList → grown a ≡ L a
   at-same a h d = at-old a h ∙ upd-other L processorList a P d
@@ -88,7 +88,7 @@ module _ {m : List ℕ} {ps : List ℕ} {L : Lists} {W : View} {hs : List ℕ} {
   -- a head is one of before, or one of the three new ones
   data Which (a : ℕ) : Type 0 where
     old : Among ps a → Which a
-    fresh : (w : ℕ) → 4 ≤ w → w ≤ 6 → a ≡ place q w → Which a
+    fresh : (w : ℕ) → ownQueue ≤ w → w ≤ q2 → a ≡ place q w → Which a
 
   pn : ps ++ [] ≡ ps
   pn = append-nil ps
@@ -103,9 +103,9 @@ module _ {m : List ℕ} {ps : List ℕ} {L : Lists} {W : View} {hs : List ℕ} {
   which a h = go (hit-or a (place q ownQueue)) (hit-or a (place q q1)) (hit-or a (place q q2))
     where
       go : (a ≡ place q ownQueue) ⊎ (a ≢ place q ownQueue) → (a ≡ place q q1) ⊎ (a ≢ place q q1) → (a ≡ place q q2) ⊎ (a ≢ place q q2) → Which a
-      go (inl e) f i = fresh 4 (omega arith) (omega arith) e
-      go (inr d) (inl e) i = fresh 5 (omega arith) (omega arith) e
-      go (inr d) (inr e) (inl f) = fresh 6 (omega arith) (omega arith) f
+      go (inl e) f i = fresh ownQueue (omega arith) (omega arith) e
+      go (inr d) (inl e) i = fresh q1 (omega arith) (omega arith) e
+      go (inr d) (inr e) (inl f) = fresh q2 (omega arith) (omega arith) f
       go (inr d) (inr e) (inr f) =
           old (omega (
             arith,
@@ -146,8 +146,8 @@ module _ {m : List ℕ} {ps : List ℕ} {L : Lists} {W : View} {hs : List ℕ} {
       omega (
         arith,
         rw pn at (uses-sum ps q [] z grown),
-        ap (count z) (new-list 5 (omega arith) (omega arith)),
-        ap (count z) (new-list 6 (omega arith) (omega arith)),
+        ap (count z) (new-list q1 (omega arith) (omega arith)),
+        ap (count z) (new-list q2 (omega arith) (omega arith)),
         sum-ext z grown A (uses ps) (λ a h. at-old a (in-uses ps a h)),
         sum-upd z L processorList P (uses ps) (procs-once s .here),
         count-P z,
@@ -159,7 +159,7 @@ module _ {m : List ℕ} {ps : List ℕ} {L : Lists} {W : View} {hs : List ℕ} {
       omega (
         arith,
         rw pn at (queues-sum ps q [] z grown),
-        ap (count z) (new-list 4 (omega arith) (omega arith)),
+        ap (count z) (new-list ownQueue (omega arith) (omega arith)),
         sum-ext z grown A (queues ps) (λ a h. at-old a (in-queues ps a h)),
         sum-skip z L processorList P (queues ps) (procs-once s .away),
       )
@@ -175,11 +175,11 @@ module _ {m : List ℕ} {ps : List ℕ} {L : Lists} {W : View} {hs : List ℕ} {
   }
 
   -- ---- the sentences
-  named : (k : ℕ) → bearers (W .label) P k ≡ bearers (W .label) ps k + hit (eqb k (W .label q % 16))
-  named k = rw pn at (names-more ps q [] (λ p. W .label p % 16) k)
+  named : (k : ℕ) → bearers (W .label) P k ≡ bearers (W .label) ps k + hit (eqb k (lower (W .label q)))
+  named k = rw pn at (names-more ps q [] (λ p. lower (W .label p)) k)
 
-  other-name : (k : ℕ) → 1 ≤ bearers (W .label) ps k → hit (eqb k (W .label q % 16)) ≡ 0
-  other-name k h = hit-other k (W .label q % 16) (λ e. omega (arith, ap (bearers (W .label) ps) e, n .unnamed))
+  other-name : (k : ℕ) → 1 ≤ bearers (W .label) ps k → hit (eqb k (lower (W .label q))) ≡ 0
+  other-name k h = hit-other k (lower (W .label q)) (λ e. omega (arith, ap (bearers (W .label) ps) e, n .unnamed))
 
   abbrev X : View
   X = withSem W (put1 (W .sem) (place q ownSemaphore) 0)
@@ -204,7 +204,10 @@ module _ {m : List ℕ} {ps : List ℕ} {L : Lists} {W : View} {hs : List ℕ} {
         sems = λ a h. sems a (which-queue (a + 1) h);
         granted = record {
           bare = λ y c.
-              rw (at-same freeList (in-free ps) (omega arith), at-same (320 + W .label y % 16) (in-grant ps (W .label y % 16) (omega arith)) (omega arith))
+              rw (
+                at-same freeList (in-free ps) (omega arith),
+                at-same (grantFor (lower (W .label y))) (in-grant ps (lower (W .label y)) (omega arith)) (omega arith),
+              )
               (f .granted .bare y (rw wa at c));
           known = λ k h d c.
               let t = f .granted .known k h d (rw (at-same (grantFor k) (in-grant ps k h) (omega arith)) at c) in
@@ -223,37 +226,37 @@ module _ {m : List ℕ} {ps : List ℕ} {L : Lists} {W : View} {hs : List ℕ} {
         faults = f .faults;
       }
     where
-      differ : (y : ℕ) → (1 ≤ count y ps) ⊎ (y ≡ q) → bearers (W .label) P (W .label y % 16) ≡ 1
-      differ y (inl h) = let t = b .facts .names .differ y h in omega (arith, named (W .label y % 16), other-name (W .label y % 16) (omega arith))
-      differ y (inr e) = rw e (omega (arith, named (W .label q % 16), n .unnamed, hit-self (W .label q % 16)))
+      differ : (y : ℕ) → (1 ≤ count y ps) ⊎ (y ≡ q) → bearers (W .label) P (lower (W .label y)) ≡ 1
+      differ y (inl h) = let t = b .facts .names .differ y h in omega (arith, named (lower (W .label y)), other-name (lower (W .label y)) (omega arith))
+      differ y (inr e) = rw e (omega (arith, named (lower (W .label q)), n .unnamed, hit-self (lower (W .label q))))
 
       range : (y : ℕ) → (1 ≤ count y ps) ⊎ (y ≡ q) → Label (W .label y)
       range y (inl h) = b .facts .names .range y h
       range y (inr e) = rw e (n .label)
 
-      bit : (y : ℕ) → (1 ≤ count y ps) ⊎ (y ≡ q) → sum y grown (queues P) ≡ W .state y % 128 / 64
+      bit : (y : ℕ) → (1 ≤ count y ps) ⊎ (y ≡ q) → sum y grown (queues P) ≡ waitIn (W .state y)
       bit y (inl h) = sum-queues y ∙ b .facts .seats .bit y h
       bit y (inr e) = rw e (sum-queues q ∙ idle-q ∙ sym (n .bit))
 
-      zeros : (y : ℕ) → (1 ≤ count y ps) ⊎ (y ≡ q) → W .state y % 64 / 16 ≡ 0
+      zeros : (y : ℕ) → (1 ≤ count y ps) ⊎ (y ≡ q) → zerosIn (W .state y) ≡ 0
       zeros y (inl h) = b .facts .seats .zeros y h
       zeros y (inr e) = rw e (n .zeros)
 
-      quiet : (y : ℕ) → W .state y % 128 / 64 ≡ 0 → (1 ≤ count y ps) ⊎ (y ≡ q) → W .reason y ≡ 0
+      quiet : (y : ℕ) → waitIn (W .state y) ≡ 0 → (1 ≤ count y ps) ⊎ (y ≡ q) → W .reason y ≡ 0
       quiet y z (inl h) = b .facts .seats .quiet y h z
       quiet y z (inr e) = rw e (n .reason)
 
       own : (y x : ℕ) → 1 ≤ count x (grown (place y ownQueue)) → (1 ≤ count y ps) ⊎ (y ≡ q) → Waits (W .reason y) (W .note) (grown (place y q1)) y x
       own y x c (inl h) =
           let t = proc-page s y h in
-          rw (at-same (place y q1) (in-q ps y 5 (omega arith) (omega arith) h) (omega arith))
+          rw (at-same (place y q1) (in-q ps y q1 (omega arith) (omega arith) h) (omega arith))
           (b .facts .own y h x (rw (at-same (place y ownQueue) (in-own ps y h) (omega arith)) at c))
-      own y x c (inr e) = let z = rw (e, new-list 4 (omega arith) (omega arith)) at c in absurd (omega arith)
+      own y x c (inr e) = let z = rw (e, new-list ownQueue (omega arith) (omega arith)) at c in absurd (omega arith)
 
       sems : (a : ℕ) → (1 ≤ count (a + 1) (queues ps)) ⊎ (a + 1 ≡ place q ownQueue)
           → put1 (W .sem) (place q ownSemaphore) 0 a ≡ less (stock grown a) (length (grown (a + 1)))
       sems a (inl h) =
-          let d : a ≢ q * 32 + 3 = λ e. head-off s q 4 (a + 1) pg (omega arith) out (in-queues ps (a + 1) h) (omega arith) in
+          let d : a ≢ place q ownSemaphore = λ e. head-off s q ownQueue (a + 1) pg (omega arith) out (in-queues ps (a + 1) h) (omega arith) in
           let d7 : a + 1 ≢ processorList = λ e. omega (arith, ap (λ (y : ℕ). count y (queues ps)) e, procs-once s .away) in
           rw (
             put1-other (W .sem) (place q ownSemaphore) 0 a d,
@@ -263,10 +266,10 @@ module _ {m : List ℕ} {ps : List ℕ} {L : Lists} {W : View} {hs : List ℕ} {
           )
           (b .facts .sems a h)
       sems a (inr e) =
-          let d : a ≡ q * 32 + 3 = omega arith in
-          rw (put1-same (W .sem) (place q ownSemaphore) 0 a d, e, new-list 4 (omega arith) (omega arith), stock-else grown a (omega arith))
+          let d : a ≡ place q ownSemaphore = omega arith in
+          rw (put1-same (W .sem) (place q ownSemaphore) 0 a d, e, new-list ownQueue (omega arith) (omega arith), stock-else grown a (omega arith))
 
-      mail : (y w : ℕ) → 5 ≤ w → w ≤ 6 → (x : ℕ) → 1 ≤ count x (grown (place y w)) → (1 ≤ count y ps) ⊎ (y ≡ q) → Message (W .note x) (W .reason x)
+      mail : (y w : ℕ) → q1 ≤ w → w ≤ q2 → (x : ℕ) → 1 ≤ count x (grown (place y w)) → (1 ≤ count y ps) ⊎ (y ≡ q) → Message (W .note x) (W .reason x)
       mail y w u v x c (inl h) =
           let t = proc-page s y h in
           b .facts .mail y w h u v x (rw (at-same (place y w) (in-q ps y w u v h) (omega arith)) at c)
@@ -274,7 +277,7 @@ module _ {m : List ℕ} {ps : List ℕ} {L : Lists} {W : View} {hs : List ℕ} {
 
   -- ---- the memory
   abbrev c : ℕ
-  c = last 1 processorList ps
+  c = last listLink processorList ps
 
   abbrev m1 : List ℕ
   m1 = store m q listLink 0
@@ -282,25 +285,25 @@ module _ {m : List ℕ} {ps : List ℕ} {L : Lists} {W : View} {hs : List ℕ} {
   abbrev m2 : List ℕ
   m2 = set m1 c q
 
-  joined : join m processorList 1 q ≡ m2
+  joined : join m processorList listLink q ≡ m2
   joined =
       let h : Head ps processorList = (in-procs ps, grant-low processorList (omega arith)) in
       let ch = rw (link-procs, s .procs) at (b .mem .holds .rep processorList h) in
-      join-is m 1 processorList q ps ch (omega (arith, ap length (s .procs), list-short s processorList (in-procs ps))) (omega (arith, pg))
-      (off-page q 1 1 ps (omega arith) (omega arith) out)
+      join-is m listLink processorList q ps ch (omega (arith, ap length (s .procs), list-short s processorList (in-procs ps))) (omega (arith, pg))
+      (off-page q listLink listLink ps (omega arith) (omega arith) out)
 
   -- a word that is neither q's word 1, nor word 1 of a processor, nor 247
-  same : (a : ℕ) → a ≢ place q listLink → a ≢ processorList → ((z : ℕ) → 1 ≤ count z ps → a ≢ place z 1) → getD m2 a 0 ≡ getD m a 0
-  same a n1 n7 nz = other m1 c q a (last-not 1 processorList ps a n7 nz) ∙ other m (place q listLink) 0 a n1
+  same : (a : ℕ) → a ≢ place q listLink → a ≢ processorList → ((z : ℕ) → 1 ≤ count z ps → a ≢ place z listLink) → getD m2 a 0 ≡ getD m a 0
+  same a n1 n7 nz = other m1 c q a (last-not listLink processorList ps a n7 nz) ∙ other m (place q listLink) 0 a n1
 
   -- word j of a page, but 1
-  same-word : (y j : ℕ) → Page y → j < 32 → j ≢ 1 → word m2 y j ≡ word m y j
+  same-word : (y j : ℕ) → Page y → j < pageSize → j ≢ listLink → word m2 y j ≡ word m y j
   same-word y j h l d = same (place y j) (omega arith) (omega (arith, h)) (λ z i. omega arith)
 
   same-low : (a : ℕ) → a < guardedLast → a ≢ processorList → getD m2 a 0 ≡ getD m a 0
   same-low a l d = same a (omega (arith, pg)) d (λ z i. let t = proc-page s z i in omega arith)
 
-  pub grow-mem : Mem (join m processorList 1 q) P grown X
+  pub grow-mem : Mem (join m processorList listLink q) P grown X
   grow-mem = rw joined (record {
     size = simp length-set (b .mem .size);
     holds = record {
@@ -314,9 +317,9 @@ module _ {m : List ℕ} {ps : List ℕ} {L : Lists} {W : View} {hs : List ℕ} {
             let d = hit-or y q in
             same (place y listLink) (note y i) (omega (arith, h)) (λ z j e. omega (arith, ap (λ (x : ℕ). count x ps) (row y z e), count-P y))
             ∙ b .mem .reads .words .note y h (omega (arith, count-P y));
-        reason = λ y h. same-word y 2 h (omega arith) (omega arith) ∙ b .mem .reads .words .reason y h;
-        label = λ y h. same-word y 7 h (omega arith) (omega arith) ∙ b .mem .reads .words .label y h;
-        state = λ y h. same-word y 12 h (omega arith) (omega arith) ∙ b .mem .reads .words .state y h;
+        reason = λ y h. same-word y Map.reason h (omega arith) (omega arith) ∙ b .mem .reads .words .reason y h;
+        label = λ y h. same-word y Map.label h (omega arith) (omega arith) ∙ b .mem .reads .words .label y h;
+        state = λ y h. same-word y Map.state h (omega arith) (omega arith) ∙ b .mem .reads .words .state y h;
       };
       fixed = fixed-same (λ a h i. same-low a (omega arith) (omega arith)) (λ a h i. same-low a (omega arith) (omega arith))
           (λ a h i. same-low a (omega arith) (omega arith)) (b .mem .reads .fixed);
@@ -324,7 +327,7 @@ module _ {m : List ℕ} {ps : List ℕ} {L : Lists} {W : View} {hs : List ℕ} {
     };
   })
     where
-      row : (y z : ℕ) → place y listLink ≡ place z 1 → y ≡ z
+      row : (y z : ℕ) → place y listLink ≡ place z listLink → y ≡ z
       row y z e = omega arith
 
       note : (y : ℕ) → count y P ≡ 0 → place y listLink ≢ place q listLink
@@ -340,12 +343,13 @@ module _ {m : List ℕ} {ps : List ℕ} {L : Lists} {W : View} {hs : List ℕ} {
 
       sem : (a : ℕ) → (1 ≤ count (a + 1) (queues ps)) ⊎ (a + 1 ≡ place q ownQueue) → getD m2 a 0 ≡ put1 (W .sem) (place q ownSemaphore) 0 a
       sem a (inl h) =
-          let d : a ≢ q * 32 + 3 = λ e. head-off s q 4 (a + 1) pg (omega arith) out (in-queues ps (a + 1) h) (omega arith) in
+          let d : a ≢ place q ownSemaphore = λ e. head-off s q ownQueue (a + 1) pg (omega arith) out (in-queues ps (a + 1) h) (omega arith) in
           rw (put1-other (W .sem) (place q ownSemaphore) 0 a d) (seat-same m m2 (λ x i j. same-low x (omega arith) (omega arith))
-          (λ y u. same-word y 3 (proc-page s y u) (omega arith) (omega arith)) a (seat-of ps a h) ∙ b .mem .reads .sems a h)
+          (λ y u. same-word y ownSemaphore (proc-page s y u) (omega arith) (omega arith)) a (seat-of ps a h) ∙ b .mem .reads .sems a h)
       sem a (inr e) =
-          let d : a ≡ q * 32 + 3 = omega arith in
-          rw (put1-same (W .sem) (place q ownSemaphore) 0 a d, d) (same-word q 3 pg (omega arith) (omega arith) ∙ n .empty 3 (omega arith) (omega arith))
+          let d : a ≡ place q ownSemaphore = omega arith in
+          rw (put1-same (W .sem) (place q ownSemaphore) 0 a d, d)
+          (same-word q ownSemaphore pg (omega arith) (omega arith) ∙ n .empty ownSemaphore (omega arith) (omega arith))
 
-  pub grow-base : Base (join m processorList 1 q) P grown X hs g
+  pub grow-base : Base (join m processorList listLink q) P grown X hs g
   grow-base = record { mem = grow-mem; facts = grow-facts; all = λ z. omega (arith, sum-uses z, b .all z) }

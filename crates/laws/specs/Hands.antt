@@ -10,11 +10,11 @@ use native.Mathlib.Omega.{arith}
 use lib.ListN.{length, getD, set, length-append}
 use lib.Dec.{eqb}
 use Rattle.model.specs.Map as Map
-use Rattle.model.specs.Map.{freeList, freeSemaphore, grantFor, ownQueue, pageQueue, place, processorList, q1, size}
+use Rattle.model.specs.Map.{freeList, freeSemaphore, grantFor, grantsEnd, less, link, lower, lowered, ownQueue, pageQueue, pageSize, place}
+use Rattle.model.specs.Map.{processorList, q1, q2, raised, size, upper}
 use Rattle.model.specs.Bytes.{word}
 use Rattle.model.specs.Mail.{fits}
 use Rattle.model.specs.Page as Page
-use Rattle.model.specs.Map.{less}
 use Rattle.model.specs.Bytes.{join, leave, takeFree, freePage}
 use Rattle.model.specs.Lists.{hit, count, Lists, sum, uses, queues}
 use Rattle.laws.specs.Count.{hit-self, hit-other, hit-or, count-append}
@@ -67,10 +67,10 @@ module _ {m : List ℕ} {ps : List ℕ} {L : Lists} {W : View} {hs : List ℕ} {
   empty [] h = refl
   empty (x ∷ xs) h = absurd (h x (omega (arith, hit-self x)))
 
-  pub take-free : Base (takeFree m q) ps (upd L freeList fs) (withSem W (put1 (W .sem) freeSemaphore ((W .sem 245 + 255) % 256))) (q ∷ hs) g
+  pub take-free : Base (takeFree m q) ps (upd L freeList fs) (withSem W (put1 (W .sem) freeSemaphore (lowered (W .sem freeSemaphore)))) (q ∷ hs) g
   unfolding Page.takeFree
   take-free =
-      let v = (W .sem 245 + 255) % 256 in
+      let v = lowered (W .sem freeSemaphore) in
       let o : (c : ℕ) → c ≢ freeList → upd L freeList fs c ≡ L c = λ c n. upd-other L freeList c fs n in
       let x = leave-mem s (sem-mem s (b .mem) freeSemaphore v (page-sem ps)) freeList (in-free ps, grant-low freeList (omega arith)) (omega arith) q [] fs e in
       rw (b .mem .reads .sems freeSemaphore (page-sem ps)) (record {
@@ -88,10 +88,10 @@ module _ {m : List ℕ} {ps : List ℕ} {L : Lists} {W : View} {hs : List ℕ} {
       })
     where
       sems : (a : ℕ) → 1 ≤ count (a + 1) (queues ps) → (a ≡ freeSemaphore) ⊎ (a ≢ freeSemaphore)
-          → put1 (W .sem) freeSemaphore ((W .sem 245 + 255) % 256) a ≡ less (stock (upd L freeList fs) a) (length (L (a + 1)))
+          → put1 (W .sem) freeSemaphore (lowered (W .sem freeSemaphore)) a ≡ less (stock (upd L freeList fs) a) (length (L (a + 1)))
       sems a h (inl d) =
           rw (
-            put1-same (W .sem) freeSemaphore ((W .sem 245 + 255) % 256) a d,
+            put1-same (W .sem) freeSemaphore (lowered (W .sem freeSemaphore)) a d,
             d,
             stock-page (upd L freeList fs),
             upd-same,
@@ -100,7 +100,7 @@ module _ {m : List ℕ} {ps : List ℕ} {L : Lists} {W : View} {hs : List ℕ} {
           )
           (omega (arith, ap length e, empty (L pageQueue) nobody, list-short s freeList (in-free ps)))
       sems a h (inr n) =
-          rw (put1-other (W .sem) freeSemaphore ((W .sem 245 + 255) % 256) a n, stock-else (upd L freeList fs) a n) (f .sems a h
+          rw (put1-other (W .sem) freeSemaphore (lowered (W .sem freeSemaphore)) a n, stock-else (upd L freeList fs) a n) (f .sems a h
           ∙ ap (λ (x : ℕ). less x (length (L (a + 1)))) (stock-else L a n))
 
 module _ {m : List ℕ} {ps : List ℕ} {L : Lists} {W : View} {hs : List ℕ} {g q : ℕ} (b : Base m ps L W (q ∷ hs) g) where
@@ -110,17 +110,17 @@ module _ {m : List ℕ} {ps : List ℕ} {L : Lists} {W : View} {hs : List ℕ} {
   pub hand-new : (c : ℕ) → Head ps c → c ≢ processorList → count q (L c) ≡ 0
   hand-new c h n = hand-free b q in-hand c (h .0)
 
-  pub give-free : L pageQueue ≡ [] → Base (freePage m q) ps (upd L freeList (L 244 ++ q ∷ []))
-      (withSem W (put1 (W .sem) freeSemaphore ((W .sem 245 + 1) % 256))) hs g
+  pub give-free : L pageQueue ≡ [] → Base (freePage m q) ps (upd L freeList (L freeList ++ q ∷ []))
+      (withSem W (put1 (W .sem) freeSemaphore (raised (W .sem freeSemaphore)))) hs g
   unfolding Page.freePage
   give-free none =
       let sp = b .facts .sep in
       let fc = b .facts in
-      let v = (W .sem 245 + 1) % 256 in
-      let K = L 244 ++ q ∷ [] in
-      let o : (c : ℕ) → c ≢ freeList → upd L freeList (L 244 ++ q ∷ []) c ≡ L c = λ c n. upd-other L freeList c (L 244 ++ q ∷ []) n in
-      let more : (z : ℕ) → sum z (upd L freeList (L 244 ++ q ∷ [])) (uses ps) ≡ sum z L (uses ps) + hit (eqb z q) = λ z.
-      omega (arith, uses-upd sp freeList (free-once sp) (omega arith) (L 244 ++ q ∷ []) z, count-append z (L freeList) (q ∷ [])) in
+      let v = raised (W .sem freeSemaphore) in
+      let K = L freeList ++ q ∷ [] in
+      let o : (c : ℕ) → c ≢ freeList → upd L freeList (L freeList ++ q ∷ []) c ≡ L c = λ c n. upd-other L freeList c (L freeList ++ q ∷ []) n in
+      let more : (z : ℕ) → sum z (upd L freeList (L freeList ++ q ∷ [])) (uses ps) ≡ sum z L (uses ps) + hit (eqb z q) = λ z.
+      omega (arith, uses-upd sp freeList (free-once sp) (omega arith) (L freeList ++ q ∷ []) z, count-append z (L freeList) (q ∷ [])) in
       let x = join-mem sp (sem-mem sp (b .mem) freeSemaphore v (page-sem ps)) freeList (in-free ps, grant-low freeList (omega arith)) (omega arith) q
       (hand-page b q in-hand) hand-new in
       rw (b .mem .reads .sems freeSemaphore (page-sem ps)) (record {
@@ -138,25 +138,25 @@ module _ {m : List ℕ} {ps : List ℕ} {L : Lists} {W : View} {hs : List ℕ} {
       })
     where
       sems : (a : ℕ) → 1 ≤ count (a + 1) (queues ps) → (a ≡ freeSemaphore) ⊎ (a ≢ freeSemaphore)
-          → put1 (W .sem) freeSemaphore ((W .sem 245 + 1) % 256) a ≡ less (stock (upd L freeList (L 244 ++ q ∷ [])) a) (length (L (a + 1)))
+          → put1 (W .sem) freeSemaphore (raised (W .sem freeSemaphore)) a ≡ less (stock (upd L freeList (L freeList ++ q ∷ [])) a) (length (L (a + 1)))
       sems a h (inl d) =
           rw (
-            put1-same (W .sem) freeSemaphore ((W .sem 245 + 1) % 256) a d,
+            put1-same (W .sem) freeSemaphore (raised (W .sem freeSemaphore)) a d,
             d,
-            stock-page (upd L freeList (L 244 ++ q ∷ [])),
+            stock-page (upd L freeList (L freeList ++ q ∷ [])),
             upd-same,
             b .facts .sems freeSemaphore (page-sem ps),
             stock-page L,
           )
           (omega (arith, ap length none, length-append (L freeList) (q ∷ []), list-short (b .facts .sep) freeList (in-free ps)))
       sems a h (inr n) =
-          rw (put1-other (W .sem) freeSemaphore ((W .sem 245 + 1) % 256) a n, stock-else (upd L freeList (L 244 ++ q ∷ [])) a n)
+          rw (put1-other (W .sem) freeSemaphore (raised (W .sem freeSemaphore)) a n, stock-else (upd L freeList (L freeList ++ q ∷ [])) a n)
           (b .facts .sems a h ∙ ap (λ (x : ℕ). less x (length (L (a + 1)))) (stock-else L a n))
 
 -- ---- to the end of Q1 or Q2: the sentences, and the model's step
 module _ {ps : List ℕ} {L : Lists} {W : View} {g : ℕ} (q : ℕ) (fc : Facts ps L W g) (room : (z : ℕ) → sum z L (uses ps) + hit (eqb z q) ≤ one z)
-    (p w : ℕ) (h : 1 ≤ count p ps) (u : 5 ≤ w) (v : w ≤ 6) (letter : Message (W .note q) (W .reason q))
-    (none : (x : ℕ) → 1 ≤ count x (L (place p ownQueue)) → w ≡ 5 → fits (W .reason p / 16) (W .reason p % 16) (W .note q) ≡ false) where
+    (p w : ℕ) (h : 1 ≤ count p ps) (u : q1 ≤ w) (v : w ≤ q2) (letter : Message (W .note q) (W .reason q))
+    (none : (x : ℕ) → 1 ≤ count x (L (place p ownQueue)) → w ≡ q1 → fits (upper (W .reason p)) (lower (W .reason p)) (W .note q) ≡ false) where
   sp : Sep ps L
   sp = fc .sep
 
@@ -166,13 +166,13 @@ module _ {ps : List ℕ} {L : Lists} {W : View} {g : ℕ} (q : ℕ) (fc : Facts 
   abbrev K : List ℕ
   K = L a ++ q ∷ []
 
-  low : 352 ≤ a
+  low : grantsEnd ≤ a
   low = let t = proc-page sp p h in omega arith
 
   pub more-mail : (z : ℕ) → sum z (upd L a K) (uses ps) ≡ sum z L (uses ps) + hit (eqb z q)
   more-mail z = omega (arith, uses-upd sp a (q-once sp p w u v h) (omega (arith, low)) K z, count-append z (L a) (q ∷ []))
 
-  mails : (y n : ℕ) → 1 ≤ count y ps → 5 ≤ n → n ≤ 6 → (x : ℕ) → 1 ≤ count x (upd L a K (place y n))
+  mails : (y n : ℕ) → 1 ≤ count y ps → q1 ≤ n → n ≤ q2 → (x : ℕ) → 1 ≤ count x (upd L a K (place y n))
       → (place y n ≡ a) ⊎ (place y n ≢ a) → (x ≡ q) ⊎ (x ≢ q) → Message (W .note x) (W .reason x)
   mails y n j l r x c d (inl e) = rw e letter
   mails y n j l r x c (inl d) (inr e) =
@@ -181,7 +181,7 @@ module _ {ps : List ℕ} {L : Lists} {W : View} {g : ℕ} (q : ℕ) (fc : Facts 
   mails y n j l r x c (inr d) (inr e) = fc .mail y n j l r x (rw (upd-other L a (place y n) K d) at c)
 
   nones : (y x : ℕ) → 1 ≤ count y ps → 1 ≤ count x (L (place y ownQueue)) → (z : ℕ) → 1 ≤ count z (upd L a K (place y q1))
-      → (place y q1 ≡ a) ⊎ (place y q1 ≢ a) → (z ≡ q) ⊎ (z ≢ q) → fits (W .reason y / 16) (W .reason y % 16) (W .note z) ≡ false
+      → (place y q1 ≡ a) ⊎ (place y q1 ≢ a) → (z ≡ q) ⊎ (z ≢ q) → fits (upper (W .reason y)) (lower (W .reason y)) (W .note z) ≡ false
   nones y x j k z c (inl d) (inl e) =
       let t : y ≡ p = omega arith in
       rw (e, t) (none x (rw t at k) (omega arith))
@@ -198,7 +198,7 @@ module _ {ps : List ℕ} {L : Lists} {W : View} {g : ℕ} (q : ℕ) (fc : Facts 
         sep = uses-sep sp a i (omega (arith, low)) K (λ z. omega (arith, more-mail z, room z));
         same = queue-same sp a i (omega (arith, low)) K;
         sems = λ c j. rw (stock-same L (upd L a K) (o freeList (omega (arith, low))) c) (fc .sems c j);
-        bare = λ y j. rw (o freeList (omega (arith, low)), o (320 + W .label y % 16) (omega (arith, low))) (fc .granted .bare y j);
+        bare = λ y j. rw (o freeList (omega (arith, low)), o (grantFor (lower (W .label y))) (omega (arith, low))) (fc .granted .bare y j);
         known = λ k j. rw (o (grantFor k) (omega (arith, low))) (fc .granted .known k j);
         mail = λ y n j l r x c. mails y n j l r x c (hit-or (place y n) a) (hit-or x q);
         none = λ y x j k z c. nones y x j k z c (hit-or (place y q1) a) (hit-or z q);
@@ -208,7 +208,7 @@ module _ {m : List ℕ} {ps : List ℕ} {L : Lists} {W : View} {hs : List ℕ} {
   pub room : (z : ℕ) → sum z L (uses ps) + hit (eqb z q) ≤ one z
   room z = omega (arith, b .all z)
 
-  pub mail-sep : (p w : ℕ) → 1 ≤ count p ps → 5 ≤ w → w ≤ 6 → Sep ps (upd L (place p w) (L (place p w) ++ q ∷ []))
+  pub mail-sep : (p w : ℕ) → 1 ≤ count p ps → q1 ≤ w → w ≤ q2 → Sep ps (upd L (place p w) (L (place p w) ++ q ∷ []))
   mail-sep p w h u v =
       let sp = b .facts .sep in
       let t = proc-page sp p h in
@@ -217,15 +217,15 @@ module _ {m : List ℕ} {ps : List ℕ} {L : Lists} {W : View} {hs : List ℕ} {
       omega (arith, uses-upd sp (place p w) i (omega arith) (L (place p w) ++ q ∷ []) z, count-append z (L (place p w)) (q ∷ []), room z))
 
   -- the memory with page q at the end of word w of page p
-  pub mail-mem : (p w : ℕ) → 1 ≤ count p ps → 5 ≤ w → w ≤ 6 → Mem (join m (place p w) 0 q) ps (upd L (place p w) (L (place p w) ++ q ∷ [])) W
+  pub mail-mem : (p w : ℕ) → 1 ≤ count p ps → q1 ≤ w → w ≤ q2 → Mem (join m (place p w) link q) ps (upd L (place p w) (L (place p w) ++ q ∷ [])) W
   mail-mem p w h u v =
       let sp = b .facts .sep in
       let t = proc-page sp p h in
       join-mem sp (b .mem) (place p w) (in-q ps p w u v h, grant-high (place p w) (omega arith)) (omega arith) q (hand-page b q (in-hand b)) (hand-new b)
 
-  pub give-mail : (p w : ℕ) → 1 ≤ count p ps → 5 ≤ w → w ≤ 6 → Message (W .note q) (W .reason q)
-      → ((x : ℕ) → 1 ≤ count x (L (place p ownQueue)) → w ≡ 5 → fits (W .reason p / 16) (W .reason p % 16) (W .note q) ≡ false)
-      → Base (join m (place p w) 0 q) ps (upd L (place p w) (L (place p w) ++ q ∷ [])) W hs g
+  pub give-mail : (p w : ℕ) → 1 ≤ count p ps → q1 ≤ w → w ≤ q2 → Message (W .note q) (W .reason q)
+      → ((x : ℕ) → 1 ≤ count x (L (place p ownQueue)) → w ≡ q1 → fits (upper (W .reason p)) (lower (W .reason p)) (W .note q) ≡ false)
+      → Base (join m (place p w) link q) ps (upd L (place p w) (L (place p w) ++ q ∷ [])) W hs g
   give-mail p w h u v letter none = record {
     mem = mail-mem p w h u v;
     facts = facts-mail q (b .facts) room p w h u v letter none;
@@ -237,8 +237,8 @@ module _ {m : List ℕ} {ps : List ℕ} {L : Lists} {W : View} {hs : List ℕ} {
   sb : Sep ps L
   sb = b .facts .sep
 
-  pub take-mail : (p w q : ℕ) (xs ys : List ℕ) → 1 ≤ count p ps → 5 ≤ w → w ≤ 6 → L (place p w) ≡ xs ++ q ∷ ys
-      → Base (leave m (place p w) 0 q) ps (upd L (place p w) (xs ++ ys)) W (q ∷ hs) g
+  pub take-mail : (p w q : ℕ) (xs ys : List ℕ) → 1 ≤ count p ps → q1 ≤ w → w ≤ q2 → L (place p w) ≡ xs ++ q ∷ ys
+      → Base (leave m (place p w) link q) ps (upd L (place p w) (xs ++ ys)) W (q ∷ hs) g
   take-mail p w q xs ys h u v e =
       let t = proc-page sb p h in
       let a = place p w in
@@ -257,7 +257,7 @@ module _ {m : List ℕ} {ps : List ℕ} {L : Lists} {W : View} {hs : List ℕ} {
         );
       }
 
-  pub take-grant : (k q : ℕ) → k < 32 → L (grantFor k) ≡ q ∷ [] → Base (set m (grantFor k) 0) ps (upd L (grantFor k) []) W (q ∷ hs) g
+  pub take-grant : (k q : ℕ) → k < pageSize → L (grantFor k) ≡ q ∷ [] → Base (set m (grantFor k) 0) ps (upd L (grantFor k) []) W (q ∷ hs) g
   take-grant k q h e = record {
     mem = grant-mem k 0 h sb (b .mem);
     facts = facts-less (grantFor k) [] (grant-once sb k h) (omega arith) (omega arith) (λ z. omega arith) (omega arith) (b .facts);

@@ -9,8 +9,8 @@ use native.Mathlib.Omega.{arith}
 use lib.ListN.{length}
 use lib.Dec.{eqb, leb, ltb}
 use borrow.Author.Tests.{leb-true, ltb-true, le-leb, lt-ltb}
-use Rattle.model.specs.Map.{firstControl, freeList, freeSemaphore, headerAfter, interrupts, ownQueue, ownSemaphore, pageQueue, place, processorList, q1, q2}
-use Rattle.model.specs.Map.{semaphoreAfter}
+use Rattle.model.specs.Map.{controlPages, firstControl, freeList, freeSemaphore, grants, grantsEnd, headerAfter, interrupts, lastControl, ownQueue}
+use Rattle.model.specs.Map.{ownSemaphore, pageQueue, pageSize, place, processorList, q1, q2, semaphoreAfter, wordValues}
 use Rattle.model.specs.Lists.{hit, count, Lists, sum, range, mails, owns, uses, queues}
 use Rattle.laws.specs.Count.{hit-le, hit-self, hit-other, hit-or, count-append, count-ne, one-hit, zero-or}
 use Rattle.laws.specs.Chain.{Page}
@@ -18,24 +18,24 @@ use Rattle.laws.specs.Queues.{upd, upd-same, upd-other}
 
 -- 1 for a control page
 pub one : ℕ → ℕ
-one z = hit (leb firstControl z && ltb z 256)
+one z = hit (leb firstControl z && ltb z (suc lastControl))
 
 pub one-page : (z : ℕ) → 1 ≤ one z → Page z
 unfolding one
-one-page z h = go (leb firstControl z) (ltb z 256) refl refl h
+one-page z h = go (leb firstControl z) (ltb z (suc lastControl)) refl refl h
   where
-    go : (s t : Bool) → leb firstControl z ≡ s → ltb z 256 ≡ t → 1 ≤ hit (s && t) → Page z
-    go true true e f h = (leb-true firstControl z e, ltb-true z 256 f)
+    go : (s t : Bool) → leb firstControl z ≡ s → ltb z (suc lastControl) ≡ t → 1 ≤ hit (s && t) → Page z
+    go true true e f h = (leb-true firstControl z e, ltb-true z (suc lastControl) f)
     go true false e f h = absurd (omega arith)
     go false t e f h = absurd (omega arith)
 
 pub page-one : (z : ℕ) → Page z → one z ≡ 1
 unfolding one
-page-one z p = rw (le-leb firstControl z (p .0), lt-ltb z 256 (p .1))
+page-one z p = rw (le-leb firstControl z (p .0), lt-ltb z (suc lastControl) (p .1))
 
 pub one-le : (z : ℕ) → one z ≤ 1
 unfolding one
-one-le z = hit-le (leb firstControl z && ltb z 256)
+one-le z = hit-le (leb firstControl z && ltb z (suc lastControl))
 
 -- ---- sums
 pub sum-one : (z : ℕ) (L : Lists) (a : ℕ) (hs : List ℕ) → 1 ≤ count a hs → count z (L a) ≤ sum z L hs
@@ -114,12 +114,12 @@ unfolding tot ones
 tot-ones zero xs h = omega arith
 tot-ones (suc n) xs h = omega (arith, h n, tot-ones n xs h)
 
-ones-256 : ones 256 ≡ 20
+ones-all : ones wordValues ≡ controlPages
 unfolding ones
-ones-256 = refl
+ones-all = refl
 
-pub short : (xs : List ℕ) → ((z : ℕ) → count z xs ≤ one z) → length xs ≤ 20
-short xs h = omega (arith, tot-length 256 xs (λ z i. one-page z (omega (arith, h z)) .1), tot-ones 256 xs h, ones-256)
+pub short : (xs : List ℕ) → ((z : ℕ) → count z xs ≤ one z) → length xs ≤ controlPages
+short xs h = omega (arith, tot-length wordValues xs (λ z i. one-page z (omega (arith, h z)) .1), tot-ones wordValues xs h, ones-all)
 
 pub sum-pos : (z : ℕ) (L : Lists) (hs : List ℕ) → ((a : ℕ) → 1 ≤ count a hs → count z (L a) ≡ 0) → sum z L hs ≡ 0
 sum-pos z L [] h = refl
@@ -130,6 +130,13 @@ sum-append z L [] ks = omega arith
 sum-append z L (a ∷ hs) ks = omega (arith, sum-append z L hs ks)
 
 -- ---- which cells are heads
+-- the words of page 10, and the headers of the interrupts
+abbrev pub grantWords : List ℕ
+grantWords = range pageSize 1 grants
+
+abbrev pub lineHeads : List ℕ
+lineHeads = range interrupts 2 (headerAfter 0)
+
 pub range-low : (n d a z : ℕ) → z < a → count z (range n d a) ≡ 0
 unfolding range
 range-low zero d a z h = refl
@@ -185,11 +192,11 @@ range-none2 n a z h = go (zero-or (count z (range n 2 a)))
     go (inr i) = let r = range2-of n a z i in absurd (omega (arith, r .1, r .2))
 
 -- words 5 and 6, and word 4
-pub mails-at : (p w : ℕ) (ps : List ℕ) → 5 ≤ w → w ≤ 6 → count (place p w) (mails ps) ≡ count p ps
+pub mails-at : (p w : ℕ) (ps : List ℕ) → q1 ≤ w → w ≤ q2 → count (place p w) (mails ps) ≡ count p ps
 mails-at p w [] h i = refl
-mails-at p w (x ∷ ps) h i = go (mails-at p w ps h i) (hit-or p x) (hit-or w 5)
+mails-at p w (x ∷ ps) h i = go (mails-at p w ps h i) (hit-or p x) (hit-or w q1)
   where
-    go : count (place p w) (mails ps) ≡ count p ps → (p ≡ x) ⊎ (p ≢ x) → (w ≡ 5) ⊎ (w ≢ 5) → count (place p w) (mails (x ∷ ps)) ≡ count p (x ∷ ps)
+    go : count (place p w) (mails ps) ≡ count p ps → (p ≡ x) ⊎ (p ≢ x) → (w ≡ q1) ⊎ (w ≢ q1) → count (place p w) (mails (x ∷ ps)) ≡ count p (x ∷ ps)
     go ih (inl e) (inl f) = omega (arith, ih, one-hit p x e, one-hit (place p w) (place x q1) (omega arith), hit-other (place p w) (place x q2) (omega arith))
     go ih (inl e) (inr f) = omega (arith, ih, one-hit p x e, one-hit (place p w) (place x q2) (omega arith), hit-other (place p w) (place x q1) (omega arith))
     go ih (inr e) f = omega (arith, ih, hit-other p x e, hit-other (place p w) (place x q1) (omega arith), hit-other (place p w) (place x q2) (omega arith))
@@ -211,23 +218,23 @@ pub record Slot (ps : List ℕ) (lo hi a : ℕ) : Type 0 where
   pub high : word ≤ hi
   pub is : a ≡ place page word
 
-pub mails-of : (a : ℕ) (ps : List ℕ) → 1 ≤ count a (mails ps) → Slot ps 5 6 a
+pub mails-of : (a : ℕ) (ps : List ℕ) → 1 ≤ count a (mails ps) → Slot ps q1 q2 a
 mails-of a [] h = absurd (omega arith)
 mails-of a (x ∷ ps) h = go (hit-or a (place x q1)) (hit-or a (place x q2)) (mails-of a ps)
   where
-    go : (a ≡ place x q1) ⊎ (a ≢ place x q1) → (a ≡ place x q2) ⊎ (a ≢ place x q2) → (1 ≤ count a (mails ps) → Slot ps 5 6 a) → Slot (x ∷ ps) 5 6 a
-    go (inl e) f ih = record { page = x; proc = omega (arith, hit-self x); word = 5; low = omega arith; high = omega arith; is = e }
-    go (inr e) (inl f) ih = record { page = x; proc = omega (arith, hit-self x); word = 6; low = omega arith; high = omega arith; is = f }
+    go : (a ≡ place x q1) ⊎ (a ≢ place x q1) → (a ≡ place x q2) ⊎ (a ≢ place x q2) → (1 ≤ count a (mails ps) → Slot ps q1 q2 a) → Slot (x ∷ ps) q1 q2 a
+    go (inl e) f ih = record { page = x; proc = omega (arith, hit-self x); word = q1; low = omega arith; high = omega arith; is = e }
+    go (inr e) (inl f) ih = record { page = x; proc = omega (arith, hit-self x); word = q2; low = omega arith; high = omega arith; is = f }
     go (inr e) (inr f) ih =
         let r = ih (omega (arith, hit-other a (place x q1) e, hit-other a (place x q2) f)) in
         record { page = r .page; proc = omega (arith, r .proc); word = r .word; low = r .low; high = r .high; is = r .is }
 
-pub owns-of : (a : ℕ) (ps : List ℕ) → 1 ≤ count a (owns ps) → Slot ps 4 4 a
+pub owns-of : (a : ℕ) (ps : List ℕ) → 1 ≤ count a (owns ps) → Slot ps ownQueue ownQueue a
 owns-of a [] h = absurd (omega arith)
 owns-of a (x ∷ ps) h = go (hit-or a (place x ownQueue)) (owns-of a ps)
   where
-    go : (a ≡ place x ownQueue) ⊎ (a ≢ place x ownQueue) → (1 ≤ count a (owns ps) → Slot ps 4 4 a) → Slot (x ∷ ps) 4 4 a
-    go (inl e) ih = record { page = x; proc = omega (arith, hit-self x); word = 4; low = omega arith; high = omega arith; is = e }
+    go : (a ≡ place x ownQueue) ⊎ (a ≢ place x ownQueue) → (1 ≤ count a (owns ps) → Slot ps ownQueue ownQueue a) → Slot (x ∷ ps) ownQueue ownQueue a
+    go (inl e) ih = record { page = x; proc = omega (arith, hit-self x); word = ownQueue; low = omega arith; high = omega arith; is = e }
     go (inr e) ih =
         let r = ih (omega (arith, hit-other a (place x ownQueue) e)) in
         record { page = r .page; proc = omega (arith, r .proc); word = r .word; low = r .low; high = r .high; is = r .is }
@@ -236,8 +243,8 @@ owns-of a (x ∷ ps) h = go (hit-or a (place x ownQueue)) (owns-of a ps)
 pub data Place (ps : List ℕ) (a : ℕ) : Type 0 where
   int : (k : ℕ) → k < interrupts → a ≡ headerAfter k → Place ps a
   three : freeList ≤ a → a ≤ processorList → a ≢ freeSemaphore → Place ps a
-  grant : 320 ≤ a → a < 352 → Place ps a
-  slot : Slot ps 4 6 a → Place ps a
+  grant : grants ≤ a → a < grantsEnd → Place ps a
+  slot : Slot ps ownQueue q2 a → Place ps a
 
 pub uses-place : (ps : List ℕ) (a : ℕ) → 1 ≤ count a (uses ps) → Place ps a
 uses-place ps a h = go (hit-or a processorList) (hit-or a freeList) (zero-or (count a (mails ps)))
@@ -246,7 +253,7 @@ uses-place ps a h = go (hit-or a processorList) (hit-or a freeList) (zero-or (co
     go (inl e) f i = three (omega arith) (omega arith) (omega arith)
     go (inr e) (inl f) i = three (omega arith) (omega arith) (omega arith)
     go (inr e) (inr f) (inl z) =
-        let r = range1-of 32 320 a (omega (arith, hit-other a processorList e, hit-other a freeList f, count-append a (mails ps) (range 32 1 320))) in
+        let r = range1-of pageSize grants a (omega (arith, hit-other a processorList e, hit-other a freeList f, count-append a (mails ps) grantWords)) in
         grant (r .0) (omega arith)
     go (inr e) (inr f) (inr i) =
         let r = mails-of a ps i in
@@ -258,7 +265,7 @@ queues-place ps a h = go (hit-or a pageQueue) (zero-or (count a (owns ps)))
     go : (a ≡ pageQueue) ⊎ (a ≢ pageQueue) → (count a (owns ps) ≡ 0) ⊎ (1 ≤ count a (owns ps)) → Place ps a
     go (inl e) i = three (omega arith) (omega arith) (omega arith)
     go (inr e) (inl z) =
-        let r = range2-of interrupts 132 a (omega (arith, hit-other a pageQueue e, count-append a (owns ps) (range interrupts 2 132))) in
+        let r = range2-of interrupts (headerAfter 0) a (omega (arith, hit-other a pageQueue e, count-append a (owns ps) lineHeads)) in
         int (r .0) (r .1) (r .2)
     go (inr e) (inr i) =
         let r = owns-of a ps i in
@@ -276,6 +283,6 @@ seat-of ps s h = go (hit-or (s + 1) pageQueue) (zero-or (count (s + 1) (owns ps)
     go : (s + 1 ≡ pageQueue) ⊎ (s + 1 ≢ pageQueue) → (count (s + 1) (owns ps) ≡ 0) ⊎ (1 ≤ count (s + 1) (owns ps)) → Seat ps s
     go (inl e) i = page (omega arith)
     go (inr e) (inl z) =
-        let r = range2-of interrupts 132 (s + 1) (omega (arith, hit-other (s + 1) pageQueue e, count-append (s + 1) (owns ps) (range interrupts 2 132))) in
+        let r = range2-of interrupts (headerAfter 0) (s + 1) (omega (arith, hit-other (s + 1) pageQueue e, count-append (s + 1) (owns ps) lineHeads)) in
         line (r .0) (r .1) (omega (arith, r .2))
     go (inr e) (inr i) = let r = owns-of (s + 1) ps i in own (r .page) (r .proc) (omega arith)

@@ -10,8 +10,9 @@ use lib.ListN.{length, getD, set}
 use lib.Dec.{eqb, ltb}
 use borrow.Author.Tests.{eqb-false, ne-eqb}
 use Rattle.model.specs.Map as Map
-use Rattle.model.specs.Map.{clockLine, headerAfter, interrupts, label, link, ownQueue, pageQueue, place, processorList, runningLabel, runningPage, semaphoreOf}
-use Rattle.model.specs.Map.{wordA}
+use Rattle.model.specs.Map.{aWord, c0Interrupt, c1End, c1Interrupt, c2End, c2Interrupt, c3End, c3Interrupt, clockLine, controlPages, firstClassed}
+use Rattle.model.specs.Map.{headerAfter, headerOf, interrupts, label, lastOuter, link, lowered, ownQueue, pageQueue, place, processorList, raised}
+use Rattle.model.specs.Map.{runningLabel, runningPage, semaphoreOf, waitIn, wordA}
 use Rattle.model.specs.Bytes.{name, running, word}
 use Rattle.model.specs.Interrupt as Interrupt
 use Rattle.model.specs.Operate as Operate
@@ -44,16 +45,16 @@ abbrev pub head : List ℕ → ℕ
 head [] = 0
 head (x ∷ xs) = x
 
-pub chain-head : (m : List ℕ) (a : ℕ) (xs : List ℕ) → Chain m 0 a xs → getD m a 0 ≡ head xs
+pub chain-head : (m : List ℕ) (a : ℕ) (xs : List ℕ) → Chain m link a xs → getD m a 0 ≡ head xs
 chain-head m a [] c = c
 chain-head m a (x ∷ xs) c = c .0
 
-chain-next : (m : List ℕ) (a p : ℕ) (xs ys : List ℕ) → Chain m 0 a (xs ++ p ∷ ys) → word m p link ≡ head ys
+chain-next : (m : List ℕ) (a p : ℕ) (xs ys : List ℕ) → Chain m link a (xs ++ p ∷ ys) → word m p link ≡ head ys
 chain-next m a p [] ys c = chain-head m (place p link) ys (c .2)
 chain-next m a p (x ∷ xs) ys c = chain-next m (place x link) p xs ys (c .2)
 
 -- ---- a reason in an interrupt queue falls by one
-facts-reason : {ps : List ℕ} {L : Lists} {W : View} {g : ℕ} (k p v : ℕ) → k < interrupts → 1 ≤ count p (L (headerAfter k)) → 1 ≤ v → v ≤ 255 → Facts ps L W g
+facts-reason : {ps : List ℕ} {L : Lists} {W : View} {g : ℕ} (k p v : ℕ) → k < interrupts → 1 ≤ count p (L (headerAfter k)) → 1 ≤ v → v ≤ aWord → Facts ps L W g
     → Facts ps L (withReason W (put1 (W .reason) p v)) g
 facts-reason {ps} {L} {W} k p v hk i u1 u2 f = record {
   sep = f .sep;
@@ -95,11 +96,11 @@ facts-reason {ps} {L} {W} k p v hk i u1 u2 f = record {
         omega (arith, sum-two p L (headerAfter k) b (queues ps) (λ y. n (sym y)) (int-queue ps k hk) h, s .waits p, proc-once s p)
 
     served : (j : ℕ) → j < interrupts → (x : ℕ) → 1 ≤ count x (L (headerAfter j)) → (x ≡ p) ⊎ (x ≢ p)
-        → (1 ≤ put1 (W .reason) p v x) × (put1 (W .reason) p v x ≤ 255)
+        → (1 ≤ put1 (W .reason) p v x) × (put1 (W .reason) p v x ≤ aWord)
     served j h x c (inl e) = rw (put1-same (W .reason) p v x e) (u1, u2)
     served j h x c (inr n) = rw (kept x n) (f .seats .served j h x c)
 
-    quiet : (x : ℕ) → 1 ≤ count x ps → W .state x % 128 / 64 ≡ 0 → (x ≡ p) ⊎ (x ≢ p) → put1 (W .reason) p v x ≡ 0
+    quiet : (x : ℕ) → 1 ≤ count x ps → waitIn (W .state x) ≡ 0 → (x ≡ p) ⊎ (x ≢ p) → put1 (W .reason) p v x ≡ 0
     quiet x h z (inl e) =
         let c = f .seats .bit x h in
         let d : count p (L (headerAfter k)) ≡ count x (L (headerAfter k)) = ap (λ (y : ℕ). count y (L (headerAfter k))) (sym e) in
@@ -110,12 +111,14 @@ facts-reason {ps} {L} {W} k p v hk i u1 u2 f = record {
 -- "For 48-50 those removed get the class number 0-31 in A."
 classed-kept : (m : List ℕ) (k c p : ℕ) → Page p → Kept m (classed m k c p)
 unfolding Interrupt.classed
-classed-kept m k c p g = go (ltb k 48) (ltb 50 k) refl refl
+classed-kept m k c p g = go (ltb k firstClassed) (ltb lastOuter k) refl refl
   where
-    go : (x y : Bool) → ltb k 48 ≡ x → ltb 50 k ≡ y → Kept m (classed m k c p)
+    go : (x y : Bool) → ltb k firstClassed ≡ x → ltb lastOuter k ≡ y → Kept m (classed m k c p)
     go true y e f = rw e (kept-refl m)
     go false true e f = rw (e, f) (kept-refl m)
-    go false false e f = rw (e, f) (kept-set (place p wordA) c (quiet-word p 8 (place p wordA) g (omega arith) (omega arith) (omega arith) refl) (kept-refl m))
+    go false false e f =
+        let a = place p wordA in
+        rw (e, f) (kept-set a c (quiet-word p wordA a g (omega arith) (omega arith) (omega arith) refl) (kept-refl m))
 
 gave-on : {m : List ℕ} {ps : List ℕ} {hs : List ℕ} {g : ℕ} {W X : View} → X .low ≡ W .low → Gave m ps hs g X → Gave m ps hs g W
 gave-on e r = record { lists = r .lists; view = r .view; base = r .base; low = r .low ∙ e }
@@ -153,7 +156,7 @@ module _ (k c : ℕ) (k1 : 1 ≤ k) (k2 : k ≤ interrupts) where
       reason : word m p Map.reason ≡ W .reason p
       reason = b .mem .reads .words .reason p pg
 
-      range : (1 ≤ W .reason p) × (W .reason p ≤ 255)
+      range : (1 ≤ W .reason p) × (W .reason p ≤ aWord)
       range = b .facts .seats .served (k - 1) (omega arith) p (rw at-head inside)
 
       go : (x : Bool) → eqb (W .reason p) 1 ≡ x → Struck (struck m k c p) ps a ys hs g W
@@ -169,7 +172,7 @@ module _ (k c : ℕ) (k1 : 1 ≤ k) (k2 : k ≤ interrupts) where
       })
       go false f =
           let n = eqb-false (W .reason p) 1 f in
-          let v = (W .reason p + 255) % 256 in
+          let v = lowered (W .reason p) in
           rw (reason, f) (record {
             gave = record {
               lists = L;
@@ -233,23 +236,24 @@ module _ (k c : ℕ) (k1 : 1 ≤ k) (k2 : k ≤ interrupts) where
   serve-base {m} {ps} {L} {W} {hs} {g} b =
       let s = b .facts .sep in
       let ch = chain0 s (b .mem) (a + 1) (seat-head s a (seat ps)) (λ d. not-procs s a (seat ps) (sym d)) in
-      let at1 : semaphoreOf k + 1 ≡ 130 + 2 * k = omega arith in
-      rw (← at1, chain-head m (a + 1) (L (a + 1)) ch) (from-base (L (a + 1)) 20 ps hs g (list-short s (a + 1) (in-queues ps (a + 1) (seat ps))) L W m [] b refl)
+      let at1 : semaphoreOf k + 1 ≡ headerOf k = omega arith in
+      rw (← at1, chain-head m (a + 1) (L (a + 1)) ch) (from-base (L (a + 1)) controlPages ps hs g
+      (list-short s (a + 1) (in-queues ps (a + 1) (seat ps))) L W m [] b refl)
 
 -- ---- the clock
 pub clock0 : (l : ℕ → ℕ) (v : ℕ) → suc v ≤ l Map.divider → Clock l → Clock (put1 l Map.c0 v)
 unfolding put1
 clock0 l v h c = record { c0 = h; c1 = c .c1; c2 = c .c2; c3 = c .c3; divider = c .divider; line = c .line; nought = c .nought }
 
-pub clock1 : (l : ℕ → ℕ) (v : ℕ) → suc v ≤ 10 → Clock l → Clock (put1 l Map.c1 v)
+pub clock1 : (l : ℕ → ℕ) (v : ℕ) → suc v ≤ c1End → Clock l → Clock (put1 l Map.c1 v)
 unfolding put1
 clock1 l v h c = record { c0 = c .c0; c1 = h; c2 = c .c2; c3 = c .c3; divider = c .divider; line = c .line; nought = c .nought }
 
-pub clock2 : (l : ℕ → ℕ) (v : ℕ) → suc v ≤ 60 → Clock l → Clock (put1 l Map.c2 v)
+pub clock2 : (l : ℕ → ℕ) (v : ℕ) → suc v ≤ c2End → Clock l → Clock (put1 l Map.c2 v)
 unfolding put1
 clock2 l v h c = record { c0 = c .c0; c1 = c .c1; c2 = h; c3 = c .c3; divider = c .divider; line = c .line; nought = c .nought }
 
-pub clock3 : (l : ℕ → ℕ) (v : ℕ) → suc v ≤ 60 → Clock l → Clock (put1 l Map.c3 v)
+pub clock3 : (l : ℕ → ℕ) (v : ℕ) → suc v ≤ c3End → Clock l → Clock (put1 l Map.c3 v)
 unfolding put1
 clock3 l v h c = record { c0 = c .c0; c1 = c .c1; c2 = c .c2; c3 = h; divider = c .divider; line = c .line; nought = c .nought }
 
@@ -284,17 +288,17 @@ module _ {ps hs : List ℕ} {g : ℕ} (G : List ℕ → Type 0) (now : (m : List
     (serves : (m : List ℕ) → G m → (k : ℕ) → 1 ≤ k → k ≤ interrupts → G (serve m k 0)) where
   -- a counter c with end e: at its end interrupt k is served and what is behind it goes on, else it counts
   turned : {m : List ℕ} (t : G m) (c k e : ℕ) (m2 : List ℕ) → Map.c0 ≤ c → c ≤ Map.c3 → 1 ≤ k → k ≤ interrupts
-      → Clock (put1 (now m t .view .low) c 0) → ((now m t .view .low c + 1) % 256 ≢ e → Clock (put1 (now m t .view .low) c ((now m t .view .low c + 1) % 256)))
+      → Clock (put1 (now m t .view .low) c 0) → (raised (now m t .view .low c) ≢ e → Clock (put1 (now m t .view .low) c (raised (now m t .view .low c))))
       → (G (turns m c k) → G m2) → G (cond (ends m c e) m2 (counts m c))
   unfolding Interrupt.ends Interrupt.turns Interrupt.counts
-  turned {m} t c k e m2 l u i j z0 more onward = go (eqb ((now m t .view .low c + 1) % 256) e) refl
+  turned {m} t c k e m2 l u i j z0 more onward = go (eqb (raised (now m t .view .low c)) e) refl
     where
       at : getD m c 0 ≡ now m t .view .low c
       at = counter-at (now m t .base) c (omega arith) u
 
-      go : (x : Bool) → eqb ((now m t .view .low c + 1) % 256) e ≡ x → G (cond (ends m c e) m2 (counts m c))
+      go : (x : Bool) → eqb (raised (now m t .view .low c)) e ≡ x → G (cond (ends m c e) m2 (counts m c))
       go true f = rw (at, f) (onward (serves (set m c 0) (sets m t c 0 l u z0) k i j))
-      go false f = rw (at, f) (sets m t c ((now m t .view .low c + 1) % 256) l u (more (eqb-false ((now m t .view .low c + 1) % 256) e f)))
+      go false f = rw (at, f) (sets m t c (raised (now m t .view .low c)) l u (more (eqb-false (raised (now m t .view .low c)) e f)))
 
   -- "at 60, 54"; "at 60, 53 and C3"; "at 10, 52 and C2"; "at the divider it is 0 and 51 is served and C1 counts"
   c3-kept : {m : List ℕ} → G m → G (Model.c3Counts m)
@@ -302,24 +306,24 @@ module _ {ps hs : List ℕ} {g : ℕ} (G : List ℕ → Type 0) (now : (m : List
   c3-kept {m} t =
       let l = now m t .view .low in
       let k = now m t .base .facts .clock in
-      turned t Map.c3 interrupts 60 (turns m Map.c3 interrupts) (omega arith) (omega arith) (omega arith) (omega arith) (clock3 l 0 (omega arith) k)
-      (λ n. clock3 (now m t .view .low) ((now m t .view .low 243 + 1) % 256) (omega (arith, k .c3)) k) (λ x. x)
+      turned t Map.c3 c3Interrupt c3End (turns m Map.c3 c3Interrupt) (omega arith) (omega arith) (omega arith) (omega arith) (clock3 l 0 (omega arith) k)
+      (λ n. clock3 (now m t .view .low) (raised (now m t .view .low Map.c3)) (omega (arith, k .c3)) k) (λ x. x)
 
   c2-kept : {m : List ℕ} → G m → G (Model.c2Counts m)
   unfolding Interrupt.c2Counts
   c2-kept {m} t =
       let l = now m t .view .low in
       let k = now m t .base .facts .clock in
-      turned t Map.c2 53 60 (Model.c3Counts (turns m Map.c2 53)) (omega arith) (omega arith) (omega arith) (omega arith) (clock2 l 0 (omega arith) k)
-      (λ n. clock2 (now m t .view .low) ((now m t .view .low 242 + 1) % 256) (omega (arith, k .c2)) k) c3-kept
+      turned t Map.c2 c2Interrupt c2End (Model.c3Counts (turns m Map.c2 c2Interrupt)) (omega arith) (omega arith) (omega arith) (omega arith)
+      (clock2 l 0 (omega arith) k) (λ n. clock2 (now m t .view .low) (raised (now m t .view .low Map.c2)) (omega (arith, k .c2)) k) c3-kept
 
   c1-kept : {m : List ℕ} → G m → G (Model.c1Counts m)
   unfolding Interrupt.c1Counts
   c1-kept {m} t =
       let l = now m t .view .low in
       let k = now m t .base .facts .clock in
-      turned t Map.c1 52 10 (Model.c2Counts (turns m Map.c1 52)) (omega arith) (omega arith) (omega arith) (omega arith) (clock1 l 0 (omega arith) k)
-      (λ n. clock1 (now m t .view .low) ((now m t .view .low 241 + 1) % 256) (omega (arith, k .c1)) k) c2-kept
+      turned t Map.c1 c1Interrupt c1End (Model.c2Counts (turns m Map.c1 c1Interrupt)) (omega arith) (omega arith) (omega arith) (omega arith)
+      (clock1 l 0 (omega arith) k) (λ n. clock1 (now m t .view .low) (raised (now m t .view .low Map.c1)) (omega (arith, k .c1)) k) c2-kept
 
   c0-kept : {m : List ℕ} → G m → G (Model.c0Counts m)
   unfolding Interrupt.c0Counts
@@ -327,9 +331,9 @@ module _ {ps hs : List ℕ} {g : ℕ} (G : List ℕ → Type 0) (now : (m : List
       let l = now m t .view .low in
       let k = now m t .base .facts .clock in
       let end : getD m Map.divider 0 ≡ now m t .view .low Map.divider = now m t .base .mem .reads .fixed .turn Map.divider (omega arith) (omega arith) in
-      turned t Map.c0 51 (getD m Map.divider 0) (Model.c1Counts (turns m Map.c0 51)) (omega arith) (omega arith) (omega arith) (omega arith)
+      turned t Map.c0 c0Interrupt (getD m Map.divider 0) (Model.c1Counts (turns m Map.c0 c0Interrupt)) (omega arith) (omega arith) (omega arith) (omega arith)
       (clock0 l 0 (omega (arith, k .divider)) k)
-      (λ n. clock0 (now m t .view .low) ((now m t .view .low 240 + 1) % 256) (omega (arith, k .c0, k .divider, end)) k) c1-kept
+      (λ n. clock0 (now m t .view .low) (raised (now m t .view .low Map.c0)) (omega (arith, k .c0, k .divider, end)) k) c1-kept
 
   -- "An interrupt on the clock line is served, then C0 counts"
   pub delivered-kept : (m : List ℕ) (k c : ℕ) → G (serve m k c) → G (delivered m k c)
@@ -360,7 +364,7 @@ module _ {m : List ℕ} (w : WellFormed m) (d : running m ≢ 0) where
       let n = b .facts .names .range (running m) hr in
       done-fine (serve-base (name m (running m)) 0 (n .name) (omega arith) b .base) len
 
-  pub win-fine : (k c len : ℕ) → c ≤ 255 → Fine (Model.win m k c len)
+  pub win-fine : (k c len : ℕ) → c ≤ aWord → Fine (Model.win m k c len)
   win-fine k c len u = win-each (bad w d) k c len (λ g.
       waits-fine (advance-base b len) (semaphoreOf k) c d (seat k c (g .low) (g .high) (lists m processorList)) (omega (arith, ready))
       (line-fit (b .facts .sep) k c (g .low) (g .high) (g .count) u))

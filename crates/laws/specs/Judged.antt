@@ -2,15 +2,15 @@
 use mathlib.Core.Path.{_≡_, refl, sym, ap, _∙_}
 use mathlib.Core.Bool.{Bool, true, false}
 use mathlib.Core.List.{List, [], _∷_}
-use Prim.Native.Nat.{ℕ, _+_, _-_, _*_, _%_, _≤_, _<_}
+use Prim.Native.Nat.{ℕ, suc, _+_, _-_, _*_, _%_, _≤_, _<_}
 use native.Mathlib.Omega.{arith}
 use lib.ListN.{length, getD}
 use Rattle.model.specs.Map as Map
-use Rattle.model.specs.Map.{clockLine, firstControl, freeList, freeSemaphore, grantFor, headerAfter, interrupts, label, memorySize, ownQueue}
-use Rattle.model.specs.Map.{ownSemaphore, pageQueue, place, processorList, runningLabel, runningPage, semaphoreAfter, zeroWord}
+use Rattle.model.specs.Map.{builtInCodes, clockLine, controlPages, firstControl, freeList, freeSemaphore, grantFor, grants, headerAfter, interrupts}
+use Rattle.model.specs.Map.{label, lastControl, less, lower, memorySize, ownQueue, ownSemaphore, pageQueue, pageSize, place, processorList, q1, q2}
+use Rattle.model.specs.Map.{runningLabel, runningPage, semaphoreAfter, zeroWord}
 use Rattle.model.specs.Bytes.{name, word}
 use Rattle.model.specs.Store.{bytes}
-use Rattle.model.specs.Map.{less}
 use Rattle.model.specs.Bytes.{lists, judged}
 use Rattle.model.specs.Lists.{count, Lists, sum, each-of, linkOf, uses, queues, isGrant}
 use Rattle.model.specs.Judge as Judge
@@ -22,7 +22,7 @@ use Rattle.laws.specs.Heads.{page-one, sum-ext, range1-of}
 use Rattle.laws.specs.Uses.{Among, Sep, proc-page, list-short}
 use Rattle.laws.specs.Places.{in-uses, in-queues, in-procs, in-free, in-asking, in-own, in-q, in-grant, int-queue, grant-of, q-free, wait-page}
 use Rattle.laws.specs.Places.{all-pages, own-once, asking-once}
-use Rattle.laws.specs.Inv.{View, view, bearers, stock, stock-page, stock-else, Facts, Mem, Base, Best, Inv}
+use Rattle.laws.specs.Inv.{Base, Best, Facts, Inv, Mem, View, bearers, noOne, stock, stock-else, stock-page, view}
 use Rattle.laws.specs.Accepted.{lists-walk, lists-some, as-rule, judge-inv}
 
 pub each-ext : (f g : ℕ → ℕ) (ps : List ℕ) → ((p : ℕ) → 1 ≤ count p ps → f p ≡ g p) → each-of f ps ≡ each-of g ps
@@ -30,15 +30,15 @@ each-ext f g [] h = refl
 each-ext f g (p ∷ ps) h = rw (h p (omega (arith, hit-self p)), each-ext f g ps (λ x i. h x (omega arith)))
 
 -- the lists of the invariant are those that a walk finds
-pub walked-short : {m : List ℕ} {ps : List ℕ} {L : Lists} {W : View} → Mem m ps L W → (a : ℕ) → Among ps a → length (L a) ≤ 20 → lists m a ≡ L a
+pub walked-short : {m : List ℕ} {ps : List ℕ} {L : Lists} {W : View} → Mem m ps L W → (a : ℕ) → Among ps a → length (L a) ≤ controlPages → lists m a ≡ L a
 walked-short {m} {L = L} x a h l = go (isGrant a) refl
   where
     go : (b : Bool) → isGrant a ≡ b → lists m a ≡ L a
     go true e =
         let r = grant-of a e in
-        let q : grantFor (a - 320) ≡ a = omega arith in
-        lists-some m a e ∙ sym (rw q at (x .holds .grant (a - 320) (omega arith)))
-    go false e = lists-walk m a e ∙ walk-chain 21 m (linkOf a) a (L a) (x .holds .rep a (h, e)) (omega arith)
+        let q : grantFor (a - grants) ≡ a = omega arith in
+        lists-some m a e ∙ sym (rw q at (x .holds .grant (a - grants) (omega arith)))
+    go false e = lists-walk m a e ∙ walk-chain (suc controlPages) m (linkOf a) a (L a) (x .holds .rep a (h, e)) (omega arith)
 
 module _ {m : List ℕ} {ps : List ℕ} {L : Lists} {W : View} {hs : List ℕ} {g : ℕ} (i : Base m ps L W hs g) where
   s : Sep ps L
@@ -49,8 +49,8 @@ module _ {m : List ℕ} {ps : List ℕ} {L : Lists} {W : View} {hs : List ℕ} {
 
   bearers-is : (k : ℕ) → bearers (λ p. word m p label) ps k ≡ bearers (W .label) ps k
   bearers-is k =
-      ap (count k) (each-ext (λ p. name m p) (λ p. W .label p % 16) ps
-      (λ p h. ap (λ (x : ℕ). x % 16) (i .mem .reads .words .label p (proc-page s p h))))
+      ap (count k) (each-ext (λ p. name m p) (λ p. lower (W .label p)) ps
+      (λ p h. ap (λ (x : ℕ). lower x) (i .mem .reads .words .label p (proc-page s p h))))
 
   pub sums : (z : ℕ) → (sum z (lists m) (uses ps) ≡ sum z L (uses ps)) × (sum z (lists m) (queues ps) ≡ sum z L (queues ps))
   sums z = (sum-ext z (lists m) L (uses ps) (λ a h. walked a (in-uses ps a h)), sum-ext z (lists m) L (queues ps) (λ a h. walked a (in-queues ps a h)))
@@ -61,10 +61,10 @@ module _ {m : List ℕ} {ps : List ℕ} {L : Lists} {W : View} {hs : List ℕ} {
   at-own : (p : ℕ) → 1 ≤ count p ps → lists m (place p ownQueue) ≡ L (place p ownQueue)
   at-own p h = walked (place p ownQueue) (in-own ps p h)
 
-  at-mail : (p w : ℕ) → 5 ≤ w → w ≤ 6 → 1 ≤ count p ps → lists m (place p w) ≡ L (place p w)
+  at-mail : (p w : ℕ) → q1 ≤ w → w ≤ q2 → 1 ≤ count p ps → lists m (place p w) ≡ L (place p w)
   at-mail p w u v h = walked (place p w) (in-q ps p w u v h)
 
-  at-grant : (k : ℕ) → k < 32 → lists m (grantFor k) ≡ L (grantFor k)
+  at-grant : (k : ℕ) → k < pageSize → lists m (grantFor k) ≡ L (grantFor k)
   at-grant k h = walked (grantFor k) (in-grant ps k h)
 
   stock-is : (a : ℕ) → stock (lists m) a ≡ stock L a
@@ -88,7 +88,7 @@ module _ {m : List ℕ} {ps : List ℕ} {L : Lists} {W : View} {hs : List ℕ} {
           waits = λ z. omega (arith, sums z, s .waits z);
         };
         names = record {
-          differ = λ p h. rw (r .words .label p (pg p h)) (bearers-is (W .label p % 16) ∙ f .names .differ p h);
+          differ = λ p h. rw (r .words .label p (pg p h)) (bearers-is (lower (W .label p)) ∙ f .names .differ p h);
           range = λ p h. rw (r .words .label p (pg p h)) (f .names .range p h);
         };
         seats = record {
@@ -105,8 +105,8 @@ module _ {m : List ℕ} {ps : List ℕ} {L : Lists} {W : View} {hs : List ℕ} {
           owner = t .owner;
           flag = rw (r .words .reason p (pg p h)) (t .flag);
           none = λ q c.
-              let c2 = rw (at-mail p 5 (omega arith) (omega arith) h) at c in
-              let n = q-free s p 5 q (omega arith) (omega arith) h c2 in
+              let c2 = rw (at-mail p q1 (omega arith) (omega arith) h) at c in
+              let n = q-free s p q1 q (omega arith) (omega arith) h c2 in
               rw (r .words .reason p (pg p h), r .words .note q (n .0) (n .1)) (t .none q c2);
         };
         sems = λ a h. rw (at-queue (a + 1) h, stock-is a) (r .sems a h ∙ f .sems a h);
@@ -114,7 +114,7 @@ module _ {m : List ℕ} {ps : List ℕ} {L : Lists} {W : View} {hs : List ℕ} {
           bare = λ p j.
               let c = rw wa at j in
               let h = wait-page s pageQueue p (omega arith) c in
-              rw (r .words .label p (pg p h), wf, at-grant (W .label p % 16) (omega arith)) (f .granted .bare p c);
+              rw (r .words .label p (pg p h), wf, at-grant (lower (W .label p)) (omega arith)) (f .granted .bare p c);
           known = λ k h c n. bearers-is k ∙ f .granted .known k h c (rw (at-grant k h) at n);
         };
         mail = λ p w h u v q c.
@@ -132,7 +132,7 @@ module _ {m : List ℕ} {ps : List ℕ} {L : Lists} {W : View} {hs : List ℕ} {
           kinds = λ k h. rw (r .fixed .code k h) (c .kinds k h);
           zero = rw (r .fixed .code 0 (omega arith)) (c .zero);
           one = rw (r .fixed .code 1 (omega arith)) (c .one);
-          last = rw (r .fixed .code 15 (omega arith)) (c .last);
+          last = rw (r .fixed .code builtInCodes (omega arith)) (c .last);
         };
         clock = let c = f .clock in record {
           c0 = rw (r .fixed .clock Map.c0 (omega arith) (omega arith), d) (c .c0);
@@ -151,7 +151,7 @@ module _ {m : List ℕ} {ps : List ℕ} {L : Lists} {W : View} {hs : List ℕ} {
       }
 
 module _ {m : List ℕ} {ps : List ℕ} {L : Lists} {W : View} (inv : Inv m ps L W) where
-  i : Base m ps L W [] 32
+  i : Base m ps L W [] noOne
   i = inv .base
 
   best-here : Best ps (view m)
@@ -177,7 +177,7 @@ module _ {m : List ℕ} {ps : List ℕ} {L : Lists} {W : View} (inv : Inv m ps L
       let u = f .sep in
       together (Judge.clock bytes m ps (lists m)) m ps (lists m) (record {
         listed = λ a h. (list-short u a h, λ x j. listed a h x j);
-        usedOnce = λ z h. let r = range1-of 20 firstControl z h in omega (arith, u .most z, sums i z, i .all z, page-one z (r .0, omega arith));
+        usedOnce = λ z h. let r = range1-of controlPages firstControl z h in omega (arith, u .most z, sums i z, i .all z, page-one z (r .0, omega arith));
         names = λ p h. (f .names .differ p h, let l = f .names .range p h in ((l .name, omega arith), (l .low, l .high)));
         waitingBits = (f .seats .bit, λ z h. u .waits z);
         reasons = (f .seats .served, (f .seats .asking, f .seats .quiet));
@@ -186,8 +186,8 @@ module _ {m : List ℕ} {ps : List ℕ} {L : Lists} {W : View} (inv : Inv m ps L
         pageWaits = f .granted .bare;
         granted = λ k h n. f .granted .known k h (omega arith) n;
         messages = λ p h. (
-          λ q j. as-rule (f .mail p 5 h (omega arith) (omega arith) q j),
-          λ q j. as-rule (f .mail p 6 h (omega arith) (omega arith) q j),
+          λ q j. as-rule (f .mail p q1 h (omega arith) (omega arith) q j),
+          λ q j. as-rule (f .mail p q2 h (omega arith) (omega arith) q j),
         );
         running = (f .runs .idle, ((λ n. (f .runs .listed n, (f .runs .tag n, best-here .ready n))), best-here .top));
         codes = (f .codes .kinds, (f .codes .zero, (f .codes .one, f .codes .last)));
@@ -195,18 +195,18 @@ module _ {m : List ℕ} {ps : List ℕ} {L : Lists} {W : View} (inv : Inv m ps L
         zeros = (f .seats .zeros, f .clock .nought);
       }) ((f .clock .c0, (f .clock .c1, (f .clock .c2, f .clock .c3))), (f .clock .divider, f .clock .line))
     where
-      listed : (a : ℕ) → Among ps a → (x : ℕ) → 1 ≤ count x (lists m a) → (firstControl ≤ x) × (x ≤ 255)
+      listed : (a : ℕ) → Among ps a → (x : ℕ) → 1 ≤ count x (lists m a) → (firstControl ≤ x) × (x ≤ lastControl)
       listed a h x j = let r = all-pages (facts-here i .sep) a x h j in (r .0, omega arith)
 
       line-sem : (k : ℕ) → k < interrupts → getD m (semaphoreAfter k) 0 ≡ less 0 (length (lists m (headerAfter k)))
       line-sem k h =
-          let d : semaphoreAfter k + 1 ≡ 132 + 2 * k = omega arith in
+          let d : semaphoreAfter k + 1 ≡ headerAfter k = omega arith in
           let q = int-queue ps k h in
           rw (stock-else (lists m) (semaphoreAfter k) (omega arith), d) at (facts-here i .sems (semaphoreAfter k) (rw d q))
 
       own-sem : (p : ℕ) → 1 ≤ count p ps → word m p ownSemaphore ≡ less 0 (length (lists m (place p ownQueue)))
       own-sem p h =
-          let d : place p ownSemaphore + 1 ≡ p * 32 + 4 = omega arith in
+          let d : place p ownSemaphore + 1 ≡ place p ownQueue = omega arith in
           let g = proc-page (facts-here i .sep) p h in
           let q = own-once (facts-here i .sep) p h .here in
           rw (stock-else (lists m) (place p ownSemaphore) (omega arith), d) at (facts-here i .sems (place p ownSemaphore) (rw d (omega arith)))

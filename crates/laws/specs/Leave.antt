@@ -10,7 +10,8 @@ use lib.ListN.{getD}
 use lib.Dec.{eqb}
 use borrow.Author.Tests.{eqb-true, eqb-false}
 use Rattle.model.specs.Map as Map
-use Rattle.model.specs.Map.{freeSemaphore, headerAfter, interrupts, ownQueue, ownSemaphore, pageQueue, place, processorList, runningPage, semaphoreAfter}
+use Rattle.model.specs.Map.{controlPages, freeSemaphore, headerAfter, interrupts, link, listLink, lower, ownQueue, ownSemaphore, pageQueue, place}
+use Rattle.model.specs.Map.{processorList, raised, runningPage, semaphoreAfter, size, waitCleared}
 use Rattle.model.specs.Bytes.{word}
 use Rattle.model.specs.Queue as Queue
 use Rattle.model.specs.Queue.{first}
@@ -25,7 +26,7 @@ use Rattle.laws.specs.Heads.{one, one-le, sum-two, sum-pos, sum-skip, Se
 use Rattle.laws.specs.Heads.Seat.{line, page, own}
 use Rattle.laws.specs.Uses.{Sep, proc-page, list-short}
 use Rattle.laws.specs.Places.{in-queues, q-free, queues-pos}
-use Rattle.laws.specs.Inv.{View, Message, Facts, Mem, Base}
+use Rattle.laws.specs.Inv.{Base, Facts, Mem, Message, View, noOne}
 use Rattle.laws.specs.Views.{put1, put1-other, withWords}
 use Rattle.laws.specs.Stores.{sem-mem}
 use Rattle.laws.specs.Cells.{chain0, leave-mem}
@@ -54,7 +55,7 @@ module _ {m : List ℕ} {ps : List ℕ} {L : Lists} {W : View} {hs : List ℕ} {
 
   queue-is : (a : ℕ) → 1 ≤ count (a + 1) (queues ps) → queue m (a + 1) ≡ L (a + 1)
   queue-is a h =
-      walk-chain 20 m 0 (a + 1) (L (a + 1)) (chain0 s (b .mem) (a + 1) (seat-head s a h) (λ d. not-procs s a h (sym d)))
+      walk-chain controlPages m link (a + 1) (L (a + 1)) (chain0 s (b .mem) (a + 1) (seat-head s a h) (λ d. not-procs s a h (sym d)))
       (list-short s (a + 1) (in-queues ps (a + 1) h))
 
   pub queued-in : (a : ℕ) → 1 ≤ count (a + 1) (queues ps) → queued m a p ≡ true → 1 ≤ count p (L (a + 1))
@@ -112,7 +113,7 @@ module _ {m : List ℕ} {ps : List ℕ} {L : Lists} {W : View} {hs : List ℕ} {
         own = λ f. no freeSemaphore freeSemaphore refl e f;
       })
       go false e =
-          let d : place p ownSemaphore + 1 ≡ p * 32 + 4 = omega arith in
+          let d : place p ownSemaphore + 1 ≡ place p ownQueue = omega arith in
           rw (seat-own e) (record {
             is = own-sem s p hp;
             line = λ f k h. absurd (omega arith);
@@ -163,13 +164,13 @@ module _ {m : List ℕ} {ps : List ℕ} {L : Lists} {W : View} {hs : List ℕ} {
           own-wait y u (inr j) = let o = b .facts .own y u p j .owner in rw (← o) (t .own f)
 
           go : (a : ℕ) → Seat ps a → count p (L (a + 1)) ≡ 0
-          go a (line k u e) = let d : a + 1 ≡ 132 + 2 * k = omega arith in rw d (t .line f k u)
+          go a (line k u e) = let d : a + 1 ≡ headerAfter k = omega arith in rw d (t .line f k u)
           go a (page e) = rw e (t .asking f)
-          go a (own y u e) = let d : a + 1 ≡ y * 32 + 4 = omega arith in rw d (own-wait y u (zero-or (count p (L (place y ownQueue)))))
+          go a (own y u e) = let d : a + 1 ≡ place y ownQueue = omega arith in rw d (own-wait y u (zero-or (count p (L (place y ownQueue)))))
 
 -- ---- what the deleted one leaves behind: its page and its mail, in hand, and the chains of its mail
 pub record Letters (m : List ℕ) (xs : List ℕ) : Type 0 where
-  pub at : (x : ℕ) → 1 ≤ count x xs → Message (word m x 1) (word m x 2)
+  pub at : (x : ℕ) → 1 ≤ count x xs → Message (word m x Map.note) (word m x size)
 
 pub record Bag (m : List ℕ) (p : ℕ) (g : ℕ) : Type 0 where
   pub procs : List ℕ
@@ -178,13 +179,13 @@ pub record Bag (m : List ℕ) (p : ℕ) (g : ℕ) : Type 0 where
   pub q1 : List ℕ
   pub q2 : List ℕ
   pub base : Base m procs lists view (q2 ++ q1 ++ p ∷ []) g
-  pub chain1 : Chain m 0 (place p Map.q1) q1
-  pub chain2 : Chain m 0 (place p Map.q2) q2
+  pub chain1 : Chain m link (place p Map.q1) q1
+  pub chain2 : Chain m link (place p Map.q2) q2
   pub letters1 : Letters m q1
   pub letters2 : Letters m q2
 
 -- it waits nowhere: Z is what the memory holds, X what the sentences are about, and they differ at its page at most
-module _ (xs : List ℕ) (p : ℕ) (ys : List ℕ) {m : List ℕ} {K : Lists} {Z X : View} (x : Mem m (xs ++ p ∷ ys) K Z) (f : Facts (xs ++ p ∷ ys) K X 32)
+module _ (xs : List ℕ) (p : ℕ) (ys : List ℕ) {m : List ℕ} {K : Lists} {Z X : View} (x : Mem m (xs ++ p ∷ ys) K Z) (f : Facts (xs ++ p ∷ ys) K X noOne)
     (idle : sum p K (queues (xs ++ p ∷ ys)) ≡ 0) (runs : X .low runningPage ≢ p) (off : Off p X Z) where
   sf : Sep (xs ++ p ∷ ys) K
   sf = f .sep
@@ -205,10 +206,10 @@ module _ (xs : List ℕ) (p : ℕ) (ys : List ℕ) {m : List ℕ} {K : Lists} {Z
     entry = off .entry;
   }
 
-  mem-Y : Mem (leave m processorList 1 p) (xs ++ ys) (upd K processorList (xs ++ ys)) Y
+  mem-Y : Mem (leave m processorList listLink p) (xs ++ ys) (upd K processorList (xs ++ ys)) Y
   mem-Y = shrink-mem xs p ys sf x
 
-  facts-Y : Facts (xs ++ ys) (upd K processorList (xs ++ ys)) Y (X .label p % 16)
+  facts-Y : Facts (xs ++ ys) (upd K processorList (xs ++ ys)) Y (lower (X .label p))
   facts-Y = facts-off p (gone xs p ys sf) (λ a h d.
       rw (upd-other K processorList a (xs ++ ys) d)
       (omega (
@@ -220,7 +221,7 @@ module _ (xs : List ℕ) (p : ℕ) (ys : List ℕ) {m : List ℕ} {K : Lists} {Z
         in-P xs p ys,
       ))) off-Y (shrink-facts xs p ys sf f idle runs)
 
-  letters : (w : ℕ) → 5 ≤ w → w ≤ 6 → Letters (leave m processorList 1 p) (K (place p w))
+  letters : (w : ℕ) → Map.q1 ≤ w → w ≤ Map.q2 → Letters (leave m processorList listLink p) (K (place p w))
   letters w u v = record {
     at = λ z h.
         let t = q-free sf p w z u v (in-P xs p ys) h in
@@ -230,7 +231,7 @@ module _ (xs : List ℕ) (p : ℕ) (ys : List ℕ) {m : List ℕ} {K : Lists} {Z
         (f .mail p w (in-P xs p ys) u v z h);
   }
 
-  left-bag : ((z : ℕ) → sum z K (uses (xs ++ p ∷ ys)) ≡ one z) → Bag (leave m processorList 1 p) p (X .label p % 16)
+  left-bag : ((z : ℕ) → sum z K (uses (xs ++ p ∷ ys)) ≡ one z) → Bag (leave m processorList listLink p) p (lower (X .label p))
   left-bag all = record {
     procs = xs ++ ys;
     lists = upd K processorList (xs ++ ys);
@@ -250,15 +251,15 @@ module _ (xs : List ℕ) (p : ℕ) (ys : List ℕ) {m : List ℕ} {K : Lists} {Z
                 (K (place p Map.q1)),
           );
     };
-    chain1 = mail-left xs p ys sf x 5 (omega arith) (omega arith);
-    chain2 = mail-left xs p ys sf x 6 (omega arith) (omega arith);
-    letters1 = letters 5 (omega arith) (omega arith);
-    letters2 = letters 6 (omega arith) (omega arith);
+    chain1 = mail-left xs p ys sf x Map.q1 (omega arith) (omega arith);
+    chain2 = mail-left xs p ys sf x Map.q2 (omega arith) (omega arith);
+    letters1 = letters Map.q1 (omega arith) (omega arith);
+    letters2 = letters Map.q2 (omega arith) (omega arith);
   }
 
 -- ---- the model's step
-unlisted-in : (xs : List ℕ) (p : ℕ) (ys : List ℕ) {m : List ℕ} {L : Lists} {W : View} → Base m (xs ++ p ∷ ys) L W [] 32 → W .low runningPage ≢ p
-    → Bag (unlisted m p) p (W .label p % 16)
+unlisted-in : (xs : List ℕ) (p : ℕ) (ys : List ℕ) {m : List ℕ} {L : Lists} {W : View} → Base m (xs ++ p ∷ ys) L W [] noOne → W .low runningPage ≢ p
+    → Bag (unlisted m p) p (lower (W .label p))
 unfolding Delete.unlisted Wait.leaveWait Wait.unqueue
 unlisted-in xs p ys {m} {L} {W} b runs = go (queued m t p) refl
   where
@@ -274,7 +275,7 @@ unlisted-in xs p ys {m} {L} {W} b runs = go (queued m t p) refl
     h : 1 ≤ count (seat interrupts m p + 1) (queues (xs ++ p ∷ ys))
     h = seat-is b p hp
 
-    go : (c : Bool) → queued m (seat interrupts m p) p ≡ c → Bag (unlisted m p) p (W .label p % 16)
+    go : (c : Bool) → queued m (seat interrupts m p) p ≡ c → Bag (unlisted m p) p (lower (W .label p))
     go false e =
         rw e (left-bag xs p ys (b .mem) (b .facts) (seat-none b p hp e) runs
         (record {
@@ -293,7 +294,7 @@ unlisted-in xs p ys {m} {L} {W} b runs = go (queued m t p) refl
         let sp = b .facts .sep in
         let a = seat interrupts m p in
         let r = split-at-page p (L (a + 1)) (queued-in b p hp a h e) in
-        let x1 = sem-mem sp (b .mem) a ((W .sem a + 1) % 256) h in
+        let x1 = sem-mem sp (b .mem) a (raised (W .sem a)) h in
         let x2 = leave-mem sp x1 (a + 1) (seat-head sp a h) (λ d. not-procs sp a h (sym d)) p (r .0) (r .1) (r .2) in
         rw (e, b .mem .reads .sems a h) (left-bag xs p ys x2 (facts-wake a p (r .0) (r .1) (b .facts) h (r .2)) (woken-idle a p (r .0) (r .1) (b .facts) h
         (r .2)) runs
@@ -301,7 +302,7 @@ unlisted-in xs p ys {m} {L} {W} b runs = go (queued m t p) refl
           note = λ z d. refl;
           reason = λ z d. sym (put1-other (W .reason) p 0 z d);
           label = λ z d. refl;
-          state = λ z d. sym (put1-other (W .state) p (W .state p / 128 * 128 + W .state p % 64) z d);
+          state = λ z d. sym (put1-other (W .state) p (waitCleared (W .state p)) z d);
           sem = refl;
           low = refl;
           code = refl;
@@ -310,6 +311,6 @@ unlisted-in xs p ys {m} {L} {W} b runs = go (queued m t p) refl
         })
         (λ z. omega (arith, b .all z, sum-skip z L (a + 1) (r .0 ++ r .1) (uses (xs ++ p ∷ ys)) (queue-once sp a h .away))))
 
-pub unlisted-bag : {m : List ℕ} {ps : List ℕ} {L : Lists} {W : View} (p : ℕ) → 1 ≤ count p ps → W .low runningPage ≢ p → Base m ps L W [] 32
-    → Bag (unlisted m p) p (W .label p % 16)
+pub unlisted-bag : {m : List ℕ} {ps : List ℕ} {L : Lists} {W : View} (p : ℕ) → 1 ≤ count p ps → W .low runningPage ≢ p → Base m ps L W [] noOne
+    → Bag (unlisted m p) p (lower (W .label p))
 unlisted-bag {ps = ps} p hp runs b = let r = split-at-page p ps hp in unlisted-in (r .0) p (r .1) (rw (r .2) at b) runs

@@ -6,7 +6,7 @@ use mathlib.Core.List.{List, [], _∷_, _++_}
 use Prim.Native.Nat.{ℕ, _+_, _*_, _/_, _%_, _≤_}
 use native.Mathlib.Omega.{arith}
 use lib.ListN.{length, getD, length-append}
-use Rattle.model.specs.Map.{freeList, grantFor, label, ownQueue, pageQueue, place, processorList, q1}
+use Rattle.model.specs.Map.{freeList, grantFor, label, link, lower, ownQueue, pageQueue, place, processorList, q1, waitIn}
 use Rattle.model.specs.Bytes.{name, word}
 use Rattle.model.specs.Bytes.{lists, join, leave, giveBack, deliver, putToWait, wake}
 use Rattle.model.specs.Lists.{count, Lists, some, queues}
@@ -31,7 +31,7 @@ pub record Becomes (ps : List ℕ) (m m′ : List ℕ) (a : ℕ) (xs : List ℕ)
 
 -- "Joining is at the end": a page in hand joins a list of uses
 pub join-appends : {m : List ℕ} {ps : List ℕ} {L : Lists} {W : View} {hs : List ℕ} {g q : ℕ} → Base m ps L W (q ∷ hs) g → (a : ℕ) → Head ps a → InUses ps a
-    → a ≢ processorList → Becomes ps m (join m a 0 q) a (lists m a ++ q ∷ [])
+    → a ≢ processorList → Becomes ps m (join m a link q) a (lists m a ++ q ∷ [])
 join-appends {m} {ps} {L} {W} {hs} {g} {q} b a ha i na =
     let s = b .facts .sep in
     let K = L a ++ q ∷ [] in
@@ -45,7 +45,7 @@ join-appends {m} {ps} {L} {W} {hs} {g} {q} b a ha i na =
 -- "a page that leaves": it stood between xs and ys
 pub leave-takes : {m : List ℕ} {ps : List ℕ} {L : Lists} {W : View} {hs : List ℕ} {g : ℕ} → Base m ps L W hs g → (a q : ℕ) (xs ys : List ℕ) → Head ps a
     → a ≢ processorList
-    → lists m a ≡ xs ++ q ∷ ys → Becomes ps m (leave m a 0 q) a (xs ++ ys)
+    → lists m a ≡ xs ++ q ∷ ys → Becomes ps m (leave m a link q) a (xs ++ ys)
 leave-takes {m} {ps} {L} b a q xs ys ha na e =
     let s = b .facts .sep in
     let e2 = sym (walked b a (ha .0)) ∙ e in
@@ -61,13 +61,14 @@ leave-takes {m} {ps} {L} b a q xs ys ha na e =
 
 -- "A page given back": with no waiter, to the end of the free list
 pub give-frees : {m : List ℕ} {ps : List ℕ} {L : Lists} {W : View} {hs : List ℕ} {g q : ℕ} → Base m ps L W (q ∷ hs) g → lists m pageQueue ≡ []
-    → Becomes ps m (giveBack m q) freeList (lists m 244 ++ q ∷ [])
+    → Becomes ps m (giveBack m q) freeList (lists m freeList ++ q ∷ [])
 give-frees {m} {ps} {L} {q = q} b e =
     let e2 = sym (walked b pageQueue (in-asking ps)) ∙ e in
     let r = give-free b e2 in
     rw (give-is-free b e2) (record {
-      here = walked r freeList (in-free ps) ∙ upd-same L freeList (L 244 ++ q ∷ []) ∙ ap (λ (l : List ℕ). l ++ q ∷ []) (sym (walked b freeList (in-free ps)));
-      others = λ c h d. walked r c h ∙ upd-other L freeList c (L 244 ++ q ∷ []) d ∙ sym (walked b c h);
+      here =
+          walked r freeList (in-free ps) ∙ upd-same L freeList (L freeList ++ q ∷ []) ∙ ap (λ (l : List ℕ). l ++ q ∷ []) (sym (walked b freeList (in-free ps)));
+      others = λ c h d. walked r c h ∙ upd-other L freeList c (L freeList ++ q ∷ []) d ∙ sym (walked b c h);
     })
 
 -- "to the first waiter as its grant and wakes it": p was the first, ws the others
@@ -81,7 +82,7 @@ pub give-grants : {m : List ℕ} {ps : List ℕ} {L : Lists} {W : View} {hs : Li
     → Grants ps m (giveBack m q) (name m p) q ws
 give-grants {m} {ps} {L} {W} {q = q} b p ws e =
     let e2 = sym (walked b pageQueue (in-asking ps)) ∙ e in
-    let n = W .label p % 16 in
+    let n = lower (W .label p) in
     let l = b .mem .reads .words .label p (proc-page (b .facts .sep) p (waiter-proc b p ws e2)) in
     let pq = hand-page b q (in-hand b) in
     let r = give-grant b p ws e2 in
@@ -98,14 +99,14 @@ pub deliver-appends : {m : List ℕ} {ps : List ℕ} {L : Lists} {W : View} {hs 
     × ((c : ℕ) → Among ps c → c ≢ place p q1 → c ≢ place p ownQueue → lists (deliver m p q) c ≡ lists m c)
 deliver-appends {ps = ps} {q = q} b p h letter =
     let t = deliver-all b p h letter in
-    let i5 = in-q ps p 5 (omega arith) (omega arith) h in (
+    let i5 = in-q ps p q1 (omega arith) (omega arith) h in (
       walked (t .gave .base) (place p q1) i5 ∙ t .here ∙ ap (λ (l : List ℕ). l ++ q ∷ []) (sym (walked b (place p q1) i5)),
       λ c i d e. walked (t .gave .base) c i ∙ t .others c d e ∙ sym (walked b c i),
     )
 
 -- who is put to wait stands at the end of the queue whose semaphore is at a; who wakes leaves it
 pub wait-appends : {m : List ℕ} {ps : List ℕ} {L : Lists} {W : View} {hs : List ℕ} {g : ℕ} → Base m ps L W hs g → (a p w : ℕ) → 1 ≤ count (a + 1) (queues ps)
-    → 1 ≤ count p ps → W .state p % 128 / 64 ≡ 0 → Fit ps L W a p w → Becomes ps m (putToWait m a p w) (a + 1) (lists m (a + 1) ++ p ∷ [])
+    → 1 ≤ count p ps → waitIn (W .state p) ≡ 0 → Fit ps L W a p w → Becomes ps m (putToWait m a p w) (a + 1) (lists m (a + 1) ++ p ∷ [])
 wait-appends {ps = ps} {L = L} b a p w h hp idle fit =
     let r = wait-base a p w b h hp idle fit in
     let i = in-queues ps (a + 1) h in

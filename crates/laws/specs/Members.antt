@@ -5,11 +5,11 @@ use mathlib.Core.List.{List, [], _∷_, _++_, append-nil}
 use Prim.Native.Nat.{ℕ, _+_, _-_, _*_, _<_}
 use native.Mathlib.Omega.{arith}
 use lib.Dec.{eqb}
-use Rattle.model.specs.Map.{interrupts, ownQueue, place, processorList, q1, q2}
+use Rattle.model.specs.Map.{grants, headerAfter, interrupts, ownQueue, pageSize, place, processorList, q1, q2}
 use Rattle.model.specs.Lists.{hit, count, Lists, sum, each-of, range, mails, owns, uses, queues}
 use Rattle.laws.specs.Count.{count-append}
 use Rattle.laws.specs.Chain.{Page}
-use Rattle.laws.specs.Heads.{sum-append, range-low, range-none2, Place}
+use Rattle.laws.specs.Heads.{sum-append, range-low, range-none2, Place, grantWords, lineHeads}
 use Rattle.laws.specs.Heads.Place.{int, three, grant, slot}
 use Rattle.laws.specs.Uses.{Among, head-place, Sep, proc-page}
 use Rattle.laws.specs.Places.{InUses, none-low}
@@ -57,19 +57,19 @@ module _ (xs : List ℕ) (p : ℕ) (ys : List ℕ) where
       )
 
   pub uses-more : (a : ℕ) → count a (uses (xs ++ p ∷ ys)) ≡ count a (uses (xs ++ ys)) + (hit (eqb a (place p q1)) + hit (eqb a (place p q2)))
-  uses-more a = omega (arith, more (count a) (count-append a) mails mails-append (range 32 1 320))
+  uses-more a = omega (arith, more (count a) (count-append a) mails mails-append grantWords)
 
   pub queues-more : (a : ℕ) → count a (queues (xs ++ p ∷ ys)) ≡ count a (queues (xs ++ ys)) + hit (eqb a (place p ownQueue))
-  queues-more a = omega (arith, more (count a) (count-append a) owns owns-append (range interrupts 2 132))
+  queues-more a = omega (arith, more (count a) (count-append a) owns owns-append lineHeads)
 
   pub uses-sum : (z : ℕ) (L : Lists) → sum z L (uses (xs ++ p ∷ ys)) ≡ sum z L (uses (xs ++ ys)) + (count z (L (place p q1)) + count z (L (place p q2)))
-  uses-sum z L = omega (arith, more (sum z L) (sum-append z L) mails mails-append (range 32 1 320))
+  uses-sum z L = omega (arith, more (sum z L) (sum-append z L) mails mails-append grantWords)
 
   pub queues-sum : (z : ℕ) (L : Lists) → sum z L (queues (xs ++ p ∷ ys)) ≡ sum z L (queues (xs ++ ys)) + count z (L (place p ownQueue))
-  queues-sum z L = omega (arith, more (sum z L) (sum-append z L) owns owns-append (range interrupts 2 132))
+  queues-sum z L = omega (arith, more (sum z L) (sum-append z L) owns owns-append lineHeads)
 
 -- ---- a page that is no processor's has no head
-pub head-off : {ps : List ℕ} {L : Lists} → Sep ps L → (q w a : ℕ) → Page q → w < 32 → count q ps ≡ 0 → Among ps a → a ≢ place q w
+pub head-off : {ps : List ℕ} {L : Lists} → Sep ps L → (q w a : ℕ) → Page q → w < pageSize → count q ps ≡ 0 → Among ps a → a ≢ place q w
 head-off {ps} s q w a g l n h = go (head-place ps a h)
   where
     go : Place ps a → a ≢ place q w
@@ -83,6 +83,6 @@ head-off {ps} s q w a g l n h = go (head-place ps a h)
 -- the processor list's header stands once
 pub procs-once : {ps : List ℕ} {L : Lists} → Sep ps L → InUses ps processorList
 procs-once {ps} s = let n = none-low processorList ps (proc-page s) (omega arith) in record {
-  here = omega (arith, n, count-append processorList (mails ps) (range 32 1 320), range-low 32 1 320 processorList (omega arith));
-  away = omega (arith, n, count-append processorList (owns ps) (range interrupts 2 132), range-none2 interrupts 132 processorList (omega arith));
+  here = omega (arith, n, count-append processorList (mails ps) grantWords, range-low pageSize 1 grants processorList (omega arith));
+  away = omega (arith, n, count-append processorList (owns ps) lineHeads, range-none2 interrupts (headerAfter 0) processorList (omega arith));
 }

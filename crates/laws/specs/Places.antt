@@ -7,12 +7,14 @@ use Prim.Native.Nat.{ℕ, _+_, _-_, _*_, _≤_, _<_}
 use native.Mathlib.Omega.{arith}
 use lib.Dec.{leb, ltb}
 use borrow.Author.Tests.{leb-true, ltb-true, le-leb, lt-ltb, le-ltb, lt-leb}
-use Rattle.model.specs.Map.{freeList, grantFor, guardedLast, headerAfter, interrupts, ownQueue, pageQueue, place, processorList}
+use Rattle.model.specs.Map.{freeList, grantFor, grants, grantsEnd, guardedLast, headerAfter, interrupts, ownQueue, pageQueue, pageSize, place}
+use Rattle.model.specs.Map.{processorList, q1, q2}
 use Rattle.model.specs.Lists as Model
 use Rattle.model.specs.Lists.{count, Lists, range, mails, owns, uses, queues, isGrant}
 use Rattle.laws.specs.Count.{hit-other, count-append, zero-or}
 use Rattle.laws.specs.Chain.{Page}
-use Rattle.laws.specs.Heads.{one-le, one-page, sum-one, range1-at, range2-at, range-low, range-none1, range-none2, mails-at, owns-at, mails-of, owns-of}
+use Rattle.laws.specs.Heads.{one-le, one-page, sum-one, range1-at, range2-at, range-low, range-none1, range-none2, mails-at, owns-at, mails-of}
+use Rattle.laws.specs.Heads.{owns-of, grantWords, lineHeads}
 use Rattle.laws.specs.Uses.{others, Among, Sep, proc-page, proc-once}
 
 -- ---- the heads there are
@@ -32,41 +34,41 @@ pub in-asking : (ps : List ℕ) → Among ps pageQueue
 in-asking ps = in-queues ps pageQueue (omega arith)
 
 pub int-queue : (ps : List ℕ) (k : ℕ) → k < interrupts → 1 ≤ count (headerAfter k) (queues ps)
-int-queue ps k h = omega (arith, count-append (headerAfter k) (owns ps) (range interrupts 2 132), range2-at interrupts 132 k h)
+int-queue ps k h = omega (arith, count-append (headerAfter k) (owns ps) lineHeads, range2-at interrupts (headerAfter 0) k h)
 
 pub in-own : (ps : List ℕ) (p : ℕ) → 1 ≤ count p ps → Among ps (place p ownQueue)
-in-own ps p h = in-queues ps (place p ownQueue) (omega (arith, count-append (place p ownQueue) (owns ps) (range interrupts 2 132), owns-at p ps))
+in-own ps p h = in-queues ps (place p ownQueue) (omega (arith, count-append (place p ownQueue) (owns ps) lineHeads, owns-at p ps))
 
-pub in-q : (ps : List ℕ) (p w : ℕ) → 5 ≤ w → w ≤ 6 → 1 ≤ count p ps → Among ps (place p w)
-in-q ps p w i j h = in-uses ps (place p w) (omega (arith, count-append (place p w) (mails ps) (range 32 1 320), mails-at p w ps i j))
+pub in-q : (ps : List ℕ) (p w : ℕ) → q1 ≤ w → w ≤ q2 → 1 ≤ count p ps → Among ps (place p w)
+in-q ps p w i j h = in-uses ps (place p w) (omega (arith, count-append (place p w) (mails ps) grantWords, mails-at p w ps i j))
 
-pub in-grant : (ps : List ℕ) (k : ℕ) → k < 32 → Among ps (grantFor k)
+pub in-grant : (ps : List ℕ) (k : ℕ) → k < pageSize → Among ps (grantFor k)
 in-grant ps k h = in-uses ps (grantFor k) (omega (
   arith,
-  count-append (grantFor k) (mails ps) (range 32 1 320),
-  range1-at 32 320 (grantFor k) (omega arith)
+  count-append (grantFor k) (mails ps) grantWords,
+  range1-at pageSize grants (grantFor k) (omega arith)
       (omega arith),
 ))
 
 -- ---- words of page 10
-pub grant-low : (a : ℕ) → a < 320 → isGrant a ≡ false
+pub grant-low : (a : ℕ) → a < grants → isGrant a ≡ false
 unfolding Model.isGrant
-grant-low a h = rw (lt-leb 320 a h)
+grant-low a h = rw (lt-leb grants a h)
 
-pub grant-high : (a : ℕ) → 352 ≤ a → isGrant a ≡ false
+pub grant-high : (a : ℕ) → grantsEnd ≤ a → isGrant a ≡ false
 unfolding Model.isGrant
-grant-high a h = rw (le-leb 320 a (omega arith), le-ltb a 352 h)
+grant-high a h = rw (le-leb grants a (omega arith), le-ltb a grantsEnd h)
 
-pub grant-is : (k : ℕ) → k < 32 → isGrant (grantFor k) ≡ true
+pub grant-is : (k : ℕ) → k < pageSize → isGrant (grantFor k) ≡ true
 unfolding Model.isGrant
-grant-is k h = rw (le-leb 320 (grantFor k) (omega arith), lt-ltb (grantFor k) 352 (omega arith))
+grant-is k h = rw (le-leb grants (grantFor k) (omega arith), lt-ltb (grantFor k) grantsEnd (omega arith))
 
-pub grant-of : (a : ℕ) → isGrant a ≡ true → (320 ≤ a) × (a < 352)
+pub grant-of : (a : ℕ) → isGrant a ≡ true → (grants ≤ a) × (a < grantsEnd)
 unfolding Model.isGrant
-grant-of a e = go (leb 320 a) (ltb a 352) refl refl e
+grant-of a e = go (leb grants a) (ltb a grantsEnd) refl refl e
   where
-    go : (s t : Bool) → leb 320 a ≡ s → ltb a 352 ≡ t → s && t ≡ true → (320 ≤ a) × (a < 352)
-    go true true f g e = (leb-true 320 a f, ltb-true a 352 g)
+    go : (s t : Bool) → leb grants a ≡ s → ltb a grantsEnd ≡ t → s && t ≡ true → (grants ≤ a) × (a < grantsEnd)
+    go true true f g e = (leb-true grants a f, ltb-true a grantsEnd g)
     go true false f g e = let z : _≡_ {A = ℕ} 0 1 = cc in absurd (omega arith)
     go false t f g e = let z : _≡_ {A = ℕ} 0 1 = cc in absurd (omega arith)
 
@@ -77,8 +79,8 @@ use-free {ps} {L} s a q h i =
     let e : count q (L processorList) ≡ count q ps = ap (count q) (s .procs) in
     (one-page q (omega (arith, s .most q, sum-one q L a (others ps) h)), omega (arith, s .most q, sum-one q L a (others ps) h, one-le q))
 
-pub q-free : {ps : List ℕ} {L : Lists} → Sep ps L → (p w q : ℕ) → 5 ≤ w → w ≤ 6 → 1 ≤ count p ps → 1 ≤ count q (L (place p w)) → Page q × (count q ps ≡ 0)
-q-free {ps} {L} s p w q l u h i = use-free s (place p w) q (omega (arith, count-append (place p w) (mails ps) (range 32 1 320), mails-at p w ps l u)) i
+pub q-free : {ps : List ℕ} {L : Lists} → Sep ps L → (p w q : ℕ) → q1 ≤ w → w ≤ q2 → 1 ≤ count p ps → 1 ≤ count q (L (place p w)) → Page q × (count q ps ≡ 0)
+q-free {ps} {L} s p w q l u h i = use-free s (place p w) q (omega (arith, count-append (place p w) (mails ps) grantWords, mails-at p w ps l u)) i
 
 pub wait-page : {ps : List ℕ} {L : Lists} → Sep ps L → (a q : ℕ) → 1 ≤ count a (queues ps) → 1 ≤ count q (L a) → 1 ≤ count q ps
 wait-page {ps} {L} s a q h i = omega (arith, s .waits q, sum-one q L a (queues ps) h)
@@ -117,14 +119,14 @@ module _ {ps : List ℕ} {L : Lists} (s : Sep ps L) where
 
   pub free-once : InUses ps freeList
   free-once = let n = low-none freeList (omega arith) in record {
-    here = omega (arith, n, count-append freeList (mails ps) (range 32 1 320), range-low 32 1 320 freeList (omega arith));
-    away = omega (arith, n, count-append freeList (owns ps) (range interrupts 2 132), range-none2 interrupts 132 freeList (omega arith));
+    here = omega (arith, n, count-append freeList (mails ps) grantWords, range-low pageSize 1 grants freeList (omega arith));
+    away = omega (arith, n, count-append freeList (owns ps) lineHeads, range-none2 interrupts (headerAfter 0) freeList (omega arith));
   }
 
   pub asking-once : InQueues ps pageQueue
   asking-once = let n = low-none pageQueue (omega arith) in record {
-    here = omega (arith, n, count-append pageQueue (owns ps) (range interrupts 2 132), range-none2 interrupts 132 pageQueue (omega arith));
-    away = omega (arith, n, count-append pageQueue (mails ps) (range 32 1 320), range-low 32 1 320 pageQueue (omega arith));
+    here = omega (arith, n, count-append pageQueue (owns ps) lineHeads, range-none2 interrupts (headerAfter 0) pageQueue (omega arith));
+    away = omega (arith, n, count-append pageQueue (mails ps) grantWords, range-low pageSize 1 grants pageQueue (omega arith));
   }
 
   pub int-once : (k : ℕ) → k < interrupts → InQueues ps (headerAfter k)
@@ -133,48 +135,48 @@ module _ {ps : List ℕ} {L : Lists} (s : Sep ps L) where
         omega (
           arith,
           n,
-          count-append (headerAfter k) (owns ps) (range interrupts 2 132),
-          range2-at interrupts 132 k h,
+          count-append (headerAfter k) (owns ps) lineHeads,
+          range2-at interrupts (headerAfter 0) k h,
           hit-other (headerAfter k) pageQueue (omega arith),
         );
     away = omega (
       arith,
       n,
-      count-append (headerAfter k) (mails ps) (range 32 1 320),
-      range-low 32 1 320 (headerAfter k) (omega arith),
+      count-append (headerAfter k) (mails ps) grantWords,
+      range-low pageSize 1 grants (headerAfter k) (omega arith),
       hit-other (headerAfter k) processorList (omega arith),
       hit-other (headerAfter k) freeList (omega arith),
     );
   }
 
-  pub grant-once : (k : ℕ) → k < 32 → InUses ps (grantFor k)
+  pub grant-once : (k : ℕ) → k < pageSize → InUses ps (grantFor k)
   grant-once k h = let n = low-none (grantFor k) (omega arith) in record {
     here = omega (
       arith,
       n,
-      count-append (grantFor k) (mails ps) (range 32 1 320),
-      range1-at 32 320 (grantFor k) (omega arith) (omega arith),
+      count-append (grantFor k) (mails ps) grantWords,
+      range1-at pageSize grants (grantFor k) (omega arith) (omega arith),
       hit-other (grantFor k) processorList (omega arith),
       hit-other (grantFor k) freeList (omega arith),
     );
     away = omega (
       arith,
       n,
-      count-append (grantFor k) (owns ps) (range interrupts 2 132),
-      range-none2 interrupts 132 (grantFor k) (omega arith),
+      count-append (grantFor k) (owns ps) lineHeads,
+      range-none2 interrupts (headerAfter 0) (grantFor k) (omega arith),
       hit-other (grantFor k) pageQueue
           (omega arith),
     );
   }
 
-  pub q-once : (p w : ℕ) → 5 ≤ w → w ≤ 6 → 1 ≤ count p ps → InUses ps (place p w)
+  pub q-once : (p w : ℕ) → q1 ≤ w → w ≤ q2 → 1 ≤ count p ps → InUses ps (place p w)
   q-once p w l u h = let g = proc-page s p h in let a = place p w in record {
     here = omega (
       arith,
       proc-once s p,
       mails-at p w ps l u,
-      count-append (place p w) (mails ps) (range 32 1 320),
-      range-none1 32 320 (place p w)
+      count-append (place p w) (mails ps) grantWords,
+      range-none1 pageSize grants (place p w)
           (omega arith),
       hit-other (place p w) processorList (omega arith),
       hit-other (place p w) freeList (omega arith),
@@ -182,8 +184,8 @@ module _ {ps : List ℕ} {L : Lists} (s : Sep ps L) where
     away = omega (
       arith,
       not-own,
-      count-append (place p w) (owns ps) (range interrupts 2 132),
-      range-none2 interrupts 132 (place p w) (omega arith),
+      count-append (place p w) (owns ps) lineHeads,
+      range-none2 interrupts (headerAfter 0) (place p w) (omega arith),
       hit-other (place p w) pageQueue (omega arith),
     );
   }
@@ -201,15 +203,15 @@ module _ {ps : List ℕ} {L : Lists} (s : Sep ps L) where
       arith,
       proc-once s p,
       owns-at p ps,
-      count-append (place p ownQueue) (owns ps) (range interrupts 2 132),
-      range-none2 interrupts 132 (place p ownQueue) (omega arith),
+      count-append (place p ownQueue) (owns ps) lineHeads,
+      range-none2 interrupts (headerAfter 0) (place p ownQueue) (omega arith),
       hit-other (place p ownQueue) pageQueue (omega arith),
     );
     away = omega (
       arith,
       not-mail,
-      count-append (place p ownQueue) (mails ps) (range 32 1 320),
-      range-none1 32 320 (place p ownQueue) (omega arith),
+      count-append (place p ownQueue) (mails ps) grantWords,
+      range-none1 pageSize grants (place p ownQueue) (omega arith),
       hit-other (place p ownQueue) processorList (omega arith),
       hit-other (place p ownQueue) freeList (omega arith),
     );
@@ -232,8 +234,8 @@ queues-pos ps a g h = go (zero-or a)
         absurd (omega (
           arith,
           n,
-          count-append a (owns ps) (range interrupts 2 132),
-          range-low interrupts 2 132 a (omega arith),
+          count-append a (owns ps) lineHeads,
+          range-low interrupts 2 (headerAfter 0) a (omega arith),
           hit-other a pageQueue (omega arith),
         ))
     go (inr i) = i

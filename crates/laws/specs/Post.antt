@@ -10,8 +10,8 @@ use lib.ListN.{length, getD, set, length-set}
 use lib.Seq.{getD-set-same}
 use lib.Dec.{eqb}
 use borrow.Author.Tests.{ne-eqb}
-use Rattle.model.specs.Map.{label, link, longest, memorySize, note, ownQueue, ownSemaphore, place, q1, reason, size, state}
-use Rattle.model.specs.Map.{text}
+use Rattle.model.specs.Map.{label, lastFlag, lastName, link, longest, lower, memorySize, note, notice, ownQueue, ownSemaphore, pair, place, q1}
+use Rattle.model.specs.Map.{reason, size, state, text, upper}
 use Rattle.model.specs.Bytes.{name, running, store, word}
 use Rattle.model.specs.Mail as Mail
 use Rattle.model.specs.Mail.{fits}
@@ -50,13 +50,13 @@ module _ {m : List ℕ} {ps : List ℕ} {L : Lists} {W : View} {hs : List ℕ} {
   K = upd L a5 (L a5 ++ q ∷ [])
 
   abbrev m1 : List ℕ
-  m1 = join m a5 0 q
+  m1 = join m a5 link q
 
   pub x1 : Mem m1 ps K W
-  x1 = mail-mem b p 5 h (omega arith) (omega arith)
+  x1 = mail-mem b p q1 h (omega arith) (omega arith)
 
   abbrev asked : Bool
-  asked = fits (W .reason p / 16) (W .reason p % 16) (W .note q)
+  asked = fits (upper (W .reason p)) (lower (W .reason p)) (W .note q)
 
   -- what `awaits` reads
   pub reason-at : word m1 p reason ≡ W .reason p
@@ -74,7 +74,7 @@ module _ {m : List ℕ} {ps : List ℕ} {L : Lists} {W : View} {hs : List ℕ} {
   -- nobody wakes
   quiet : ((x : ℕ) → 1 ≤ count x (L (place p ownQueue)) → asked ≡ false) → Delivered m1
   quiet none = record {
-    gave = record { lists = K; view = W; base = give-mail b p 5 h (omega arith) (omega arith) letter (λ x i e. none x i); low = refl };
+    gave = record { lists = K; view = W; base = give-mail b p q1 h (omega arith) (omega arith) letter (λ x i e. none x i); low = refl };
     here = upd-same L a5 (L a5 ++ q ∷ []);
     others = λ c d e. upd-other L a5 c (L a5 ++ q ∷ []) d;
   }
@@ -96,8 +96,8 @@ module _ {m : List ℕ} {ps : List ℕ} {L : Lists} {W : View} {hs : List ℕ} {
     letter4 : Message (W .note q) (put1 (W .reason) p 0 q)
     letter4 = rw (put1-other (W .reason) p 0 q not-p) letter
 
-    alone : (x : ℕ) → 1 ≤ count x (upd L a4 xs (place p ownQueue)) → _≡_ {A = ℕ} 5 5
-        → fits (woken W (place p ownSemaphore) p .reason p / 16) (woken W (place p ownSemaphore) p .reason p % 16) (W .note q) ≡ false
+    alone : (x : ℕ) → 1 ≤ count x (upd L a4 xs (place p ownQueue)) → _≡_ {A = ℕ} q1 q1
+        → fits (upper (woken W (place p ownSemaphore) p .reason p)) (lower (woken W (place p ownSemaphore) p .reason p)) (W .note q) ≡ false
     alone x i r =
         let o = fw .own p h x i .owner in
         let j = rw (← at4, upd-same, o) at i in
@@ -109,7 +109,7 @@ module _ {m : List ℕ} {ps : List ℕ} {L : Lists} {W : View} {hs : List ℕ} {
         ))
 
     fm : Facts ps (upd (upd L a4 xs) a5 (upd L a4 xs a5 ++ q ∷ [])) (woken W (place p ownSemaphore) p) g
-    fm = facts-mail q fw room4 p 5 h (omega arith) (omega arith) letter4 alone
+    fm = facts-mail q fw room4 p q1 h (omega arith) (omega arith) letter4 alone
 
     swap : upd K a4 xs ≡ upd (upd L a4 xs) a5 (upd L a4 xs a5 ++ q ∷ [])
     swap = rw (upd-other L a4 a5 xs (omega arith)) (upd-swap L a5 a4 (L a5 ++ q ∷ []) xs (omega arith))
@@ -124,13 +124,13 @@ module _ {m : List ℕ} {ps : List ℕ} {L : Lists} {W : View} {hs : List ℕ} {
             view = woken W (place p ownSemaphore) p;
             base = record {
               mem =
-                  rw swap at (wake-mem (place p ownSemaphore) p [] xs (mail-sep b p 5 h (omega arith) (omega arith)) (rw swap (fm .sep)) x1
+                  rw swap at (wake-mem (place p ownSemaphore) p [] xs (mail-sep b p q1 h (omega arith) (omega arith)) (rw swap (fm .sep)) x1
                   (own-sem s p h) pg e2);
               facts = fm;
               all = λ z.
                   omega (
                     arith,
-                    more-mail q fw room4 p 5 h (omega arith) (omega arith) letter4 alone z,
+                    more-mail q fw room4 p q1 h (omega arith) (omega arith) letter4 alone z,
                     b .all z,
                     sum-skip z L a4 xs (uses ps) (rw at4 (own-once s p h .away)),
                   );
@@ -146,7 +146,7 @@ module _ {m : List ℕ} {ps : List ℕ} {L : Lists} {W : View} {hs : List ℕ} {
       → ((ys : List ℕ) → L a4 ≡ p ∷ ys → P (wake m1 (place p ownSemaphore) p)) → P (deliver m p q)
   unfolding Mail.deliver Mail.heard Mail.awaits Mail.matches
   delivers P stays wakes =
-      go (L (place p ownQueue)) refl (chain0 (mail-sep b p 5 h (omega arith) (omega arith)) x1 (place p ownQueue) (
+      go (L (place p ownQueue)) refl (chain0 (mail-sep b p q1 h (omega arith) (omega arith)) x1 (place p ownQueue) (
         in-own ps p h,
         grant-high (place p ownQueue)
             (omega (arith, pg)),
@@ -156,7 +156,7 @@ module _ {m : List ℕ} {ps : List ℕ} {L : Lists} {W : View} {hs : List ℕ} {
       same : K (place p ownQueue) ≡ L (place p ownQueue)
       same = upd-other L a5 (place p ownQueue) (L a5 ++ q ∷ []) (omega arith)
 
-      go : (ys : List ℕ) → L (place p ownQueue) ≡ ys → Chain m1 0 (place p ownQueue) (K (place p ownQueue)) → (c : Bool) → asked ≡ c → P (deliver m p q)
+      go : (ys : List ℕ) → L (place p ownQueue) ≡ ys → Chain m1 link (place p ownQueue) (K (place p ownQueue)) → (c : Bool) → asked ≡ c → P (deliver m p q)
       go [] e c t f = let z : word m1 p ownQueue ≡ 0 = rw (same, e) at c in rw z (stays (λ x i. absurd (omega (arith, ap (count x) e))))
       go (y ∷ ys) e c false f =
           let z = rw (same, e) at c in
@@ -164,7 +164,7 @@ module _ {m : List ℕ} {ps : List ℕ} {L : Lists} {W : View} {hs : List ℕ} {
       go (y ∷ ys) e c true f =
           let z = rw (same, e) at c in
           let d = b .facts .own p h y (rw e (omega (arith, hit-self y))) .owner in
-          let at4 : place p ownSemaphore + 1 ≡ p * 32 + 4 = omega arith in
+          let at4 : place p ownSemaphore + 1 ≡ place p ownQueue = omega arith in
           rw (z .0, ne-eqb y 0 (omega arith), reason-at, note-at, f) (wakes ys (rw (at4, e, d)))
 
   pub deliver-all : Delivered (deliver m p q)
@@ -174,21 +174,21 @@ module _ {m : List ℕ} {ps : List ℕ} {L : Lists} {W : View} {hs : List ℕ} {
   deliver-base = deliver-all .gave
 
   -- which words stay: all but the end of Q1, the link of the page, and of the processor words 0 to 5 and 12
-  pub deliver-frame : (c : ℕ) → ((j : ℕ) → j ≤ 5 → c ≢ place p j) → c ≢ place p state → c ≢ place q link
+  pub deliver-frame : (c : ℕ) → ((j : ℕ) → j ≤ q1 → c ≢ place p j) → c ≢ place p state → c ≢ place q link
       → ((z : ℕ) → 1 ≤ count z (L (place p q1)) → c ≢ place z link) → getD (deliver m p q) c 0 ≡ getD m c 0
   deliver-frame c n n12 nq nl = delivers (λ x. getD x c 0 ≡ getD m c 0) (λ f. joined) (λ ys e.
       let same = upd-other L a5 a4 (L a5 ++ q ∷ []) (omega arith) in
-      let own : (z : ℕ) → 1 ≤ count z (K a4) → c ≢ z * 32 + 0 = λ z i. rw (b .facts .own p h z (rw (← at4, ← same) i) .owner) (n 0 (omega arith)) in
-      wake-frame (mail-sep b p 5 h (omega arith) (omega arith)) x1 (place p ownSemaphore) p [] ys (own-sem s p h) (same ∙ e) c (n 3 (omega arith))
-      (rw at4 (n 4 (omega arith))) own (n 2 (omega arith)) n12 ∙ joined)
+      let own : (z : ℕ) → 1 ≤ count z (K a4) → c ≢ place z link = λ z i. rw (b .facts .own p h z (rw (← at4, ← same) i) .owner) (n link (omega arith)) in
+      wake-frame (mail-sep b p q1 h (omega arith) (omega arith)) x1 (place p ownSemaphore) p [] ys (own-sem s p h) (same ∙ e) c (n ownSemaphore (omega arith))
+      (rw at4 (n ownQueue (omega arith))) own (n reason (omega arith)) n12 ∙ joined)
     where
       at4 : a4 ≡ place p ownQueue
       at4 = omega arith
 
       joined : getD m1 c 0 ≡ getD m c 0
       joined =
-          join-frame s (b .mem) a5 (in-q ps p 5 (omega arith) (omega arith) h, grant-high a5 (omega (arith, pg))) (omega (arith, pg)) q
-          (hand-page b q (in-hand b)) (hand-new b) c (n 5 (omega arith)) nl nq
+          join-frame s (b .mem) a5 (in-q ps p q1 (omega arith) (omega arith) h, grant-high a5 (omega (arith, pg))) (omega (arith, pg)) q
+          (hand-page b q (in-hand b)) (hand-new b) c (n q1 (omega arith)) nl nq
 
 -- ---- what is written in a page in hand
 module _ {m : List ℕ} {ps : List ℕ} {L : Lists} {W : View} {hs : List ℕ} {g q : ℕ} (b : Base m ps L W (q ∷ hs) g) where
@@ -220,25 +220,25 @@ module _ {m : List ℕ} {ps : List ℕ} {L : Lists} {W : View} {hs : List ℕ} {
   -- "a notice with NI as sender and the same flag"
   pub notice-only : (n f : ℕ) → Only q m (makeNotice m q n f)
   unfolding Mail.makeNotice
-  notice-only n f = two (n * 16 + f) 128
+  notice-only n f = two (pair n f) notice
 
-  pub notice-words : (n f : ℕ) → (word (makeNotice m q n f) q note ≡ n * 16 + f) × (word (makeNotice m q n f) q size ≡ 128)
+  pub notice-words : (n f : ℕ) → (word (makeNotice m q n f) q note ≡ pair n f) × (word (makeNotice m q n f) q size ≡ notice)
   unfolding Mail.makeNotice
-  notice-words n f = (word1 (n * 16 + f) 128, word2 (n * 16 + f) 128)
+  notice-words n f = (word1 (pair n f) notice, word2 (pair n f) notice)
 
-  pub notice-letter : (n f : ℕ) → 1 ≤ n → n ≤ 15 → 1 ≤ f → f ≤ 7
+  pub notice-letter : (n f : ℕ) → 1 ≤ n → n ≤ lastName → 1 ≤ f → f ≤ lastFlag
       → Message (word (makeNotice m q n f) q note) (word (makeNotice m q n f) q size)
   notice-letter n f i j k l =
       rw (notice-words n f .0, notice-words n f .1)
       (record { sender = omega arith; known = omega arith; flag = omega arith; small = omega arith; long = λ z. absurd (z refl) })
 
-  pub notice-base : (n f p : ℕ) → 1 ≤ n → n ≤ 15 → 1 ≤ f → f ≤ 7 → 1 ≤ count p ps → Gave (deliver (makeNotice m q n f) p q) ps hs g W
+  pub notice-base : (n f p : ℕ) → 1 ≤ n → n ≤ lastName → 1 ≤ f → f ≤ lastFlag → 1 ≤ count p ps → Gave (deliver (makeNotice m q n f) p q) ps hs g W
   notice-base n f p i j k l h = written-base (notice-only n f) (notice-letter n f i j k l) p h
 
   -- "text length at A, text from A+1, to processor NI"
   module _ (f a l : ℕ) (l2 : l ≤ longest) where
     abbrev v : ℕ
-    v = name m (running m) * 16 + f
+    v = pair (name m (running m)) f
 
     abbrev mw : List ℕ
     mw = store (store m q note v) q size l
@@ -254,12 +254,12 @@ module _ {m : List ℕ} {ps : List ℕ} {L : Lists} {W : View} {hs : List ℕ} {
       copy-far l mw a (place q text) (place q size) (omega (arith, hp)) (λ i u. omega (arith, hp)) ∙ word2 v l,
     )
 
-    pub message-letter : 1 ≤ f → f ≤ 7 → Label (word m (running m) label)
+    pub message-letter : 1 ≤ f → f ≤ lastFlag → Label (word m (running m) label)
         → Message (word (writeMessage m q f a l) q note) (word (writeMessage m q f a l) q size)
     message-letter f1 f2 n =
         rw (message-words .0, message-words .1)
         (record { sender = omega (arith, n .name); known = omega arith; flag = omega arith; small = omega arith; long = λ z. l2 })
 
-  pub message-base : (f a l p : ℕ) → 1 ≤ f → f ≤ 7 → l ≤ longest → Label (word m (running m) label) → 1 ≤ count p ps
+  pub message-base : (f a l p : ℕ) → 1 ≤ f → f ≤ lastFlag → l ≤ longest → Label (word m (running m) label) → 1 ≤ count p ps
       → Gave (deliver (writeMessage m q f a l) p q) ps hs g W
   message-base f a l p i j k n h = written-base (message-only f a l k) (message-letter f a l k i j n) p h

@@ -12,6 +12,7 @@ use borrow.Author.Tests.{eq-eqb, ne-eqb}
 use Rattle.model.specs.Map.{firstControl, memorySize, place, processorList}
 use Rattle.model.specs.Lists as Model
 use Rattle.model.specs.Lists.{hit, count, linkOf, Lists}
+use Rattle.model.specs.Bytes.{store, word}
 use Rattle.laws.specs.Count.{hit-le, hit-self, hit-other, hit-or, count-append, count-mid}
 use Rattle.laws.specs.Chain.{Page, Chain, Off, NoDup, last, last-in, chain-put, off-page, off-word, chain-join, chain-leave}
 
@@ -28,10 +29,10 @@ unfolding Model.linkOf
 link-other a n = hit-other a processorList n
 
 -- a page has no link in a list of another kind, nor in one of its kind where it is not
-pub off-link : (q a b : ℕ) (xs : List ℕ) → (linkOf b ≡ linkOf a → count q xs ≡ 0) → Off (q * 32 + linkOf a) (linkOf b) xs
+pub off-link : (q a b : ℕ) (xs : List ℕ) → (linkOf b ≡ linkOf a → count q xs ≡ 0) → Off (place q (linkOf a)) (linkOf b) xs
 off-link q a b xs n = go (hit-or (linkOf b) (linkOf a))
   where
-    go : (linkOf b ≡ linkOf a) ⊎ (linkOf b ≢ linkOf a) → Off (q * 32 + linkOf a) (linkOf b) xs
+    go : (linkOf b ≡ linkOf a) ⊎ (linkOf b ≢ linkOf a) → Off (place q (linkOf a)) (linkOf b) xs
     go (inl e) = off-page q (linkOf a) (linkOf b) xs (omega (arith, link-le a)) (omega (arith, link-le b)) (n e)
     go (inr e) = off-word q (linkOf a) (linkOf b) xs (omega (arith, link-le a)) (omega (arith, link-le b)) (omega arith)
 
@@ -94,7 +95,7 @@ chain-pages m k a (x ∷ xs) c z h = go (hit-or z x) (chain-pages m k (place x k
 
 -- a cell of the chain that hangs from a
 abbrev pub CellOf : ℕ → ℕ → List ℕ → Type 0
-CellOf c a xs = (c ≡ a) ⊎ ((z : ℕ) × (1 ≤ count z xs) × (c ≡ z * 32 + linkOf a))
+CellOf c a xs = (c ≡ a) ⊎ ((z : ℕ) × (1 ≤ count z xs) × (c ≡ place z (linkOf a)))
 
 pub last-cell : (a : ℕ) (xs : List ℕ) → CellOf (last (linkOf a) a xs) a xs
 last-cell a [] = inl refl
@@ -117,27 +118,27 @@ module _ (m : List ℕ) (H : ℕ → Type 0) (L : Lists) (hm : length m ≡ memo
       (rw (s .2) (off-link (s .0) a b (L b) (λ e. omega (arith, apart b a ib ia n e (s .0), s .1)))) h
 
   pub rep-join : (a p : ℕ) → H a → Page p → ((b : ℕ) → H b → linkOf b ≡ linkOf a → count p (L b) ≡ 0)
-      → Rep (set (set m (p * 32 + linkOf a) 0) (last (linkOf a) a (L a)) p) H (upd L a (L a ++ p ∷ []))
+      → Rep (set (store m p (linkOf a) 0) (last (linkOf a) a (L a)) p) H (upd L a (L a ++ p ∷ []))
   rep-join a p ia hp new b ib = go (hit-or b a)
     where
       m1 : List ℕ
-      m1 = set m (p * 32 + linkOf a) 0
+      m1 = store m p (linkOf a) 0
 
-      off : (b : ℕ) → H b → b ≢ p * 32 + linkOf a
+      off : (b : ℕ) → H b → b ≢ place p (linkOf a)
       off b ib = good b ib .free p (linkOf a) (hp .0) (link-le a)
 
       go : (b ≡ a) ⊎ (b ≢ a) → Chain (set m1 (last (linkOf a) a (L a)) p) (linkOf b) b (upd L a (L a ++ p ∷ []) b)
       go (inl e) = rw (e, upd-same) (chain-join m (linkOf a) a p (L a) hm (good a ia .fits) (omega (arith, link-le a)) hp (off a ia) (off-head a a ia ia)
           (nodup-cons p (L a) (new a ia refl) (single a ia)) (rep a ia))
       go (inr n) = rw (upd-other L a b (L a ++ p ∷ []) n) (other-put m1 a b (last (linkOf a) a (L a)) p ia ib n (last-cell a (L a))
-          (chain-put m (p * 32 + linkOf a) 0 (linkOf b) b (L b) (λ e. off b ib (sym e)) (off-link p a b (L b) (new b ib)) (rep b ib)))
+          (chain-put m (place p (linkOf a)) 0 (linkOf b) b (L b) (λ e. off b ib (sym e)) (off-link p a b (L b) (new b ib)) (rep b ib)))
 
   pub rep-leave : (a p : ℕ) (xs ys : List ℕ) → H a → L a ≡ xs ++ p ∷ ys
-      → Rep (set (set m (last (linkOf a) a xs) (getD m (p * 32 + linkOf a) 0)) (p * 32 + linkOf a) 0) H (upd L a (xs ++ ys))
+      → Rep (store (set m (last (linkOf a) a xs) (word m p (linkOf a))) p (linkOf a) 0) H (upd L a (xs ++ ys))
   rep-leave a p xs ys ia e b ib = go (hit-or b a)
     where
       v : ℕ
-      v = getD m (p * 32 + linkOf a) 0
+      v = word m p (linkOf a)
 
       c : ℕ
       c = last (linkOf a) a xs
@@ -146,9 +147,9 @@ module _ (m : List ℕ) (H : ℕ → Type 0) (L : Lists) (hm : length m ≡ memo
       own (inl q) = inl q
       own (inr s) = inr (s .0, rw e (omega (arith, count-append (s .0) xs (p ∷ ys), s .1)), s .2)
 
-      go : (b ≡ a) ⊎ (b ≢ a) → Chain (set (set m c v) (p * 32 + linkOf a) 0) (linkOf b) b (upd L a (xs ++ ys) b)
+      go : (b ≡ a) ⊎ (b ≢ a) → Chain (store (set m c v) p (linkOf a) 0) (linkOf b) b (upd L a (xs ++ ys) b)
       go (inl q) = rw (q, upd-same) (chain-leave m (linkOf a) a p xs ys hm (good a ia .fits) (omega (arith, link-le a))
           (rw e at (off-head a a ia ia)) (rw e at (single a ia)) (rw e at (rep a ia)))
-      go (inr n) = rw (upd-other L a b (xs ++ ys) n) (other-put (set m c v) a b (p * 32 + linkOf a) 0 ia ib n
+      go (inr n) = rw (upd-other L a b (xs ++ ys) n) (other-put (set m c v) a b (place p (linkOf a)) 0 ia ib n
           (inr (p, rw e (count-mid p xs ys), refl))
           (other-put m a b c v ia ib n (own (last-cell a xs)) (rep b ib)))

@@ -20,7 +20,7 @@ use Rattle.model.specs.declared.Verdict.{Verdict}
 use Rattle.model.specs.declared.Verdict.the-variants as Verdict
 use Rattle.model.specs.Processor.{inRange}
 use Rattle.model.specs.Answer as Answer
-use Rattle.model.specs.Answer.{answerOf, memoryOf}
+use Rattle.model.specs.Answer.{answerOf, illFormed, memoryOf, noInterrupt, outOfRange, wrongClass, wrongLength}
 use Rattle.model.specs.Answer.Outcome.{gives}
 use Rattle.model.specs.Fault as Faults
 use Rattle.model.specs.Fresh.{startable}
@@ -68,25 +68,26 @@ kind-kept m k o (refused j l u e) q = rw e
 pub instruction-kept : (m : List ℕ) (k : ℕ) → Kept m k (instruction m)
 unfolding Call.instruction Call.instructionJudged
 instruction-kept m k =
-    head-each (Kept m k) m Refused _ (same m k) (either (Kept m k) (eqb (running m) 0) (same m k 22)
+    head-each (Kept m k) m Refused _ (same m k) (either (Kept m k) (eqb (running m) 0) (same m k Answer.idle)
     (kind-kept m k (Model.fetched m (lr m)) (fetched-kind m (lr m))))
 
 pub fresh-kept : (m : List ℕ) (line d k : ℕ) → Kept m k (fresh m line d)
 unfolding Call.fresh
 fresh-kept m line d k =
-    either (Kept m k) (eqb (length m) memorySize) (either (Kept m k) (startable line d) (changed m (Model.started m line d) k) (same m k 26)) (same m k 20)
+    either (Kept m k) (eqb (length m) memorySize) (either (Kept m k) (startable line d) (changed m (Model.started m line d) k) (same m k outOfRange))
+    (same m k wrongLength)
 
 pub interrupt-kept : (m : List ℕ) (n c k : ℕ) → Kept m k (interrupt m n c)
 unfolding Call.interrupt Call.interruptJudged
 interrupt-kept m n c k =
     head-each (Kept m k) m Refused _ (same m k) (either (Kept m k) (isOuter n) (either (Kept m k) (isClass n c)
-    (changed m (Model.whoRuns (Model.delivered m n c)) k) (same m k 25)) (same m k 24))
+    (changed m (Model.whoRuns (Model.delivered m n c)) k) (same m k wrongClass)) (same m k noInterrupt))
 
 pub set-kept : (m : List ℕ) (r : Registers) (k : ℕ) → Kept m k (setRegisters m r)
 unfolding Call.setRegisters Call.setJudged
 set-kept m r k =
-    head-each (Kept m k) m Refused _ (same m k) (either (Kept m k) (eqb (running m) 0) (same m k 22)
-    (either (Kept m k) (inRange r) (changed m (Model.setRegistersOf m (running m) r) k) (same m k 26)))
+    head-each (Kept m k) m Refused _ (same m k) (either (Kept m k) (eqb (running m) 0) (same m k Answer.idle)
+    (either (Kept m k) (inRange r) (changed m (Model.setRegistersOf m (running m) r) k) (same m k outOfRange)))
 
 -- ---- an instruction that faults is the one step, on the memory as it was
 abbrev pub Faulted : List ℕ → ℕ → ℕ → Step → Type 0
@@ -125,7 +126,7 @@ kind-fault m f n o (refused j l u e) q = absurd (no (rw e at q))
 pub instruction-faults : (m : List ℕ) (f n : ℕ) → Faulted m f n (instruction m)
 unfolding Call.instruction Call.instructionJudged
 instruction-faults m f n =
-    head-each (Faulted m f n) m Refused _ (not-fault m f n) (either (Faulted m f n) (eqb (running m) 0) (not-fault m f n 22)
+    head-each (Faulted m f n) m Refused _ (not-fault m f n) (either (Faulted m f n) (eqb (running m) 0) (not-fault m f n Answer.idle)
     (kind-fault m f n (Model.fetched m (lr m)) (fetched-kind m (lr m))))
 
 -- ---- an own code handed out leaves the memory
@@ -174,16 +175,16 @@ judge-kept m =
 
 -- ---- a well-formed memory is not refused with 21
 abbrev pub Never : Step → Type 0
-Never o = answerOf o ≢ Refused 21
+Never o = answerOf o ≢ Refused illFormed
 
-other-number : (m : List ℕ) (k : ℕ) → 22 ≤ k → Never (Model.refused m k)
+other-number : (m : List ℕ) (k : ℕ) → Answer.idle ≤ k → Never (Model.refused m k)
 unfolding Answer.answerOf
-other-number m k l e = clash (refused-is k 21 e)
+other-number m k l e = clash (refused-is k illFormed e)
   where
     refused-is : (a b : ℕ) → Refused a ≡ Refused b → a ≡ b
     refused-is a b q = cc
 
-    clash : k ≡ 21 → ⊥
+    clash : k ≡ illFormed → ⊥
     clash q = omega arith
 
 a-done : (m : List ℕ) → Never (gives Done m)
@@ -194,19 +195,19 @@ kind-never : (m : List ℕ) (o : Step) → Kind m o → Never o
 unfolding Answer.answerOf Faults.fault
 kind-never m o (done e) q = no (sym e ∙ q)
   where
-    no : Done ≡ Refused 21 → ⊥
+    no : Done ≡ Refused illFormed → ⊥
     no q = let z : _≡_ {A = ℕ} 0 1 = cc in omega arith
 kind-never m o (waits e) q = no (sym e ∙ q)
   where
-    no : Waits ≡ Refused 21 → ⊥
+    no : Waits ≡ Refused illFormed → ⊥
     no q = let z : _≡_ {A = ℕ} 0 1 = cc in omega arith
 kind-never m o (handed p a e) q = no (rw e at q)
   where
-    no : HandedOut p a ≡ Refused 21 → ⊥
+    no : HandedOut p a ≡ Refused illFormed → ⊥
     no q = let z : _≡_ {A = ℕ} 0 1 = cc in omega arith
 kind-never m o (faulted f i j e) q = no (rw e at q)
   where
-    no : answerOf (Model.fault m f) ≡ Refused 21 → ⊥
+    no : answerOf (Model.fault m f) ≡ Refused illFormed → ⊥
     no q = let z : _≡_ {A = ℕ} 0 1 = cc in omega arith
 kind-never m o (refused j l u e) q = other-number m j l (rw e at q)
 
@@ -217,36 +218,36 @@ module _ {m : List ℕ} (h : Sound m) where
   pub instruction-never : Never (instruction m)
   unfolding Call.head Call.instruction Call.instructionJudged
   instruction-never =
-      rw (unrefused h) (either Never (eqb (running m) 0) (other-number m 22 (omega arith)) (kind-never m (Model.fetched m (lr m))
+      rw (unrefused h) (either Never (eqb (running m) 0) (other-number m Answer.idle (omega arith)) (kind-never m (Model.fetched m (lr m))
       (fetched-kind m (lr m))))
 
   pub fresh-never : (line d : ℕ) → Never (fresh m line d)
   unfolding Call.fresh
-  fresh-never line d = rw size-is (either Never (startable line d) (a-done (Model.started m line d)) (other-number m 26 (omega arith)))
+  fresh-never line d = rw size-is (either Never (startable line d) (a-done (Model.started m line d)) (other-number m outOfRange (omega arith)))
 
   pub interrupt-never : (n c : ℕ) → Never (interrupt m n c)
   unfolding Call.head Call.interrupt Call.interruptJudged
   interrupt-never n c =
-      rw (unrefused h) (either Never (isOuter n) (either Never (isClass n c) (a-done (Model.whoRuns (Model.delivered m n c))) (other-number m 25
+      rw (unrefused h) (either Never (isOuter n) (either Never (isClass n c) (a-done (Model.whoRuns (Model.delivered m n c))) (other-number m wrongClass
       (omega arith)))
-      (other-number m 24 (omega arith)))
+      (other-number m noInterrupt (omega arith)))
 
   pub set-never : (r : Registers) → Never (setRegisters m r)
   unfolding Call.head Call.setRegisters Call.setJudged
   set-never r =
-      rw (unrefused h) (either Never (eqb (running m) 0) (other-number m 22 (omega arith))
-      (either Never (inRange r) (a-done (Model.setRegistersOf m (running m) r)) (other-number m 26 (omega arith))))
+      rw (unrefused h) (either Never (eqb (running m) 0) (other-number m Answer.idle (omega arith))
+      (either Never (inRange r) (a-done (Model.setRegistersOf m (running m) r)) (other-number m outOfRange (omega arith))))
 
-  pub read-never : answerOf (readRegisters m) ≢ Held.Refused 21
+  pub read-never : answerOf (readRegisters m) ≢ Held.Refused illFormed
   unfolding Call.head Call.readRegisters Call.readJudged Answer.answerOf
   read-never =
-      let P : Answer.Outcome Held (List ℕ) → Type 0 = λ o. answerOf o ≢ Held.Refused 21 in
+      let P : Answer.Outcome Held (List ℕ) → Type 0 = λ o. answerOf o ≢ Held.Refused illFormed in
       rw (unrefused h) (either P (eqb (running m) 0) idle has)
     where
-      idle : Held.Refused 22 ≢ Held.Refused 21
-      idle e = let z : _≡_ {A = ℕ} 22 21 = cc in omega arith
+      idle : Held.Refused Answer.idle ≢ Held.Refused illFormed
+      idle e = let z : _≡_ {A = ℕ} Answer.idle illFormed = cc in omega arith
 
-      has : Held.Has (Model.registersOf m (running m)) ≢ Held.Refused 21
+      has : Held.Has (Model.registersOf m (running m)) ≢ Held.Refused illFormed
       has e = let z : _≡_ {A = ℕ} 0 1 = cc in omega arith
 
   pub judge-accepts : answerOf (judge m) ≡ Verdict.WellFormed

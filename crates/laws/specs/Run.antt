@@ -6,11 +6,12 @@ use mathlib.Core.List.{List, [], _∷_}
 use Prim.Native.Nat.{ℕ, _+_, _-_, _%_, _≤_, _<_}
 use native.Mathlib.Omega.{arith}
 use lib.ListN.{getD}
+use Rattle.model.specs.Map.{aWord}
 use Rattle.model.specs.Address.{wrapped}
 use Rattle.model.specs.Bytes.{running}
 use Rattle.model.specs.declared.Arguments.{Arguments}
 use Rattle.model.specs.Instruction as Instruction
-use Rattle.model.specs.Instruction.{shapeFor, arguments, countedArguments}
+use Rattle.model.specs.Instruction.{arguments, countedArguments, depCode, shapeFor, st1Code, stpCode}
 use Rattle.model.specs.Answer as Answer
 use Rattle.model.specs.Bytes as Model
 use Rattle.model.specs.Bytes.{direct, pointed, argument, fetched, fieldAt}
@@ -27,7 +28,7 @@ use Rattle.laws.specs.Each.{fetched-each}
 -- ---- what the arguments of code c hold
 pub record Bound (c : ℕ) (x : Arguments) : Type 0 where
   pub field : x .field < 16
-  pub count : c ≡ 3 → x .count ≤ 255
+  pub count : c ≡ 3 → x .count ≤ aWord
   pub send : c ≡ 4 → x .second < 8
   pub wait : c ≡ 5 → x .second < 8
   pub create : c ≡ 11 → x .second < 16
@@ -91,10 +92,10 @@ fetched-fine {m} w d s = fetched-each {B = Bound} Fine (record {
   wnm = λ x len b. wnm-fine w d (x .field) (x .second) len (b .wait refl);
   rme = λ x len b. rme-fine w d (x .field) (x .second) (x .address) len;
   tme = λ x len b. tme-fine w d (x .field) (x .second) (x .address) len;
-  st1 = λ x len b. named-fine w d 8 (x .field) len;
-  stp = λ x len b. named-fine w d 9 (x .field) len;
+  st1 = λ x len b. named-fine w d st1Code (x .field) len;
+  stp = λ x len b. named-fine w d stpCode (x .field) len;
   st2 = λ x len b. st2-fine w d (x .field) (x .address) len;
   crp = λ x len b. crp-fine w d (x .field) (x .second) (x .w) (x .address) len (b .field) (b .create refl);
-  dep = λ x len b. named-fine w d 12 (x .field) len;
+  dep = λ x len b. named-fine w d depCode (x .field) len;
   thirteen = λ x len b. thirteen-fine w d (x .field) (x .second) (x .address) len;
 })

@@ -8,7 +8,9 @@ use native.Mathlib.Omega.{arith}
 use lib.ListN.{length, getD, set, length-set, length-append}
 use lib.Seq.{getD-set-same}
 use lib.Dec.{eqb}
-use Rattle.model.specs.Map.{freeList, grantFor, guardedLast, headerAfter, listLink, ownQueue, pageQueue, place, processorList, q1, q2, runningPage}
+use Rattle.model.specs.Map as Map
+use Rattle.model.specs.Map.{freeList, grantFor, guardedLast, headerAfter, link, listLink, lower, ownQueue, ownSemaphore, pageQueue, pageSize, place}
+use Rattle.model.specs.Map.{processorList, q1, q2, runningPage}
 use Rattle.model.specs.Bytes.{store, word}
 use Rattle.model.specs.Bytes.{leave}
 use Rattle.model.specs.Lists.{hit, count, Lists, sum, uses, queues}
@@ -18,7 +20,7 @@ use Rattle.laws.specs.Queues.{upd, upd-same, upd-other, link-procs, link
 use Rattle.laws.specs.Heads.{sum-one, sum-upd, sum-skip, Seat, seat-of}
 use Rattle.laws.specs.Uses.{Among, Head, Sep, proc-page, proc-once, list-short, good, apart, single}
 use Rattle.laws.specs.Places.{in-procs, in-q, grant-low, grant-high, own-once}
-use Rattle.laws.specs.Inv.{View, bearers, Facts, Mem}
+use Rattle.laws.specs.Inv.{Facts, Mem, View, bearers, noOne}
 use Rattle.laws.specs.Frames.{other, fixed-same, seat-same}
 use Rattle.laws.specs.Views.{put1, put1-same, put1-other, withWords}
 use Rattle.laws.specs.Changes.{stock-same}
@@ -79,7 +81,7 @@ module _ (xs : List ℕ) (p : ℕ) (ys : List ℕ) where
     sum-left : (z : ℕ) → sum z A (queues P) ≡ sum z L (queues P)
     sum-left z = sum-skip z L processorList Q (queues P) (procs-once s .away)
 
-    module _ {W : View} (f : Facts P L W 32) (idle : sum p L (queues P) ≡ 0) (runs : W .low runningPage ≢ p) where
+    module _ {W : View} (f : Facts P L W noOne) (idle : sum p L (queues P) ≡ 0) (runs : W .low runningPage ≢ p) where
       -- its own wait is empty
       own-empty : (x : ℕ) → 1 ≤ count x (L (place p ownQueue)) → ⊥
       own-empty x h =
@@ -106,18 +108,24 @@ module _ (xs : List ℕ) (p : ℕ) (ys : List ℕ) where
       pub shrink-sep : Sep Q A
       shrink-sep = record { procs = upd-same L processorList Q; most = λ z. omega (arith, shrunk z, s .most z); waits = λ z. waits z (hit-or z p) }
 
-      named : (k : ℕ) → bearers (W .label) P k ≡ bearers (W .label) Q k + hit (eqb k (W .label p % 16))
-      named k = names-more xs p ys (λ y. W .label y % 16) k
+      named : (k : ℕ) → bearers (W .label) P k ≡ bearers (W .label) Q k + hit (eqb k (lower (W .label p)))
+      named k = names-more xs p ys (λ y. lower (W .label y)) k
 
-      other-name : (y : ℕ) → 1 ≤ count y Q → W .label y % 16 ≢ W .label p % 16
+      other-name : (y : ℕ) → 1 ≤ count y Q → lower (W .label y) ≢ lower (W .label p)
       other-name y h e =
-          omega (arith, each-two (λ z. W .label z % 16) y p P (not-p y h) e (left y h) in-P, f .names .differ p in-P)
+          omega (arith, each-two (λ z. lower (W .label z)) y p P (not-p y h) e (left y h) in-P, f .names .differ p in-P)
 
-      pub shrink-facts : Facts Q A W (W .label p % 16)
+      pub shrink-facts : Facts Q A W (lower (W .label p))
       shrink-facts = record {
         sep = shrink-sep;
         names = record {
-          differ = λ y h. omega (arith, f .names .differ y (left y h), named (W .label y % 16), hit-other (W .label y % 16) (W .label p % 16) (other-name y h));
+          differ = λ y h.
+              omega (
+                arith,
+                f .names .differ y (left y h),
+                named (lower (W .label y)),
+                hit-other (lower (W .label y)) (lower (W .label p)) (other-name y h),
+              );
           range = λ y h. f .names .range y (left y h);
         };
         seats = record {
@@ -133,10 +141,10 @@ module _ (xs : List ℕ) (p : ℕ) (ys : List ℕ) where
         sems = λ a h. rw (at-queue (a + 1) (queue-left (a + 1) h), stock-same L A (at-other freeList (omega arith)) a) (f .sems a (queue-left (a + 1) h));
         granted = record {
           bare = λ y c.
-              rw (at-other freeList (omega arith), at-other (320 + W .label y % 16) (omega arith))
+              rw (at-other freeList (omega arith), at-other (grantFor (lower (W .label y))) (omega arith))
               (f .granted .bare y (rw (at-other pageQueue (omega arith)) at c));
           known = λ k h d c.
-              omega (arith, named k, hit-other k (W .label p % 16) d, f .granted .known k h (omega arith) (rw (at-other (grantFor k) (omega arith)) at c));
+              omega (arith, named k, hit-other k (lower (W .label p)) d, f .granted .known k h (omega arith) (rw (at-other (grantFor k) (omega arith)) at c));
         };
         mail = λ y w h u v x c. let t = proc-page s y (left y h) in f .mail y w (left y h) u v x (rw (at-other (place y w) (omega arith)) at c);
         runs = record {
@@ -158,7 +166,7 @@ module _ (xs : List ℕ) (p : ℕ) (ys : List ℕ) where
       h7 = (in-procs P, grant-low processorList (omega arith))
 
       abbrev c : ℕ
-      c = last 1 processorList xs
+      c = last listLink processorList xs
 
       abbrev v : ℕ
       v = word m p listLink
@@ -166,10 +174,10 @@ module _ (xs : List ℕ) (p : ℕ) (ys : List ℕ) where
       abbrev m2 : List ℕ
       m2 = store (set m c v) p listLink 0
 
-      chain7 : Chain m 1 processorList (xs ++ p ∷ ys)
+      chain7 : Chain m listLink processorList (xs ++ p ∷ ys)
       chain7 = rw (link-procs, s .procs) at (x .holds .rep processorList h7)
 
-      pub left-is : leave m processorList 1 p ≡ m2
+      pub left-is : leave m processorList listLink p ≡ m2
       left-is =
           leave-is m 1 processorList p xs ys chain7 (omega (arith, ap length (s .procs), list-short s processorList (in-procs P), length-append xs (p ∷ ys)))
           (omega (arith, proc-once s p, count-append p xs (p ∷ ys), hit-self p))
@@ -178,18 +186,18 @@ module _ (xs : List ℕ) (p : ℕ) (ys : List ℕ) where
       rep-P : Rep m2 (Head P) A
       rep-P = rw link-procs at (rep-leave m (Head P) L (x .size) (good s) (apart s) (single s) (x .holds .rep) processorList p xs ys h7 (s .procs))
 
-      pub same : (a : ℕ) → a ≢ processorList → ((z : ℕ) → 1 ≤ count z P → a ≢ place z 1) → getD m2 a 0 ≡ getD m a 0
+      pub same : (a : ℕ) → a ≢ processorList → ((z : ℕ) → 1 ≤ count z P → a ≢ place z listLink) → getD m2 a 0 ≡ getD m a 0
       same a n7 nz =
           other (set m c v) (place p listLink) 0 a (nz p in-P)
-          ∙ other m c v a (last-not 1 processorList xs a n7 (λ z i. nz z (omega (arith, count-append z xs (p ∷ ys)))))
+          ∙ other m c v a (last-not listLink processorList xs a n7 (λ z i. nz z (omega (arith, count-append z xs (p ∷ ys)))))
 
-      same-word : (y j : ℕ) → Page y → j < 32 → j ≢ 1 → word m2 y j ≡ word m y j
+      same-word : (y j : ℕ) → Page y → j < pageSize → j ≢ listLink → word m2 y j ≡ word m y j
       same-word y j h l d = same (place y j) (omega (arith, h)) (λ z i. omega arith)
 
       same-low : (a : ℕ) → a < guardedLast → a ≢ processorList → getD m2 a 0 ≡ getD m a 0
       same-low a l d = same a d (λ z i. let t = proc-page s z i in omega arith)
 
-      pub shrink-mem : Mem (leave m processorList 1 p) Q A (withWords W (put1 (W .note) p 0) (W .reason) (W .label) (W .state))
+      pub shrink-mem : Mem (leave m processorList listLink p) Q A (withWords W (put1 (W .note) p 0) (W .reason) (W .label) (W .state))
       shrink-mem = rw left-is (record {
         size = simp length-set (x .size);
         holds = record {
@@ -199,9 +207,9 @@ module _ (xs : List ℕ) (p : ℕ) (ys : List ℕ) where
         reads = record {
           words = record {
             note = λ y h i. note y h i (hit-or y p);
-            reason = λ y h. same-word y 2 h (omega arith) (omega arith) ∙ x .reads .words .reason y h;
-            label = λ y h. same-word y 7 h (omega arith) (omega arith) ∙ x .reads .words .label y h;
-            state = λ y h. same-word y 12 h (omega arith) (omega arith) ∙ x .reads .words .state y h;
+            reason = λ y h. same-word y Map.reason h (omega arith) (omega arith) ∙ x .reads .words .reason y h;
+            label = λ y h. same-word y Map.label h (omega arith) (omega arith) ∙ x .reads .words .label y h;
+            state = λ y h. same-word y Map.state h (omega arith) (omega arith) ∙ x .reads .words .state y h;
           };
           fixed = fixed-same (λ a h i. same-low a (omega arith) (omega arith)) (λ a h i. same-low a (omega arith) (omega arith))
               (λ a h i. same-low a (omega arith) (omega arith)) (x .reads .fixed);
@@ -209,20 +217,20 @@ module _ (xs : List ℕ) (p : ℕ) (ys : List ℕ) where
         };
       })
         where
-          note : (y : ℕ) → Page y → count y Q ≡ 0 → (y ≡ p) ⊎ (y ≢ p) → word m2 y 1 ≡ put1 (W .note) p 0 y
+          note : (y : ℕ) → Page y → count y Q ≡ 0 → (y ≡ p) ⊎ (y ≢ p) → word m2 y Map.note ≡ put1 (W .note) p 0 y
           note y h i (inl e) =
               rw (put1-same (W .note) p 0 y e, e) (getD-set-same (set m c v) (place p listLink) 0 0 (simp length-set (omega (arith, pg, x .size))))
           note y h i (inr d) =
               let out : count y P ≡ 0 = omega (arith, count-more xs p ys y, hit-other y p d) in
               rw (put1-other (W .note) p 0 y d)
-              (same (place y 1) (omega (arith, h)) (λ z j e. let t : y ≡ z = omega arith in omega (arith, ap (λ (w : ℕ). count w P) t, out))
+              (same (place y Map.note) (omega (arith, h)) (λ z j e. let t : y ≡ z = omega arith in omega (arith, ap (λ (w : ℕ). count w P) t, out))
               ∙ x .reads .words .note y h out)
 
           sem : (a : ℕ) → Seat P a → getD m2 a 0 ≡ getD m a 0
-          sem = seat-same m m2 (λ a i j. same-low a (omega arith) (omega arith)) (λ y u. same-word y 3 (proc-page s y u) (omega arith) (omega arith))
+          sem = seat-same m m2 (λ a i j. same-low a (omega arith) (omega arith)) (λ y u. same-word y ownSemaphore (proc-page s y u) (omega arith) (omega arith))
 
       -- its mail hangs there still
-      pub mail-left : (w : ℕ) → 5 ≤ w → w ≤ 6 → Chain (leave m processorList 1 p) 0 (place p w) (L (place p w))
+      pub mail-left : (w : ℕ) → q1 ≤ w → w ≤ q2 → Chain (leave m processorList listLink p) link (place p w) (L (place p w))
       mail-left w u k =
           let r = rep-P (place p w) (in-q P p w u k in-P, grant-high (place p w) (omega (arith, pg))) in
           rw left-is (rw (link-other (place p w) (omega (arith, pg)), at-other (place p w) (omega (arith, pg))) at r)

@@ -10,16 +10,17 @@ use lib.ListN.{getD, set}
 use lib.Dec.{eqb, ltb, leb}
 use borrow.Author.Tests.{eqb-true, ltb-true, ltb-false, leb-false}
 use Rattle.model.specs.Map as Map
-use Rattle.model.specs.Map.{codeWord, guardedLast, highLr, label, lowLr, place, wordA, wordS}
+use Rattle.model.specs.Map.{allCodes, builtInCodes, codeWord, guardedEnd, guardedFrom, guardedLast, guardedTo, high, highLr, label, lastFault, low}
+use Rattle.model.specs.Map.{lowLr, place, returnHigh, returnLow, threeFlags, topped, wSet, waitBit, waitIn, wordA, wordS, zerosIn}
 use Rattle.model.specs.Bytes.{running, store, word}
 use Rattle.model.specs.declared.Registers.{Registers}
-use Rattle.model.specs.Map.{threeFlags, lastFault}
 use Rattle.model.specs.Address as Address
 use Rattle.model.specs.Address.{guarded}
 use Rattle.model.specs.Queue as Queue
 use Rattle.model.specs.Queue.{first}
 use Rattle.model.specs.Processor as Processor
 use Rattle.model.specs.Instruction as Instruction
+use Rattle.model.specs.Instruction.{absent, builtIn, firstGoing, own}
 use Rattle.model.specs.Operate as Operate
 use Rattle.model.specs.Bytes as Model
 use Rattle.model.specs.Bytes.{pageOf, isNamed, setCode, setRegistersOf}
@@ -89,24 +90,24 @@ module _ {m : List ℕ} {ps : List ℕ} {L : Lists} {W : View} {hs : List ℕ} {
 -- ---- what an instruction may write
 -- where an unprotected word stands
 pub record Open (a : ℕ) : Type 0 where
-  pub above : 16 ≤ a
+  pub above : guardedEnd ≤ a
   pub below : a < guardedLast
-  pub between : (b : ℕ) → 128 ≤ b → b < 352 → a ≢ b
+  pub between : (b : ℕ) → guardedFrom ≤ b → b < guardedTo → a ≢ b
 
 pub clear-open : (a : ℕ) → guarded a ≡ false → Open a
 unfolding Address.guarded
-clear-open a h = go (ltb a 16) (ltb a 128) (ltb a 352) (leb guardedLast a) refl refl refl refl
+clear-open a h = go (ltb a guardedEnd) (ltb a guardedFrom) (ltb a guardedTo) (leb guardedLast a) refl refl refl refl
   where
-    go : (x y z t : Bool) → ltb a 16 ≡ x → ltb a 128 ≡ y → ltb a 352 ≡ z → leb guardedLast a ≡ t → Open a
+    go : (x y z t : Bool) → ltb a guardedEnd ≡ x → ltb a guardedFrom ≡ y → ltb a guardedTo ≡ z → leb guardedLast a ≡ t → Open a
     go true y z t e f i j = let c = rw e at h in let k : _≡_ {A = ℕ} 0 1 = cc in absurd (omega arith)
     go false true z t e f i j =
-        let l = ltb-false a 16 e in
-        let u = ltb-true a 128 f in
+        let l = ltb-false a guardedEnd e in
+        let u = ltb-true a guardedFrom f in
         record { above = omega arith; below = omega arith; between = λ b c d. omega arith }
     go false false true t e f i j = let c = rw (e, f, i) at h in let k : _≡_ {A = ℕ} 0 1 = cc in absurd (omega arith)
     go false false false true e f i j = let c = rw (e, f, i, j) at h in let k : _≡_ {A = ℕ} 0 1 = cc in absurd (omega arith)
     go false false false false e f i j =
-        let l = ltb-false a 352 i in
+        let l = ltb-false a guardedTo i in
         let u = leb-false guardedLast a j in
         record { above = omega arith; below = omega arith; between = λ b c d. omega arith }
 
@@ -118,15 +119,15 @@ quiet-clear a h = let o = clear-open a h in record {
 }
 
 -- ---- page 8
-codes-put : (c : ℕ → ℕ) (k v : ℕ) → 2 ≤ k → v / 32 ≤ 2 → v / 32 ≢ 1 → Codes c → Codes (put1 c k v)
+codes-put : (c : ℕ → ℕ) (k v : ℕ) → firstGoing ≤ k → Map.top v ≤ own → Map.top v ≢ builtIn → Codes c → Codes (put1 c k v)
 codes-put c k v l u n h = record {
   kinds = λ i j. kinds i j (hit-or i k);
   zero = rw (put1-other c k v 0 (omega arith)) (h .zero);
   one = rw (put1-other c k v 1 (omega arith)) (h .one);
-  last = last (hit-or 15 k);
+  last = last (hit-or builtInCodes k);
 }
   where
-    kinds : (i : ℕ) → i < 16 → (i ≡ k) ⊎ (i ≢ k) → put1 c k v i / 32 ≤ 2
+    kinds : (i : ℕ) → i < allCodes → (i ≡ k) ⊎ (i ≢ k) → Map.top (put1 c k v i) ≤ own
     kinds i j (inl e) = rw (put1-same c k v i e) u
     kinds i j (inr d) = rw (put1-other c k v i d) (h .kinds i j)
 
@@ -137,24 +138,24 @@ codes-put c k v l u n h = record {
         go true e = absurd (d (eqb-true x 1 e))
         go false e = e
 
-    last : (15 ≡ k) ⊎ (15 ≢ k) → eqb (put1 c k v 15 / 32) 1 ≡ false
-    last (inl e) = rw (put1-same c k v 15 e) (no (v / 32) n)
-    last (inr d) = rw (put1-other c k v 15 d) (h .last)
+    last : (builtInCodes ≡ k) ⊎ (builtInCodes ≢ k) → eqb (Map.top (put1 c k v builtInCodes)) builtIn ≡ false
+    last (inl e) = rw (put1-same c k v builtInCodes e) (no (Map.top v) n)
+    last (inr d) = rw (put1-other c k v builtInCodes d) (h .last)
 
-pub code-base : {m : List ℕ} {ps : List ℕ} {L : Lists} {W : View} {hs : List ℕ} {g : ℕ} (c k a : ℕ) → 2 ≤ c → c < 16 → (k ≡ 0) ⊎ (k ≡ 2)
-    → Base m ps L W hs g → Base (setCode m c k a) ps L (withCode W (put1 (W .code) c (k * 32 + a / 256 % 32))) hs g
+pub code-base : {m : List ℕ} {ps : List ℕ} {L : Lists} {W : View} {hs : List ℕ} {g : ℕ} (c k a : ℕ) → firstGoing ≤ c → c < allCodes → (k ≡ absent) ⊎ (k ≡ own)
+    → Base m ps L W hs g → Base (setCode m c k a) ps L (withCode W (put1 (W .code) c (topped k (high a)))) hs g
 unfolding Instruction.setCode
 code-base {W = W} c k a l u o b = record {
-  mem = code-mem (b .facts .sep) (b .mem) c (k * 32 + a / 256 % 32) (a % 256) u;
-  facts = facts-code (put1 (W .code) c (k * 32 + a / 256 % 32)) (codes-put (W .code) c (k * 32 + a / 256 % 32) l (top o) (kind o) (b .facts .codes)) (b .facts);
+  mem = code-mem (b .facts .sep) (b .mem) c (topped k (high a)) (low a) u;
+  facts = facts-code (put1 (W .code) c (topped k (high a))) (codes-put (W .code) c (topped k (high a)) l (top o) (kind o) (b .facts .codes)) (b .facts);
   all = b .all;
 }
   where
-    top : (k ≡ 0) ⊎ (k ≡ 2) → (k * 32 + a / 256 % 32) / 32 ≤ 2
+    top : (k ≡ absent) ⊎ (k ≡ own) → Map.top (topped k (high a)) ≤ own
     top (inl e) = omega arith
     top (inr e) = omega arith
 
-    kind : (k ≡ 0) ⊎ (k ≡ 2) → (k * 32 + a / 256 % 32) / 32 ≢ 1
+    kind : (k ≡ absent) ⊎ (k ≡ own) → Map.top (topped k (high a)) ≢ builtIn
     kind (inl e) = omega arith
     kind (inr e) = omega arith
 
@@ -172,14 +173,14 @@ module _ {m : List ℕ} (w : WellFormed m) (d : running m ≢ 0) where
   pub kept-done : {m′ : List ℕ} (n : ℕ) → Kept m m′ → Fine (Model.done m′ n)
   kept-done n k = done-fine (base-kept k b) n
 
-  pub cvi-fine : (c a n : ℕ) → c < 16 → Fine (Model.cvi m c a n)
+  pub cvi-fine : (c a n : ℕ) → c < allCodes → Fine (Model.cvi m c a n)
   cvi-fine c a n l = cvi-each bad c a n (λ z.
       let k = b .facts .codes in
-      let n0 : c ≢ 0 = λ q. (let t = ap (λ (y : ℕ). getD m (codeWord y) 0 / 32) q in omega (arith, k .zero)) in
-      let n1 : c ≢ 1 = λ q. (let t = ap (λ (y : ℕ). getD m (codeWord y) 0 / 32) q in omega (arith, k .one)) in
-      done-fine (code-base c 2 a (omega arith) l (inr refl) b) n)
+      let n0 : c ≢ 0 = λ q. (let t = ap (λ (y : ℕ). Map.top (getD m (codeWord y) 0)) q in omega (arith, k .zero)) in
+      let n1 : c ≢ 1 = λ q. (let t = ap (λ (y : ℕ). Map.top (getD m (codeWord y) 0)) q in omega (arith, k .one)) in
+      done-fine (code-base c own a (omega arith) l (inr refl) b) n)
 
-  pub dvi-fine : (c n : ℕ) → c < 16 → Fine (Model.dvi m c n)
+  pub dvi-fine : (c n : ℕ) → c < allCodes → Fine (Model.dvi m c n)
   dvi-fine c n l = dvi-each bad c n (λ h. done-fine (code-base c 0 0 h l (inl refl) b) n)
 
   pub st2-fine : (n a len : ℕ) → Fine (Model.st2 m n a len)
@@ -189,7 +190,7 @@ module _ {m : List ℕ} (w : WellFormed m) (d : running m ≢ 0) where
       done-fine (start-base (base-kept (lr-kept m p a (λ z. proc-page (b .facts .sep) p h)) b) p h) len)
 
   -- ---- code 13
-  reg : (k v : ℕ) (m′ : List ℕ) → 8 ≤ k → k < 12 → Kept m m′ → Kept m (store m′ (running m) k v)
+  reg : (k v : ℕ) (m′ : List ℕ) → wordA ≤ k → k < Map.state → Kept m m′ → Kept m (store m′ (running m) k v)
   reg k v m′ l u h = kept-set (place (running m) k) v (quiet-run (running m) k (run-page b) l (omega arith) (omega arith)) h
 
   worked-kept : (o a : ℕ) → guarded a ≡ false → Kept m (Model.worked m o a)
@@ -198,35 +199,36 @@ module _ {m : List ℕ} (w : WellFormed m) (d : running m ≢ 0) where
       let q = quiet-clear a h in
       let k = kept-refl m in
       pick (Kept m) (Model.adds m a ∷ Model.storesA m a ∷ Model.ands m a ∷ Model.increments m a ∷ []) m o o 0 (omega arith) (
-        (λ e. reg 10 _ _ (omega arith) (omega arith) (reg 8 _ m (omega arith) (omega arith) k)),
+        (λ e. reg highLr _ _ (omega arith) (omega arith) (reg wordA _ m (omega arith) (omega arith) k)),
         (
-          (λ e. reg 8 0 _ (omega arith) (omega arith) (kept-set a _ q k)),
-          ((λ e. reg 8 _ m (omega arith) (omega arith) k), ((λ e. kept-set a _ q k), tt)),
+          (λ e. reg wordA 0 _ (omega arith) (omega arith) (kept-set a _ q k)),
+          ((λ e. reg wordA _ m (omega arith) (omega arith) k), ((λ e. kept-set a _ q k), tt)),
         ),
       ) k
 
   returns-kept : (n : ℕ) → Kept m (Model.returnTo m n)
   unfolding Operate.returnTo
-  returns-kept n = kept-set 6 _ (quiet-low 6 (omega arith)) (kept-set 5 _ (quiet-low 5 (omega arith)) (kept-refl m))
+  returns-kept n = kept-set returnLow _ (quiet-low returnLow (omega arith)) (kept-set returnHigh _ (quiet-low returnHigh (omega arith)) (kept-refl m))
 
   pub thirteen-fine : (x o a n : ℕ) → Fine (Model.thirteen m x o a n)
   thirteen-fine x o a n = thirteen-each bad x o a n (λ e.
       reaches-each bad o e n (jumps-fine (base-kept (returns-kept _) b) e) (jumps-fine b e) (λ g. kept-done n (worked-kept o e g)))
 
   -- ---- setting registers: the running one stays ready
-  low-bits : (u x : ℕ) → u % 64 / 16 ≡ 0 → ((u / 16 * 16 + x % 16) % 128 / 64 ≡ u % 128 / 64) × ((u / 16 * 16 + x % 16) % 64 / 16 ≡ 0)
+  low-bits : (u x : ℕ) → zerosIn u ≡ 0 → (waitIn (wSet u x) ≡ waitIn u) × (zerosIn (wSet u x) ≡ 0)
   low-bits u x h = (omega arith, omega arith)
 
   pub registers-well : (r : Registers) → WellFormed (setRegistersOf m (running m) r)
   unfolding Processor.setRegistersOf Processor.setFlagsLr
   registers-well r =
       let p = running m in
-      let m2 = store (store m p wordA (r .a % 256)) p wordS (r .s % 256) in
-      let m3 = store m2 p highLr (threeFlags (r .p) (r .z) (r .ci) + r .lr / 256 % 32) in
-      let k : Kept m (store m3 p lowLr (r .lr % 256)) =
-      reg 11 (r .lr % 256) m3 (omega arith) (omega arith) (reg 10 (threeFlags (r .p) (r .z) (r .ci) + r .lr / 256 % 32) m2 (omega arith) (omega arith)
-      (reg 9 (r .s % 256) (store m p wordA (r .a % 256)) (omega arith) (omega arith) (reg 8 (r .a % 256) m (omega arith) (omega arith) (kept-refl m)))) in
-      let v = word m p Map.state / 16 * 16 + r .w % 16 in
+      let m2 = store (store m p wordA (low (r .a))) p wordS (low (r .s)) in
+      let m3 = store m2 p highLr (threeFlags (r .p) (r .z) (r .ci) + high (r .lr)) in
+      let k : Kept m (store m3 p lowLr (low (r .lr))) =
+      reg lowLr (low (r .lr)) m3 (omega arith) (omega arith) (reg highLr (threeFlags (r .p) (r .z) (r .ci) + high (r .lr)) m2 (omega arith) (omega arith)
+      (reg wordS (low (r .s)) (store m p wordA (low (r .a))) (omega arith) (omega arith)
+      (reg wordA (low (r .a)) m (omega arith) (omega arith) (kept-refl m)))) in
+      let v = wSet (word m p Map.state) (r .w) in
       rw (k .state p (run-page b d)) (well-formed (record {
         base = state-base p v hr (low-bits (word m p Map.state) (r .w) (b .facts .seats .zeros p hr)) (base-kept k b);
         best = record {
@@ -235,8 +237,8 @@ module _ {m : List ℕ} (w : WellFormed m) (d : running m ≢ 0) where
         };
       }))
     where
-      still : (y : ℕ) → suc (put1 (λ z. word m z Map.state) (running m) (word m (running m) Map.state / 16 * 16 + r .w % 16) y) ≤ 64
-          → (y ≡ running m) ⊎ (y ≢ running m) → suc (word m y Map.state) ≤ 64
+      still : (y : ℕ) → suc (put1 (λ z. word m z Map.state) (running m) (wSet (word m (running m) Map.state) (r .w)) y) ≤ waitBit
+          → (y ≡ running m) ⊎ (y ≢ running m) → suc (word m y Map.state) ≤ waitBit
       still y c (inl e) = rw e (omega (arith, ready))
       still y c (inr n) =
-          rw (put1-other (λ z. word m z Map.state) (running m) (word m (running m) Map.state / 16 * 16 + r .w % 16) y n) at c
+          rw (put1-other (λ z. word m z Map.state) (running m) (wSet (word m (running m) Map.state) (r .w)) y n) at c

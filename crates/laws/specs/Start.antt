@@ -9,8 +9,10 @@ use native.Mathlib.Omega.{arith}
 use lib.ListN.{length, getD, set, length-set, length-replicate}
 use lib.Seq.{getD-set-same, getD-set-other}
 use Rattle.model.specs.Map as Map
-use Rattle.model.specs.Map.{c0, c1, c2, c3, clockLine, codeWord, firstControl, freeList, freeSemaphore, guardedLast, link, memorySize}
-use Rattle.model.specs.Map.{pageQueue, place, processorList, runningLabel, runningPage}
+use Rattle.model.specs.Map.{aWord, builtInCodes, c0, c1, c2, c3, clockLine, codeWord, controlPages, firstControl, firstName, firstOuter}
+use Rattle.model.specs.Map.{firstPriority, firstUnused, freeList, freeSemaphore, grantFor, guardedFrom, guardedLast, guardedTo, high, highLr}
+use Rattle.model.specs.Map.{interruptPage, kernelPages, lastLine, link, low, lowLr, memorySize, pageQueue, pageSize, pair, place, processorList}
+use Rattle.model.specs.Map.{runningLabel, runningPage, startAddress, stopPut, topped, wSet, wordA, wordS}
 use Rattle.model.specs.Address.{wrapped}
 use Rattle.model.specs.Bytes.{store}
 use Rattle.model.specs.Store.{Store, bytes, trees, tget, tput, tzero, getT, putT, sizeT}
@@ -25,6 +27,7 @@ use Rattle.model.specs.Lists as Lists
 use Rattle.model.specs.Judge as Judge
 use Rattle.model.specs.Fresh as Fresh
 use Rattle.model.specs.Bytes.{lists, zeroed, cleared, firstProcessor, chained, allBuiltIn, started}
+use Rattle.model.specs.Instruction.{builtIn}
 use Rattle.laws.specs.Count.{hit-or}
 use Rattle.laws.specs.Rules.{sound, complete}
 use Rattle.laws.specs.Sentences.{rules, sentences, together}
@@ -48,11 +51,11 @@ pub record Computed (line divider : ℕ) (S : Store) : Type 0 where
   at242 : S .get (Fresh.started S (S .zeros) line divider) c2 ≡ 0
   at243 : S .get (Fresh.started S (S .zeros) line divider) c3 ≡ 0
   at251 : S .get (Fresh.started S (S .zeros) line divider) Map.divider ≡ divider
-  pub at244 : S .get (Fresh.started S (S .zeros) line divider) freeList ≡ 237
-  pub at246 : S .get (Fresh.started S (S .zeros) line divider) pageQueue ≡ 0
-  pub at248 : S .get (Fresh.started S (S .zeros) line divider) runningPage ≡ firstControl
-  pub at321 : S .get (Fresh.started S (S .zeros) line divider) 321 ≡ 0
-  pub at7559 : S .get (Fresh.started S (S .zeros) line divider) 7559 ≡ 17
+  pub firstFree : S .get (Fresh.started S (S .zeros) line divider) freeList ≡ firstControl + 1
+  pub asks : S .get (Fresh.started S (S .zeros) line divider) pageQueue ≡ 0
+  pub runs : S .get (Fresh.started S (S .zeros) line divider) runningPage ≡ firstControl
+  pub grant : S .get (Fresh.started S (S .zeros) line divider) (grantFor firstName) ≡ 0
+  pub label : S .get (Fresh.started S (S .zeros) line divider) (place firstControl Map.label) ≡ pair firstPriority firstName
 
 at-trees : (line divider : ℕ) → Computed line divider trees
 unfolding trees tget tput tzero getT putT sizeT rest all every holds Lists.range Lists.linkOf Lists.isGrant Queue.walk Lists.lists Address.zeroed
@@ -71,11 +74,11 @@ at-trees line divider = record {
   at242 = refl;
   at243 = refl;
   at251 = refl;
-  at244 = refl;
-  at246 = refl;
-  at321 = refl;
-  at7559 = refl;
-  at248 = refl;
+  firstFree = refl;
+  asks = refl;
+  grant = refl;
+  label = refl;
+  runs = refl;
 }
 
 pub computed : (line divider : ℕ) → Computed line divider bytes
@@ -83,7 +86,7 @@ computed line divider = subst (λ (S : Store). Computed line divider S) trees-is
 
 -- "divider 1-255, line 16-47"
 abbrev pub Args : ℕ → ℕ → Type 0
-Args line divider = (16 ≤ line) × (line ≤ 47) × (1 ≤ divider) × (divider ≤ 255)
+Args line divider = (firstOuter ≤ line) × (line ≤ lastLine) × (1 ≤ divider) × (divider ≤ aWord)
 
 pub zeros-fresh : (line divider : ℕ) → Args line divider → WellFormed (started (bytes .zeros) line divider)
 unfolding Judge.judged Judge.wellFormed Judge.clock Judge.counters rest
@@ -102,7 +105,7 @@ zeros-fresh line divider h =
 
 -- ---- two memories that hold the same where the judge looks
 abbrev Told : ℕ → Type 0
-Told a = ((128 ≤ a) × (a < 352)) ⊎ ((guardedLast ≤ a) × (a < memorySize))
+Told a = ((guardedFrom ≤ a) × (a < guardedTo)) ⊎ ((guardedLast ≤ a) × (a < memorySize))
 
 pub record Agree (m m′ : List ℕ) : Type 0 where
   size : length m ≡ memorySize
@@ -113,14 +116,17 @@ told-fits : (a : ℕ) → Told a → a < memorySize
 told-fits a (inl h) = omega arith
 told-fits a (inr h) = omega arith
 
-agree-set : {m m′ : List ℕ} (b v v′ : ℕ) → v′ ≡ v → Agree m m′ → Agree (set m b v) (set m′ b v′)
-agree-set {m} {m′} b v v′ q g = rw q (record { size = simp length-set (g .size); size′ = simp length-set (g .size′); told = λ a t. go a t (hit-or a b) })
+agree-put : {m m′ : List ℕ} (b v v′ : ℕ) → v′ ≡ v → Agree m m′ → Agree (set m b v) (set m′ b v′)
+agree-put {m} {m′} b v v′ q g = rw q (record { size = simp length-set (g .size); size′ = simp length-set (g .size′); told = λ a t. go a t (hit-or a b) })
   where
     go : (a : ℕ) → Told a → (a ≡ b) ⊎ (a ≢ b) → getD (set m′ b v) a 0 ≡ getD (set m b v) a 0
     go a t (inl e) =
         let f = told-fits a t in
         rw e (getD-set-same m′ b v 0 (omega (arith, g .size′)) ∙ sym (getD-set-same m b v 0 (omega (arith, g .size))))
     go a t (inr n) = getD-set-other m′ b a v 0 (omega arith) ∙ g .told a t ∙ sym (getD-set-other m b a v 0 (omega arith))
+
+agree-set : {m m′ : List ℕ} (b v : ℕ) → Agree m m′ → Agree (set m b v) (set m′ b v)
+agree-set b v g = agree-put b v v refl g
 
 -- ---- clearing
 pub zeroed-size : (n : ℕ) (m : List ℕ) (a : ℕ) → length (zeroed n m a) ≡ length m
@@ -165,40 +171,47 @@ zeroed-in (suc n) m a i f h l r = zeroed-step n m a i ∙ go (hit-or i (a + n)) 
 cleared-zero : (m : List ℕ) → length m ≡ memorySize → (a : ℕ) → Told a → getD (cleared m) a 0 ≡ 0
 unfolding Fresh.cleared
 cleared-zero m s a (inl h) =
-    let m1 = zeroed 32 m 0 in
-    zeroed-out 640 (zeroed 224 m1 128) guardedLast a (omega arith) (inl (omega arith))
-    ∙ zeroed-in 224 m1 128 a (omega arith) (h .0) (omega arith) (omega (arith, zeroed-size 32 m 0))
+    let m1 = zeroed pageSize m 0 in
+    zeroed-out (controlPages * pageSize) (zeroed (kernelPages * pageSize) m1 (place interruptPage 0)) guardedLast a (omega arith) (inl (omega arith))
+    ∙ zeroed-in (kernelPages * pageSize) m1 (place interruptPage 0) a (omega arith) (h .0) (omega arith) (omega (arith, zeroed-size pageSize m 0))
 cleared-zero m s a (inr h) =
-    let m1 = zeroed 32 m 0 in
-    let m2 = zeroed 224 m1 128 in
-    zeroed-in 640 m2 guardedLast a (omega arith) (h .0) (omega arith) (omega (arith, zeroed-size 32 m 0, zeroed-size 224 m1 128))
+    let m1 = zeroed pageSize m 0 in
+    let m2 = zeroed (kernelPages * pageSize) m1 (place interruptPage 0) in
+    zeroed-in (controlPages * pageSize) m2 guardedLast a (omega arith) (h .0) (omega arith)
+    (omega (arith, zeroed-size pageSize m 0, zeroed-size (kernelPages * pageSize) m1 (place interruptPage 0)))
 
 cleared-size : (m : List ℕ) → length (cleared m) ≡ length m
 unfolding Fresh.cleared
-cleared-size m = let m1 = zeroed 32 m 0 in let m2 = zeroed 224 m1 128 in zeroed-size 640 m2 guardedLast ∙ zeroed-size 224 m1 128 ∙ zeroed-size 32 m 0
+cleared-size m =
+    let m1 = zeroed pageSize m 0 in
+    let m2 = zeroed (kernelPages * pageSize) m1 (place interruptPage 0) in
+    zeroed-size (controlPages * pageSize) m2 guardedLast ∙ zeroed-size (kernelPages * pageSize) m1 (place interruptPage 0) ∙ zeroed-size pageSize m 0
 
 -- ---- the steps of a fresh start
 agree-chained : (n : ℕ) (m m′ : List ℕ) (p : ℕ) → Agree m m′ → Agree (chained n m p) (chained n m′ p)
 unfolding Fresh.chained
 agree-chained zero m m′ p g = g
 agree-chained (suc n) m m′ p g =
-    agree-chained n (store m p link (p + 1)) (store m′ p link (p + 1)) (p + 1) (agree-set (place p link) (p + 1) (p + 1) refl g)
+    agree-chained n (store m p link (p + 1)) (store m′ p link (p + 1)) (p + 1) (agree-set (place p link) (p + 1) g)
 
 agree-built : (n : ℕ) (m m′ : List ℕ) → Agree m m′ → Agree (allBuiltIn n m) (allBuiltIn n m′)
 unfolding Fresh.allBuiltIn
 agree-built zero m m′ g = g
-agree-built (suc n) m m′ g = agree-built n (set m (codeWord n) 32) (set m′ (codeWord n) 32) (agree-set (codeWord n) 32 32 refl g)
+agree-built (suc n) m m′ g =
+    let v = topped builtIn 0 in
+    agree-built n (set m (codeWord n) v) (set m′ (codeWord n) v) (agree-set (codeWord n) v g)
 
 agree-first : {m m′ : List ℕ} → Agree m m′ → Agree (firstProcessor m) (firstProcessor m′)
 unfolding Fresh.firstProcessor Processor.handBack Processor.setRegistersOf Processor.setFlagsLr Turn.runs
 agree-first g =
-    let g1 = agree-set 7559 17 17 refl g in
-    let g2 = agree-set 7561 0 0 refl (agree-set 7560 0 0 refl g1) in
-    let g3 = agree-set 7563 192 192 refl (agree-set 7562 10 10 refl g2) in
-    let g4 = agree-set 7564 _ _ (ap (λ (w : ℕ). w / 16 * 16 + 0 % 16) (g3 .told 7564 (inr (omega arith, omega arith)))) g3 in
-    let g5 = agree-set 7564 _ _ (ap (λ (w : ℕ). 0 % 2 * 128 + w % 128) (g4 .told 7564 (inr (omega arith, omega arith)))) g4 in
-    let g6 = agree-set processorList firstControl firstControl refl g5 in
-    agree-set runningLabel _ _ (g6 .told 7559 (inr (omega arith, omega arith))) (agree-set runningPage firstControl firstControl refl g6)
+    let g1 = agree-set (place firstControl Map.label) (pair firstPriority firstName) g in
+    let g2 = agree-set (place firstControl wordS) 0 (agree-set (place firstControl wordA) 0 g1) in
+    let g3 = agree-set (place firstControl lowLr) (low startAddress) (agree-set (place firstControl highLr) (high startAddress) g2) in
+    let t = place firstControl Map.state in
+    let g4 = agree-put t _ _ (ap (λ (w : ℕ). wSet w 0) (g3 .told t (inr (omega arith, omega arith)))) g3 in
+    let g5 = agree-put t _ _ (ap (λ (w : ℕ). stopPut w 0) (g4 .told t (inr (omega arith, omega arith)))) g4 in
+    let g6 = agree-set processorList firstControl g5 in
+    agree-put runningLabel _ _ (g6 .told (place firstControl Map.label) (inr (omega arith, omega arith))) (agree-set runningPage firstControl g6)
 
 pub agree-started : (m m′ : List ℕ) (line d : ℕ) → length m ≡ memorySize → length m′ ≡ memorySize → Agree (started m line d) (started m′ line d)
 unfolding Fresh.started Fresh.freed Fresh.timed
@@ -208,9 +221,9 @@ agree-started m m′ line d s s′ =
       size′ = cleared-size m′ ∙ s′;
       told = λ a t. cleared-zero m′ s′ a t ∙ sym (cleared-zero m s a t);
     } in
-    let g1 = agree-first (agree-set Map.divider d d refl (agree-set clockLine line line refl g)) in
-    let g2 = agree-chained 18 _ _ 237 (agree-set freeSemaphore 19 19 refl (agree-set freeList 237 237 refl g1)) in
-    agree-set 288 1 1 refl (agree-built 15 _ _ g2)
+    let g1 = agree-first (agree-set Map.divider d (agree-set clockLine line g)) in
+    let g2 = agree-set freeSemaphore (controlPages - 1) (agree-set freeList (firstControl + 1) g1) in
+    agree-set firstUnused 1 (agree-built builtInCodes _ _ (agree-chained (controlPages - 2) _ _ (firstControl + 1) g2))
 
 pub agree-kept : {m m′ : List ℕ} → Agree m m′ → Kept m m′
 agree-kept g = record {

@@ -5,7 +5,7 @@ use mathlib.Core.List.{List, _∷_}
 use Prim.Native.Nat.{ℕ, _+_, _-_, _*_, _≤_, _<_}
 use native.Mathlib.Omega.{arith}
 use lib.ListN.{getD}
-use Rattle.model.specs.Map.{freeList, link, pageQueue, place, q1}
+use Rattle.model.specs.Map.{freeList, link, pageQueue, pageSize, place, q1}
 use Rattle.model.specs.Bytes.{word}
 use Rattle.model.specs.Bytes.{giveBack, deliver}
 use Rattle.model.specs.Lists.{count, Lists}
@@ -32,12 +32,12 @@ module _ {ps : List ℕ} {L : Lists} {y : ℕ} (o : Aside ps L y) where
   not-proc : (p : ℕ) → 1 ≤ count p ps → p ≢ y
   not-proc p h e = omega (arith, ap (λ (z : ℕ). count z ps) e, o .out)
 
-  not-link : (j : ℕ) → j < 32 → (a z : ℕ) → Among ps a → 1 ≤ count z (L a) → place y j ≢ place z link
+  not-link : (j : ℕ) → j < pageSize → (a z : ℕ) → Among ps a → 1 ≤ count z (L a) → place y j ≢ place z link
   not-link j l a z h i = let d = count-ne z y (L a) (o .free a h) i in omega arith
 
 -- ---- give back, deliver
 module _ {m : List ℕ} {ps : List ℕ} {L : Lists} {W : View} {hs : List ℕ} {g q : ℕ} (b : Base m ps L W (q ∷ hs) g) (y j : ℕ) (i : 1 ≤ count y hs)
-    (l : j < 32) where
+    (l : j < pageSize) where
   s : Sep ps L
   s = b .facts .sep
 
@@ -60,4 +60,4 @@ module _ {m : List ℕ} {ps : List ℕ} {L : Lists} {W : View} {hs : List ℕ} {
   deliver-still p h letter =
       let d = not-proc o p h in
       deliver-frame b p h letter (place y j) (λ k u. omega arith) (omega arith) (omega (arith, not-q))
-      (λ z i. not-link o j l (place p q1) z (in-q ps p 5 (omega arith) (omega arith) h) i)
+      (λ z i. not-link o j l (place p q1) z (in-q ps p q1 (omega arith) (omega arith) h) i)

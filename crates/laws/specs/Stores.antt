@@ -10,8 +10,9 @@ use lib.Seq.{getD-set-same}
 use lib.Dec.{ltb}
 use borrow.Author.Tests.{ltb-true, ltb-false}
 use Rattle.model.specs.Map as Map
-use Rattle.model.specs.Map.{clockLine, codeLow, codeWord, divider, entryAfter, entryAt, freeList, freeSemaphore, guardedLast, headerAfter, interrupts}
-use Rattle.model.specs.Map.{memorySize, place, processorList, runningPage, semaphoreAfter}
+use Rattle.model.specs.Map.{allCodes, clockLine, codeLow, codeWord, divider, entries, entriesFull, entryAfter, entryAt, firstUnused, freeList}
+use Rattle.model.specs.Map.{freeSemaphore, grants, grantsEnd, guardedLast, headerAfter, interrupts, listLink, memorySize, ownSemaphore, pageSize}
+use Rattle.model.specs.Map.{place, processorList, q2, runningPage, semaphoreAfter}
 use Rattle.model.specs.Bytes.{store, word}
 use Rattle.model.specs.Lists.{count, Lists, queues}
 use Rattle.laws.specs.Count.{hit-or}
@@ -29,7 +30,7 @@ use Rattle.laws.specs.Views.{put1, put1-same, put1-other, withWords, wit
 pub col-off : (m : List ℕ) (b v k : ℕ) (f : ℕ → ℕ) → ((p : ℕ) → Page p → place p k ≢ b) → Col m k f → Col (set m b v) k f
 col-off m b v k f n c p h = other m b v (place p k) (n p h) ∙ c p h
 
-pub col-on : (m : List ℕ) (q v k : ℕ) (f : ℕ → ℕ) → length m ≡ memorySize → Page q → k < 32 → Col m k f → Col (store m q k v) k (put1 f q v)
+pub col-on : (m : List ℕ) (q v k : ℕ) (f : ℕ → ℕ) → length m ≡ memorySize → Page q → k < pageSize → Col m k f → Col (store m q k v) k (put1 f q v)
 col-on m q v k f size g l c p h = go (hit-or p q)
   where
     go : (p ≡ q) ⊎ (p ≢ q) → word (store m q k v) p k ≡ put1 f q v p
@@ -40,16 +41,16 @@ col-on m q v k f size g l c p h = go (hit-or p q)
 pub record Loose (b : ℕ) : Type 0 where
   pub int : (k : ℕ) → k < interrupts → headerAfter k ≢ b
   pub three : (a : ℕ) → freeList ≤ a → a ≤ processorList → a ≢ freeSemaphore → a ≢ b
-  pub grant : (a : ℕ) → 320 ≤ a → a < 352 → a ≢ b
-  pub page : (p j : ℕ) → Page p → j ≤ 6 → j ≢ 2 → j ≢ 3 → place p j ≢ b
+  pub grant : (a : ℕ) → grants ≤ a → a < grantsEnd → a ≢ b
+  pub page : (p j : ℕ) → Page p → j ≤ q2 → j ≢ Map.reason → j ≢ ownSemaphore → place p j ≢ b
 
 -- below page 10 only the headers of interrupts and three words of page 7 are heads
-loose-low : (b : ℕ) → b < 320 → ((k : ℕ) → k < interrupts → headerAfter k ≢ b) → ((a : ℕ) → freeList ≤ a → a ≤ processorList → a ≢ freeSemaphore → a ≢ b)
+loose-low : (b : ℕ) → b < grants → ((k : ℕ) → k < interrupts → headerAfter k ≢ b) → ((a : ℕ) → freeList ≤ a → a ≤ processorList → a ≢ freeSemaphore → a ≢ b)
     → Loose b
 loose-low b u f g = record { int = f; three = g; grant = λ c1 c2 c3. omega arith; page = λ c1 c2 c3 c4 c5 c6. omega arith }
 
 -- words 2, 3 and those from 7 on of a control page
-loose-word : (q j : ℕ) → Page q → j < 32 → ((k : ℕ) → k ≤ 6 → k ≢ 2 → k ≢ 3 → k ≢ j) → Loose (place q j)
+loose-word : (q j : ℕ) → Page q → j < pageSize → ((k : ℕ) → k ≤ q2 → k ≢ Map.reason → k ≢ ownSemaphore → k ≢ j) → Loose (place q j)
 loose-word q j h l f = record {
   int = λ c1 c2. omega arith;
   three = λ c1 c2 c3 c4. omega arith;
@@ -61,7 +62,7 @@ pub holds-loose : (m : List ℕ) (b v : ℕ) {ps : List ℕ} {L : Lists} → Sep
 holds-loose m b v {ps} {L} s f h =
     holds-kept m (set m b v) ps L s (λ a i. other m b v a (go a (head-place ps a i)))
     (λ a x i n c. other m b v (place x Map.link) (f .page x 0 (all-pages s a x i c) (omega arith) (omega arith) (omega arith)))
-    (λ x i. other m b v (place x 1) (f .page x 1 (proc-page s x i) (omega arith) (omega arith) (omega arith))) h
+    (λ x i. other m b v (place x listLink) (f .page x listLink (proc-page s x i) (omega arith) (omega arith) (omega arith))) h
   where
     go : (a : ℕ) → Place ps a → a ≢ b
     go a (int k u w) = rw w (f .int k u)
@@ -73,7 +74,7 @@ holds-loose m b v {ps} {L} s f h =
 pub record Deaf (b : ℕ) : Type 0 where
   pub line : (k : ℕ) → k < interrupts → semaphoreAfter k ≢ b
   pub page : freeSemaphore ≢ b
-  pub own : (p : ℕ) → Page p → place p 3 ≢ b
+  pub own : (p : ℕ) → Page p → place p ownSemaphore ≢ b
 
 pub deaf-seat : {ps : List ℕ} {L : Lists} → Sep ps L → (b : ℕ) → Deaf b → (a : ℕ) → 1 ≤ count (a + 1) (queues ps) → a ≢ b
 deaf-seat {ps} s b d a h = go (seat-of ps a h)
@@ -83,12 +84,12 @@ deaf-seat {ps} s b d a h = go (seat-of ps a h)
     go (page e) = rw e (d .page)
     go (own p u e) = rw e (d .own p (proc-page s p u))
 
-deaf-word : (q j : ℕ) → Page q → j < 32 → j ≢ 3 → Deaf (place q j)
+deaf-word : (q j : ℕ) → Page q → j < pageSize → j ≢ ownSemaphore → Deaf (place q j)
 deaf-word q j g l n = record { line = λ c1 c2. omega arith; page = omega arith; own = λ c1 c2. omega arith }
 
 -- the counters, the words of who runs, pages 8 and 9
 abbrev Mid : ℕ → Type 0
-Mid b = (clockLine ≤ b) × (b < 320) × ((a : ℕ) → freeList ≤ a → a ≤ processorList → a ≢ b)
+Mid b = (clockLine ≤ b) × (b < grants) × ((a : ℕ) → freeList ≤ a → a ≤ processorList → a ≢ b)
 
 loose-mid : (b : ℕ) → Mid b → Loose b
 loose-mid b i = loose-low b (i .1) (λ c1 c2. omega arith) (λ a h u d. i .2 a h u)
@@ -100,20 +101,20 @@ deaf-mid b i = record { line = λ c1 c2. omega arith; page = i .2 freeSemaphore 
 abbrev NoWord : ℕ → ℕ → Type 0
 NoWord b k = (p : ℕ) → Page p → place p k ≢ b
 
-pub words-off : {m : List ℕ} (b v : ℕ) {ps : List ℕ} {n r l t : ℕ → ℕ} → NoWord b 1 → NoWord b 2 → NoWord b 7 → NoWord b 12 → Words m ps n r l t
-    → Words (set m b v) ps n r l t
+pub words-off : {m : List ℕ} (b v : ℕ) {ps : List ℕ} {n r l t : ℕ → ℕ} → NoWord b Map.note → NoWord b Map.reason → NoWord b Map.label
+    → NoWord b Map.state → Words m ps n r l t → Words (set m b v) ps n r l t
 words-off {m} b v {ps} {n} {r} {l} {t} n1 n2 n7 n12 f = record {
-  note = λ p h z. other m b v (place p 1) (n1 p h) ∙ f .note p h z;
-  reason = col-off m b v 2 r n2 (f .reason);
-  label = col-off m b v 7 l n7 (f .label);
-  state = col-off m b v 12 t n12 (f .state);
+  note = λ p h z. other m b v (place p Map.note) (n1 p h) ∙ f .note p h z;
+  reason = col-off m b v Map.reason r n2 (f .reason);
+  label = col-off m b v Map.label l n7 (f .label);
+  state = col-off m b v Map.state t n12 (f .state);
 }
 
 words-low : {m : List ℕ} (b v : ℕ) {ps : List ℕ} {n r l t : ℕ → ℕ} → b < guardedLast → Words m ps n r l t → Words (set m b v) ps n r l t
 words-low b v g f = words-off b v (λ p h. omega arith) (λ p h. omega arith) (λ p h. omega arith) (λ p h. omega arith) f
 
 pub fixed-off : {m : List ℕ} (b v : ℕ) {l c : ℕ → ℕ} {n : ℕ} {e : ℕ → ℕ} → ((a : ℕ) → clockLine ≤ a → a ≤ Map.c3 → a ≢ b)
-    → ((a : ℕ) → runningPage ≤ a → a ≤ divider → a ≢ b) → ((a : ℕ) → 256 ≤ a → a < 320 → a ≢ b) → Fixed m l c n e → Fixed (set m b v) l c n e
+    → ((a : ℕ) → runningPage ≤ a → a ≤ divider → a ≢ b) → ((a : ℕ) → codeWord 0 ≤ a → a < grants → a ≢ b) → Fixed m l c n e → Fixed (set m b v) l c n e
 fixed-off {m} b v clock turn rest f =
     fixed-same (λ a h i. other m b v a (clock a h i)) (λ a h i. other m b v a (turn a h i)) (λ a h i. other m b v a (rest a h i)) f
 
@@ -122,7 +123,7 @@ module _ {m : List ℕ} {ps : List ℕ} {L : Lists} {W : View} (s : Sep ps L) (x
   sems-off b v d a h = other m b v a (deaf-seat s b d a h) ∙ x .reads .sems a h
 
   -- a word of a control page
-  high-mem : (b v : ℕ) {n r l t h : ℕ → ℕ} → 352 ≤ b → Loose b → Words (set m b v) ps n r l t
+  high-mem : (b v : ℕ) {n r l t h : ℕ → ℕ} → grantsEnd ≤ b → Loose b → Words (set m b v) ps n r l t
       → ((a : ℕ) → 1 ≤ count (a + 1) (queues ps) → getD (set m b v) a 0 ≡ h a) → Mem (set m b v) ps L (withSem (withWords W n r l t) h)
   high-mem b v u l words sems = record {
     size = simp length-set (x .size);
@@ -137,23 +138,23 @@ module _ {m : List ℕ} {ps : List ℕ} {L : Lists} {W : View} (s : Sep ps L) (x
   -- words 2 and 12
   pub state-mem : (q v : ℕ) → Page q → Mem (store m q Map.state v) ps L (withState W (put1 (W .state) q v))
   state-mem q v g = let p = x .reads .words in let a = place q Map.state in high-mem a v (omega arith)
-      (loose-word q 12 g (omega arith) (λ c1 c2 c3 c4. omega arith))
+      (loose-word q Map.state g (omega arith) (λ c1 c2 c3 c4. omega arith))
       (record {
-        note = λ y h n. other m a v (place y 1) (omega arith) ∙ p .note y h n;
-        reason = col-off m a v 2 (W .reason) (λ y h. omega arith) (p .reason);
-        label = col-off m a v 7 (W .label) (λ y h. omega arith) (p .label);
-        state = col-on m q v 12 (W .state) (x .size) g (omega arith) (p .state);
-      }) (sems-off a v (deaf-word q 12 g (omega arith) (omega arith)))
+        note = λ y h n. other m a v (place y Map.note) (omega arith) ∙ p .note y h n;
+        reason = col-off m a v Map.reason (W .reason) (λ y h. omega arith) (p .reason);
+        label = col-off m a v Map.label (W .label) (λ y h. omega arith) (p .label);
+        state = col-on m q v Map.state (W .state) (x .size) g (omega arith) (p .state);
+      }) (sems-off a v (deaf-word q Map.state g (omega arith) (omega arith)))
 
   pub reason-mem : (q v : ℕ) → Page q → Mem (store m q Map.size v) ps L (withReason W (put1 (W .reason) q v))
   reason-mem q v g = let p = x .reads .words in let a = place q Map.size in high-mem a v (omega arith)
-      (loose-word q 2 g (omega arith) (λ c1 c2 c3 c4. omega arith))
+      (loose-word q Map.reason g (omega arith) (λ c1 c2 c3 c4. omega arith))
       (record {
-        note = λ y h n. other m a v (place y 1) (omega arith) ∙ p .note y h n;
-        reason = col-on m q v 2 (W .reason) (x .size) g (omega arith) (p .reason);
-        label = col-off m a v 7 (W .label) (λ y h. omega arith) (p .label);
-        state = col-off m a v 12 (W .state) (λ y h. omega arith) (p .state);
-      }) (sems-off a v (deaf-word q 2 g (omega arith) (omega arith)))
+        note = λ y h n. other m a v (place y Map.note) (omega arith) ∙ p .note y h n;
+        reason = col-on m q v Map.reason (W .reason) (x .size) g (omega arith) (p .reason);
+        label = col-off m a v Map.label (W .label) (λ y h. omega arith) (p .label);
+        state = col-off m a v Map.state (W .state) (λ y h. omega arith) (p .state);
+      }) (sems-off a v (deaf-word q Map.reason g (omega arith) (omega arith)))
 
   -- a semaphore
   pub sem-mem : (b v : ℕ) → 1 ≤ count (b + 1) (queues ps) → Mem (set m b v) ps L (withSem W (put1 (W .sem) b v))
@@ -163,7 +164,7 @@ module _ {m : List ℕ} {ps : List ℕ} {L : Lists} {W : View} (s : Sep ps L) (x
       here l a h (inl e) = rw (put1-same (W .sem) b v a e, e) (getD-set-same m b v 0 (omega (arith, x .size)))
       here l a h (inr n) = rw (put1-other (W .sem) b v a n) (other m b v a n ∙ x .reads .sems a h)
 
-      low : b < 256 → Loose b → ((a : ℕ) → clockLine ≤ a → a ≤ Map.c3 → a ≢ b) → ((a : ℕ) → runningPage ≤ a → a ≤ divider → a ≢ b)
+      low : b < codeWord 0 → Loose b → ((a : ℕ) → clockLine ≤ a → a ≤ Map.c3 → a ≢ b) → ((a : ℕ) → runningPage ≤ a → a ≤ divider → a ≢ b)
           → Mem (set m b v) ps L (withSem W (put1 (W .sem) b v))
       low u l clock turn = record {
         size = simp length-set (x .size);
@@ -181,7 +182,7 @@ module _ {m : List ℕ} {ps : List ℕ} {L : Lists} {W : View} (s : Sep ps L) (x
       go (page e) = low (omega arith) (loose-low b (omega arith) (λ c1 c2. omega arith) (λ c1 c2 c3 c4. omega arith)) (λ c1 c2 c3. omega arith)
           (λ c1 c2 c3. omega arith)
       go (own q u e) = let g = proc-page s q u in
-          high-mem b v (omega arith) (rw e (loose-word q 3 g (omega arith) (λ c1 c2 c3 c4. omega arith)))
+          high-mem b v (omega arith) (rw e (loose-word q ownSemaphore g (omega arith) (λ c1 c2 c3 c4. omega arith)))
           (words-off b v (λ y h. omega arith) (λ y h. omega arith) (λ y h. omega arith) (λ y h. omega arith) (x .reads .words))
           (λ a h. here (omega arith) a h (hit-or a b))
 
@@ -193,12 +194,12 @@ module _ {m : List ℕ} {ps : List ℕ} {L : Lists} {W : View} (s : Sep ps L) (x
     reads = record { words = words-low b v (omega arith) (x .reads .words); fixed = f; sems = sems-off b v (deaf-mid b i) };
   }
 
-  low-mem : (b v : ℕ) → b < 256 → Mid b → Mem (set m b v) ps L (withLow W (put1 (W .low) b v))
+  low-mem : (b v : ℕ) → b < codeWord 0 → Mid b → Mem (set m b v) ps L (withLow W (put1 (W .low) b v))
   low-mem b v u i = let f = x .reads .fixed in mid-mem b v i (record {
     clock = λ a h i. here a (f .clock a h i) (hit-or a b);
     turn = λ a h i. here a (f .turn a h i) (hit-or a b);
     code = λ k h. other m b v (codeWord k) (omega arith) ∙ f .code k h;
-    next = other m b v 288 (omega arith) ∙ f .next;
+    next = other m b v firstUnused (omega arith) ∙ f .next;
     entry = λ i h. other m b v (entryAfter i) (omega arith) ∙ f .entry i h;
   })
     where
@@ -212,37 +213,37 @@ module _ {m : List ℕ} {ps : List ℕ} {L : Lists} {W : View} (s : Sep ps L) (x
   pub turn-mem : (b v : ℕ) → runningPage ≤ b → b ≤ divider → Mem (set m b v) ps L (withLow W (put1 (W .low) b v))
   turn-mem b v l u = low-mem b v (omega arith) (omega arith, omega arith, λ c1 c2 c3. omega arith)
 
-  first-code : (c v : ℕ) → c < 16 → Mem (set m (codeWord c) v) ps L (withCode W (put1 (W .code) c v))
+  first-code : (c v : ℕ) → c < allCodes → Mem (set m (codeWord c) v) ps L (withCode W (put1 (W .code) c v))
   first-code c v l = let f = x .reads .fixed in let b = codeWord c in mid-mem b v (omega arith, omega arith, λ c1 c2 c3. omega arith) (record {
     clock = λ a h i. other m b v a (omega arith) ∙ f .clock a h i;
     turn = λ a h i. other m b v a (omega arith) ∙ f .turn a h i;
     code = λ k h. here k h (hit-or k c);
-    next = other m b v 288 (omega arith) ∙ f .next;
+    next = other m b v firstUnused (omega arith) ∙ f .next;
     entry = λ i h. other m b v (entryAfter i) (omega arith) ∙ f .entry i h;
   })
     where
-      here : (k : ℕ) → k < 16 → (k ≡ c) ⊎ (k ≢ c) → getD (set m (codeWord c) v) (codeWord k) 0 ≡ put1 (W .code) c v k
+      here : (k : ℕ) → k < allCodes → (k ≡ c) ⊎ (k ≢ c) → getD (set m (codeWord c) v) (codeWord k) 0 ≡ put1 (W .code) c v k
       here k h (inl e) = rw (put1-same (W .code) c v k e, e) (getD-set-same m (codeWord c) v 0 (omega (arith, x .size)))
       here k h (inr n) = rw (put1-other (W .code) c v k n) (other m (codeWord c) v (codeWord k) (omega arith) ∙ x .reads .fixed .code k h)
 
-  first-entry : (n e : ℕ) → 1 ≤ n → n < 32 → Mem (set m (entryAt n) e) ps L (withEntry W (W .next) (put1 (W .entry) (n - 1) e))
+  first-entry : (n e : ℕ) → 1 ≤ n → n < entriesFull → Mem (set m (entryAt n) e) ps L (withEntry W (W .next) (put1 (W .entry) (n - 1) e))
   first-entry n e l u = let f = x .reads .fixed in let b = entryAt n in mid-mem b e (omega arith, omega arith, λ c1 c2 c3. omega arith) (record {
     clock = λ a h i. other m b e a (omega arith) ∙ f .clock a h i;
     turn = λ a h i. other m b e a (omega arith) ∙ f .turn a h i;
     code = λ k h. other m b e (codeWord k) (omega arith) ∙ f .code k h;
-    next = other m b e 288 (omega arith) ∙ f .next;
+    next = other m b e firstUnused (omega arith) ∙ f .next;
     entry = λ i h. here i h (hit-or i (n - 1));
   })
     where
-      here : (i : ℕ) → i < 31 → (i ≡ n - 1) ⊎ (i ≢ n - 1) → getD (set m (entryAt n) e) (entryAfter i) 0 ≡ put1 (W .entry) (n - 1) e i
+      here : (i : ℕ) → i < entries → (i ≡ n - 1) ⊎ (i ≢ n - 1) → getD (set m (entryAt n) e) (entryAfter i) 0 ≡ put1 (W .entry) (n - 1) e i
       here i h (inl q) =
-          let a : entryAfter i ≡ 288 + n = omega arith in
+          let a : entryAfter i ≡ entryAt n = omega arith in
           rw (put1-same (W .entry) (n - 1) e i q, a) (getD-set-same m (entryAt n) e 0 (omega (arith, x .size)))
       here i h (inr q) = rw (put1-other (W .entry) (n - 1) e i q) (other m (entryAt n) e (entryAfter i) (omega arith) ∙ x .reads .fixed .entry i h)
 
 module _ {m : List ℕ} {ps : List ℕ} {L : Lists} {W : View} (s : Sep ps L) (x : Mem m ps L W) where
   -- both words of code c
-  pub code-mem : (c v w : ℕ) → c < 16 → Mem (set (set m (codeWord c) v) (codeLow c) w) ps L (withCode W (put1 (W .code) c v))
+  pub code-mem : (c v w : ℕ) → c < allCodes → Mem (set (set m (codeWord c) v) (codeLow c) w) ps L (withCode W (put1 (W .code) c v))
   code-mem c v w l =
       let x1 = first-code s x c v l in
       let m1 = set m (codeWord c) v in
@@ -252,28 +253,28 @@ module _ {m : List ℕ} {ps : List ℕ} {L : Lists} {W : View} (s : Sep ps L) (x
         clock = λ a h i. other m1 b w a (omega arith) ∙ f .clock a h i;
         turn = λ a h i. other m1 b w a (omega arith) ∙ f .turn a h i;
         code = λ k h. other m1 b w (codeWord k) (omega arith) ∙ f .code k h;
-        next = other m1 b w 288 (omega arith) ∙ f .next;
+        next = other m1 b w firstUnused (omega arith) ∙ f .next;
         entry = λ i h. other m1 b w (entryAfter i) (omega arith) ∙ f .entry i h;
       })
 
   -- both words of page 9
-  pub entry-mem : (e : ℕ) → 1 ≤ W .next → W .next < 32
-      → Mem (set (set m (288 + W .next) e) 288 (W .next + 1)) ps L (withEntry W (W .next + 1) (put1 (W .entry) (W .next - 1) e))
+  pub entry-mem : (e : ℕ) → 1 ≤ W .next → W .next < entriesFull
+      → Mem (set (set m (entryAt (W .next)) e) firstUnused (W .next + 1)) ps L (withEntry W (W .next + 1) (put1 (W .entry) (W .next - 1) e))
   entry-mem e l u =
       let n = W .next in
       let x1 = first-entry s x n e l u in
       let m1 = set m (entryAt n) e in
       let f = x1 .reads .fixed in
-      mid-mem s x1 288 (n + 1) (omega arith, omega arith, λ c1 c2 c3. omega arith) (record {
-        clock = λ a h i. other m1 288 (n + 1) a (omega arith) ∙ f .clock a h i;
-        turn = λ a h i. other m1 288 (n + 1) a (omega arith) ∙ f .turn a h i;
-        code = λ k h. other m1 288 (n + 1) (codeWord k) (omega arith) ∙ f .code k h;
-        next = getD-set-same m1 288 (n + 1) 0 (omega (arith, x1 .size));
-        entry = λ i h. other m1 288 (n + 1) (entryAfter i) (omega arith) ∙ f .entry i h;
+      mid-mem s x1 firstUnused (n + 1) (omega arith, omega arith, λ c1 c2 c3. omega arith) (record {
+        clock = λ a h i. other m1 firstUnused (n + 1) a (omega arith) ∙ f .clock a h i;
+        turn = λ a h i. other m1 firstUnused (n + 1) a (omega arith) ∙ f .turn a h i;
+        code = λ k h. other m1 firstUnused (n + 1) (codeWord k) (omega arith) ∙ f .code k h;
+        next = getD-set-same m1 firstUnused (n + 1) 0 (omega (arith, x1 .size));
+        entry = λ i h. other m1 firstUnused (n + 1) (entryAfter i) (omega arith) ∙ f .entry i h;
       })
 
 -- ---- page q, which is in no list
-pub only-word : {q : ℕ} {m m′ : List ℕ} → Only q m m′ → (p j : ℕ) → p ≢ q → j < 32 → word m′ p j ≡ word m p j
+pub only-word : {q : ℕ} {m m′ : List ℕ} → Only q m m′ → (p j : ℕ) → p ≢ q → j < pageSize → word m′ p j ≡ word m p j
 only-word {q} {m} {m′} o p j n h = go (ltb p q) refl
   where
     go : (b : Bool) → ltb p q ≡ b → word m′ p j ≡ word m p j
@@ -285,7 +286,7 @@ module _ {m m′ : List ℕ} {q : ℕ} (o : Only q m m′) (g : Page q) {ps : Li
   not-q : (p : ℕ) → 1 ≤ count p ps → p ≢ q
   not-q p h e = let c = ap (λ (y : ℕ). count y ps) e in omega arith
 
-  col-retold : (k : ℕ) (f : ℕ → ℕ) → k < 32 → Col m k f → Col m′ k (put1 f q (word m′ q k))
+  col-retold : (k : ℕ) (f : ℕ → ℕ) → k < pageSize → Col m k f → Col m′ k (put1 f q (word m′ q k))
   col-retold k f l c p h = go (hit-or p q)
     where
       go : (p ≡ q) ⊎ (p ≢ q) → word m′ p k ≡ put1 f q (word m′ q k) p
@@ -297,18 +298,19 @@ module _ {m m′ : List ℕ} {q : ℕ} (o : Only q m m′) (g : Page q) {ps : Li
       let p = x .reads .words in
       record {
         size = o .size ∙ x .size;
-        holds = holds-kept m m′ ps L s (λ a h. head a (head-place ps a h)) (λ a y h n c. only-word o y 0 (λ e. link a y h c e) (omega arith))
-            (λ y h. only-word o y 1 (not-q y h) (omega arith)) (x .holds);
+        holds = holds-kept m m′ ps L s (λ a h. head a (head-place ps a h)) (λ a y h n c. only-word o y Map.link (λ e. link a y h c e) (omega arith))
+            (λ y h. only-word o y listLink (not-q y h) (omega arith)) (x .holds);
         reads = record {
           words = record {
             note = λ y h n. note y h n (hit-or y q);
-            reason = col-retold 2 (W .reason) (omega arith) (p .reason);
-            label = col-retold 7 (W .label) (omega arith) (p .label);
-            state = col-retold 12 (W .state) (omega arith) (p .state);
+            reason = col-retold Map.reason (W .reason) (omega arith) (p .reason);
+            label = col-retold Map.label (W .label) (omega arith) (p .label);
+            state = col-retold Map.state (W .state) (omega arith) (p .state);
           };
           fixed = fixed-same (λ a h i. o .below a (omega arith)) (λ a h i. o .below a (omega arith)) (λ a h i. o .below a (omega arith)) (x .reads .fixed);
           sems = λ a h.
-              seat-same m m′ (λ a i j. o .below a (omega arith)) (λ p u. only-word o p 3 (not-q p u) (omega arith)) a (seat-of ps a h) ∙ x .reads .sems a h;
+              seat-same m m′ (λ a i j. o .below a (omega arith)) (λ p u. only-word o p ownSemaphore (not-q p u) (omega arith)) a (seat-of ps a h)
+              ∙ x .reads .sems a h;
         };
       }
     where
@@ -321,6 +323,6 @@ module _ {m m′ : List ℕ} {q : ℕ} (o : Only q m m′) (g : Page q) {ps : Li
       link : (a y : ℕ) → Among ps a → 1 ≤ count y (L a) → y ≡ q → ⊥
       link a y h c e = let d = ap (λ (z : ℕ). count z (L a)) e in omega (arith, free a h)
 
-      note : (y : ℕ) → Page y → count y ps ≡ 0 → (y ≡ q) ⊎ (y ≢ q) → word m′ y 1 ≡ put1 (W .note) q (word m′ q Map.note) y
+      note : (y : ℕ) → Page y → count y ps ≡ 0 → (y ≡ q) ⊎ (y ≢ q) → word m′ y Map.note ≡ put1 (W .note) q (word m′ q Map.note) y
       note y h n (inl e) = rw (put1-same (W .note) q (word m′ q Map.note) y e, e)
-      note y h n (inr d) = rw (put1-other (W .note) q (word m′ q Map.note) y d) (only-word o y 1 d (omega arith) ∙ x .reads .words .note y h n)
+      note y h n (inr d) = rw (put1-other (W .note) q (word m′ q Map.note) y d) (only-word o y Map.note d (omega arith) ∙ x .reads .words .note y h n)

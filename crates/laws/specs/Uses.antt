@@ -7,17 +7,17 @@ use mathlib.Core.List.{List, _∷_, _++_}
 use Prim.Native.Nat.{ℕ, _+_, _-_, _≤_}
 use native.Mathlib.Omega.{arith}
 use lib.ListN.{length}
-use Rattle.model.specs.Map.{freeList, processorList}
+use Rattle.model.specs.Map.{controlPages, freeList, grants, pageSize, processorList}
 use Rattle.model.specs.Lists.{count, Lists, sum, range, linkOf, mails, uses, queues, isGrant}
 use Rattle.laws.specs.Count.{hit-other, hit-or, count-append, zero-or}
 use Rattle.laws.specs.Chain.{Page}
 use Rattle.laws.specs.Queues.{link-procs, link-other, Header, Good, Apart, Single}
-use Rattle.laws.specs.Heads.{one, one-le, one-page, sum-one, sum-two, sum-append, Place, uses-place, queues-place, short}
+use Rattle.laws.specs.Heads.{one, one-le, one-page, sum-one, sum-two, sum-append, Place, uses-place, queues-place, short, grantWords}
 use Rattle.laws.specs.Heads.Place.{int, three, grant, slot}
 
 -- ---- heads
 abbrev pub others : List ℕ → List ℕ
-others ps = freeList ∷ (mails ps ++ range 32 1 320)
+others ps = freeList ∷ (mails ps ++ grantWords)
 
 -- a cell from which a chain hangs
 abbrev pub Among : List ℕ → ℕ → Type 0
@@ -81,10 +81,10 @@ module _ {ps : List ℕ} {L : Lists} (s : Sep ps L) where
       go (inr e) = omega (arith, sum-one z L a (others ps ++ queues ps) (other a i e), few z)
 
   -- no list is longer than 20
-  pub list-short : (a : ℕ) → 1 ≤ count a (uses ps ++ queues ps) → length (L a) ≤ 20
+  pub list-short : (a : ℕ) → 1 ≤ count a (uses ps ++ queues ps) → length (L a) ≤ controlPages
   list-short a h = go (zero-or (count a (uses ps)))
     where
-      go : (count a (uses ps) ≡ 0) ⊎ (1 ≤ count a (uses ps)) → length (L a) ≤ 20
+      go : (count a (uses ps) ≡ 0) ⊎ (1 ≤ count a (uses ps)) → length (L a) ≤ controlPages
       go (inl e) = short (L a) (λ z. omega (
         arith,
         sum-one z L a (queues ps) (omega (arith, h, count-append a (uses ps) (queues ps))),

@@ -7,8 +7,9 @@ use Prim.Native.Nat.{ℕ, _+_, _-_, _*_, _/_, _%_, _≤_, _<_}
 use native.Mathlib.Omega.{arith}
 use lib.ListN.{length, length-append}
 use lib.Dec.{eqb}
-use Rattle.model.specs.Map.{freeList, freeSemaphore, grantFor, headerAfter, interrupts, ownQueue, pageQueue, place, processorList, q1, semaphoreAfter}
-use Rattle.model.specs.Map.{semaphoreOf, less}
+use Rattle.model.specs.Map.{aWord, freeList, freeSemaphore, grantFor, headerAfter, interrupts, less, lower, lowered, ownQueue, ownSemaphore}
+use Rattle.model.specs.Map.{pageQueue, pageSize, place, processorList, q1, semaphoreAfter, semaphoreOf, stopCleared, waitBit, waitIn, waitSet}
+use Rattle.model.specs.Map.{zerosIn}
 use Rattle.model.specs.Wait as Wait
 use Rattle.model.specs.Bytes.{putToWait}
 use Rattle.model.specs.Lists.{hit, count, Lists, sum, uses, queues}
@@ -24,33 +25,34 @@ use Rattle.laws.specs.Cells.{join-mem}
 use Rattle.laws.specs.Changes.{queue-once, stock-same}
 use Rattle.laws.specs.Wake.{seat-head, not-procs, not-free, not-mail, not-given, stock-le}
 
-pub wait-bits : (w : ℕ) → ((w / 128 * 128 + 64 + w % 64) % 128 / 64 ≡ 1) × ((w / 128 * 128 + 64 + w % 64) % 64 / 16 ≡ w % 64 / 16)
+pub wait-bits : (w : ℕ) → (waitIn (waitSet w) ≡ 1) × (zerosIn (waitSet w) ≡ zerosIn w)
 wait-bits w =
-    let a : (w / 128 * 128 + 64 + w % 64) % 128 ≡ 64 + w % 64 = omega arith in
-    let c : (w / 128 * 128 + 64 + w % 64) % 64 ≡ w % 64 = omega arith in
+    let a : stopCleared (waitSet w) ≡ waitBit + w % waitBit = omega arith in
+    let c : waitSet w % waitBit ≡ w % waitBit = omega arith in
     (rw a (omega arith), rw c)
 
 -- page p waits in the queue at a with reason w
 abbrev pub waiting : View → ℕ → ℕ → ℕ → View
 waiting W a p w =
-    withSem (withWords W (W .note) (put1 (W .reason) p w) (W .label) (put1 (W .state) p (W .state p / 128 * 128 + 64 + W .state p % 64)))
-    (put1 (W .sem) a ((W .sem a + 255) % 256))
+    withSem (withWords W (W .note) (put1 (W .reason) p w) (W .label) (put1 (W .state) p (waitSet (W .state p))))
+    (put1 (W .sem) a (lowered (W .sem a)))
 
 -- the reason fits the queue
 pub record Fit (ps : List ℕ) (L : Lists) (W : View) (a p w : ℕ) : Type 0 where
-  pub line : (k : ℕ) → k < interrupts → a ≡ semaphoreAfter k → (1 ≤ w) × (w ≤ 255)
-  pub page : a ≡ freeSemaphore → (w ≡ 0) × (length (L freeList) ≡ 0) × (length (L (320 + W .label p % 16)) ≡ 0)
-  pub own : (y : ℕ) → 1 ≤ count y ps → a ≡ place y 3 → Waits w (W .note) (L (place y q1)) y p
+  pub line : (k : ℕ) → k < interrupts → a ≡ semaphoreAfter k → (1 ≤ w) × (w ≤ aWord)
+  pub page : a ≡ freeSemaphore → (w ≡ 0) × (length (L freeList) ≡ 0) × (length (L (grantFor (lower (W .label p)))) ≡ 0)
+  pub own : (y : ℕ) → 1 ≤ count y ps → a ≡ place y ownSemaphore → Waits w (W .note) (L (place y q1)) y p
 
 -- an interrupt's queue with a count, the page queue where no page is free or granted
-pub line-fit : {ps : List ℕ} {L : Lists} {W : View} {p : ℕ} → Sep ps L → (k c : ℕ) → 1 ≤ k → k ≤ interrupts → 1 ≤ c → c ≤ 255 → Fit ps L W (semaphoreOf k) p c
+pub line-fit : {ps : List ℕ} {L : Lists} {W : View} {p : ℕ} → Sep ps L → (k c : ℕ) → 1 ≤ k → k ≤ interrupts → 1 ≤ c → c ≤ aWord → Fit ps L W (semaphoreOf k) p c
 line-fit s k c k1 k2 l u = record {
   line = λ j h e. (l, u);
   page = λ e. absurd (omega arith);
   own = λ y h e. let t = proc-page s y h in absurd (omega arith);
 }
 
-pub page-fit : {ps : List ℕ} {L : Lists} {W : View} {p : ℕ} → Sep ps L → L freeList ≡ [] → length (L (320 + W .label p % 16)) ≡ 0 → Fit ps L W freeSemaphore p 0
+pub page-fit : {ps : List ℕ} {L : Lists} {W : View} {p : ℕ} → Sep ps L → L freeList ≡ [] → length (L (grantFor (lower (W .label p)))) ≡ 0
+    → Fit ps L W freeSemaphore p 0
 page-fit s f g = record {
   line = λ k h e. absurd (omega arith);
   page = λ e. (refl, ap length f, g);
@@ -67,7 +69,7 @@ waits-not {ps} {L} s p h z c hc n = go (zero-or (count c (uses ps)))
     go (inr i) = omega (arith, sum-two p L processorList c (uses ps) (λ e. n (sym e)) (omega arith) i, s .most p, one-le p, ap (count p) (s .procs))
 
 module _ {ps : List ℕ} {L : Lists} {W : View} {g : ℕ} (a p w : ℕ) (f : Facts ps L W g) (h : 1 ≤ count (a + 1) (queues ps)) (hp : 1 ≤ count p ps)
-    (idle : W .state p % 128 / 64 ≡ 0) (fit : Fit ps L W a p w) where
+    (idle : waitIn (W .state p) ≡ 0) (fit : Fit ps L W a p w) where
   s : Sep ps L
   s = f .sep
 
@@ -97,7 +99,7 @@ module _ {ps : List ℕ} {L : Lists} {W : View} {g : ℕ} (a p w : ℕ) (f : Fac
       go (inr n) c = let k = rw (other-list b n) at j in inl (k, not-in b i x k)
 
   kept-state : (x : ℕ) → x ≢ p → waiting W a p w .state x ≡ W .state x
-  kept-state x n = put1-other (W .state) p (W .state p / 128 * 128 + 64 + W .state p % 64) x n
+  kept-state x n = put1-other (W .state) p (waitSet (W .state p)) x n
 
   kept-reason : (x : ℕ) → x ≢ p → waiting W a p w .reason x ≡ W .reason x
   kept-reason x n = put1-other (W .reason) p w x n
@@ -107,8 +109,9 @@ module _ {ps : List ℕ} {L : Lists} {W : View} {g : ℕ} (a p w : ℕ) (f : Fac
 
   pub facts-wait : Facts ps K (waiting W a p w) g
   facts-wait =
-      let w5 : (y : ℕ) → 1 ≤ count y ps → K (place y q1) ≡ L (place y q1) = λ y i. other-list (place y q1) (not-mail s a h y 5 i (omega arith) (omega arith)) in
-      let wg : (k : ℕ) → k < 32 → K (grantFor k) ≡ L (grantFor k) = λ k i. other-list (grantFor k) (not-given s a h k i) in
+      let w5 : (y : ℕ) → 1 ≤ count y ps → K (place y q1) ≡ L (place y q1) = λ y i.
+      other-list (place y q1) (not-mail s a h y q1 i (omega arith) (omega arith)) in
+      let wg : (k : ℕ) → k < pageSize → K (grantFor k) ≡ L (grantFor k) = λ k i. other-list (grantFor k) (not-given s a h k i) in
       let wf = other-list freeList (not-free s a h) in
       record {
         sep = record {
@@ -127,7 +130,7 @@ module _ {ps : List ℕ} {L : Lists} {W : View} {g : ℕ} (a p w : ℕ) (f : Fac
         own = λ y i x j. rw (w5 y i) (owns y i x (split (place y ownQueue) x (omega (arith, own-once s y i .here)) j));
         sems = λ b i. sems b i (hit-or b a);
         granted = record {
-          bare = λ x j. rw (wf, wg (W .label x % 16) (omega arith)) (bare x (split pageQueue x (omega arith) j));
+          bare = λ x j. rw (wf, wg (lower (W .label x)) (omega arith)) (bare x (split pageQueue x (omega arith) j));
           known = λ k i. rw (wg k i) (f .granted .known k i);
         };
         mail = λ y v i l u q j.
@@ -144,19 +147,19 @@ module _ {ps : List ℕ} {L : Lists} {W : View} {g : ℕ} (a p w : ℕ) (f : Fac
       waits z (inl d) = rw d (omega (arith, sum-wait p, nowhere, hit-self p))
       waits z (inr n) = omega (arith, sum-wait z, hit-other z p n, s .waits z)
 
-      bit : (x : ℕ) → 1 ≤ count x ps → (x ≡ p) ⊎ (x ≢ p) → sum x K (queues ps) ≡ waiting W a p w .state x % 128 / 64
+      bit : (x : ℕ) → 1 ≤ count x ps → (x ≡ p) ⊎ (x ≢ p) → sum x K (queues ps) ≡ waitIn (waiting W a p w .state x)
       bit x i (inl d) =
-          rw (put1-same (W .state) p (W .state p / 128 * 128 + 64 + W .state p % 64) x d, d)
+          rw (put1-same (W .state) p (waitSet (W .state p)) x d, d)
           (omega (arith, wait-bits (W .state p), sum-wait p, hit-self p, nowhere))
       bit x i (inr d) = rw (kept-state x d) (omega (arith, sum-wait x, hit-other x p d, f .seats .bit x i))
 
-      zeros : (x : ℕ) → 1 ≤ count x ps → (x ≡ p) ⊎ (x ≢ p) → waiting W a p w .state x % 64 / 16 ≡ 0
+      zeros : (x : ℕ) → 1 ≤ count x ps → (x ≡ p) ⊎ (x ≢ p) → zerosIn (waiting W a p w .state x) ≡ 0
       zeros x i (inl d) =
-          rw (put1-same (W .state) p (W .state p / 128 * 128 + 64 + W .state p % 64) x d) (wait-bits (W .state p) .1 ∙ f .seats .zeros p hp)
+          rw (put1-same (W .state) p (waitSet (W .state p)) x d) (wait-bits (W .state p) .1 ∙ f .seats .zeros p hp)
       zeros x i (inr d) = rw (kept-state x d) (f .seats .zeros x i)
 
       served : (k : ℕ) → k < interrupts → (x : ℕ) → ((1 ≤ count x (L (headerAfter k))) × (x ≢ p)) ⊎ ((x ≡ p) × (headerAfter k ≡ a + 1))
-          → (1 ≤ waiting W a p w .reason x) × (waiting W a p w .reason x ≤ 255)
+          → (1 ≤ waiting W a p w .reason x) × (waiting W a p w .reason x ≤ aWord)
       served k i x (inl t) = rw (kept-reason x (t .1)) (f .seats .served k i x (t .0))
       served k i x (inr t) = rw (new-reason x (t .0)) (fit .line k i (omega (arith, t .1)))
 
@@ -164,9 +167,9 @@ module _ {ps : List ℕ} {L : Lists} {W : View} {g : ℕ} (a p w : ℕ) (f : Fac
       asking x (inl t) = rw (kept-reason x (t .1)) (f .seats .asking x (t .0))
       asking x (inr t) = rw (new-reason x (t .0)) (fit .page (omega (arith, t .1)) .0)
 
-      quiet : (x : ℕ) → 1 ≤ count x ps → waiting W a p w .state x % 128 / 64 ≡ 0 → (x ≡ p) ⊎ (x ≢ p) → waiting W a p w .reason x ≡ 0
+      quiet : (x : ℕ) → 1 ≤ count x ps → waitIn (waiting W a p w .state x) ≡ 0 → (x ≡ p) ⊎ (x ≢ p) → waiting W a p w .reason x ≡ 0
       quiet x i z (inl d) =
-          let c = rw (put1-same (W .state) p (W .state p / 128 * 128 + 64 + W .state p % 64) x d) at z in
+          let c = rw (put1-same (W .state) p (waitSet (W .state p)) x d) at z in
           absurd (omega (arith, wait-bits (W .state p)))
       quiet x i z (inr d) = kept-reason x d ∙ f .seats .quiet x i (rw (kept-state x d) at z)
 
@@ -180,29 +183,29 @@ module _ {ps : List ℕ} {L : Lists} {W : View} {g : ℕ} (a p w : ℕ) (f : Fac
           rw (new-reason y (sym (c .owner)), t .0) c
 
       bare : (x : ℕ) → ((1 ≤ count x (L pageQueue)) × (x ≢ p)) ⊎ ((x ≡ p) × (pageQueue ≡ a + 1))
-          → (length (L freeList) ≡ 0) × (length (L (320 + W .label x % 16)) ≡ 0)
+          → (length (L freeList) ≡ 0) × (length (L (grantFor (lower (W .label x)))) ≡ 0)
       bare x (inl t) = f .granted .bare x (t .0)
       bare x (inr t) = let c = fit .page (omega (arith, t .1)) in rw (t .0) (c .1, c .2)
 
       sems : (b : ℕ) → 1 ≤ count (b + 1) (queues ps) → (b ≡ a) ⊎ (b ≢ a) → waiting W a p w .sem b ≡ less (stock K b) (length (K (b + 1)))
       sems b i (inl d) =
-          rw (put1-same (W .sem) a ((W .sem a + 255) % 256) b d, d, upd-same, stock-same L K (other-list freeList (not-free s a h)) a, f .sems a h)
+          rw (put1-same (W .sem) a (lowered (W .sem a)) b d, d, upd-same, stock-same L K (other-list freeList (not-free s a h)) a, f .sems a h)
           (omega (arith, length-append (L (a + 1)) (p ∷ []), list-short s (a + 1) (in-queues ps (a + 1) h), stock-le s a))
       sems b i (inr n) =
-          rw (put1-other (W .sem) a ((W .sem a + 255) % 256) b n, other-list (b + 1) (omega arith), stock-same L K (other-list freeList (not-free s a h)) b)
+          rw (put1-other (W .sem) a (lowered (W .sem a)) b n, other-list (b + 1) (omega arith), stock-same L K (other-list freeList (not-free s a h)) b)
           (f .sems b i)
 
 -- the model's step
 pub wait-base : {m : List ℕ} {ps : List ℕ} {L : Lists} {W : View} {hs : List ℕ} {g : ℕ} (a p w : ℕ) → Base m ps L W hs g → 1 ≤ count (a + 1) (queues ps)
-    → 1 ≤ count p ps → W .state p % 128 / 64 ≡ 0 → Fit ps L W a p w
+    → 1 ≤ count p ps → waitIn (W .state p) ≡ 0 → Fit ps L W a p w
     → Base (putToWait m a p w) ps (upd L (a + 1) (L (a + 1) ++ p ∷ [])) (waiting W a p w) hs g
 unfolding Wait.putToWait Wait.enqueue
 wait-base {m} {ps} {L} {W} a p w b h hp idle fit =
     let s = b .facts .sep in
     let pg = proc-page s p hp in
-    let x1 = state-mem s (b .mem) p (W .state p / 128 * 128 + 64 + W .state p % 64) pg in
+    let x1 = state-mem s (b .mem) p (waitSet (W .state p)) pg in
     let x2 = reason-mem s x1 p w pg in
-    let x3 = sem-mem s x2 a ((W .sem a + 255) % 256) h in
+    let x3 = sem-mem s x2 a (lowered (W .sem a)) h in
     let x4 = join-mem s x3 (a + 1) (seat-head s a h) (λ d. not-procs s a h (sym d)) p pg (waits-not s p hp (nowhere a p w (b .facts) h hp idle fit)) in
     rw (b .mem .reads .words .state p pg, x2 .reads .sems a h) (record {
       mem = x4;

@@ -8,9 +8,9 @@ use Prim.Native.Nat.{ℕ, _+_, _-_, _*_, _/_, _%_, _≤_, _<_}
 use native.Mathlib.Omega.{arith}
 use lib.ListN.{length, getD, set, length-append}
 use lib.Dec.{eqb}
-use Rattle.model.specs.Map.{freeList, freeSemaphore, grantFor, headerAfter, link, ownQueue, pageQueue, place, processorList, q1, reason, state}
+use Rattle.model.specs.Map.{controlPages, freeList, freeSemaphore, grantFor, headerAfter, less, link, lower, ownQueue, pageQueue, pageSize, place}
+use Rattle.model.specs.Map.{processorList, q1, q2, raised, reason, state, stopCleared, waitBit, waitCleared, waitIn, zerosIn}
 use Rattle.model.specs.Bytes.{store, word}
-use Rattle.model.specs.Map.{less}
 use Rattle.model.specs.Wait as Wait
 use Rattle.model.specs.Bytes.{unqueue, wake}
 use Rattle.model.specs.Lists.{hit, count, Lists, sum, uses, queues, isGrant}
@@ -28,10 +28,10 @@ use Rattle.laws.specs.Stores.{sem-mem, state-mem, reason-mem}
 use Rattle.laws.specs.Cells.{leave-mem, leave-frame}
 use Rattle.laws.specs.Changes.{queue-once, stock-same}
 
-pub wake-bits : (w : ℕ) → ((w / 128 * 128 + w % 64) % 128 / 64 ≡ 0) × ((w / 128 * 128 + w % 64) % 64 / 16 ≡ w % 64 / 16)
+pub wake-bits : (w : ℕ) → (waitIn (waitCleared w) ≡ 0) × (zerosIn (waitCleared w) ≡ zerosIn w)
 wake-bits w =
-    let a : (w / 128 * 128 + w % 64) % 128 ≡ w % 64 = omega arith in
-    let b : (w / 128 * 128 + w % 64) % 64 ≡ w % 64 = omega arith in
+    let a : stopCleared (waitCleared w) ≡ w % waitBit = omega arith in
+    let b : waitCleared w % waitBit ≡ w % waitBit = omega arith in
     (rw a (omega arith), rw b)
 
 -- the header of a wait queue is no word of page 10
@@ -54,25 +54,25 @@ module _ {ps : List ℕ} {L : Lists} (s : Sep ps L) (a : ℕ) (h : 1 ≤ count (
   pub not-free : freeList ≢ a + 1
   not-free = seat-not freeList (free-once s .away)
 
-  pub not-mail : (p w : ℕ) → 1 ≤ count p ps → 5 ≤ w → w ≤ 6 → place p w ≢ a + 1
+  pub not-mail : (p w : ℕ) → 1 ≤ count p ps → q1 ≤ w → w ≤ q2 → place p w ≢ a + 1
   not-mail p w i u v = seat-not (place p w) (q-once s p w u v i .away)
 
-  pub not-given : (k : ℕ) → k < 32 → grantFor k ≢ a + 1
+  pub not-given : (k : ℕ) → k < pageSize → grantFor k ≢ a + 1
   not-given k i = seat-not (grantFor k) (grant-once s k i .away)
 
 -- how many pages may count beside the waiters
-pub stock-le : {ps : List ℕ} {L : Lists} → Sep ps L → (a : ℕ) → stock L a ≤ 20
+pub stock-le : {ps : List ℕ} {L : Lists} → Sep ps L → (a : ℕ) → stock L a ≤ controlPages
 stock-le {ps} {L} s a = go (hit-or a freeSemaphore)
   where
-    go : (a ≡ freeSemaphore) ⊎ (a ≢ freeSemaphore) → stock L a ≤ 20
+    go : (a ≡ freeSemaphore) ⊎ (a ≢ freeSemaphore) → stock L a ≤ controlPages
     go (inl e) = rw (e, stock-page L) (list-short s freeList (in-free ps))
     go (inr n) = rw (stock-else L a n) (omega arith)
 
 -- page p no longer waits in the queue at a
 abbrev pub woken : View → ℕ → ℕ → View
 woken W a p =
-    withSem (withWords W (W .note) (put1 (W .reason) p 0) (W .label) (put1 (W .state) p (W .state p / 128 * 128 + W .state p % 64)))
-    (put1 (W .sem) a ((W .sem a + 1) % 256))
+    withSem (withWords W (W .note) (put1 (W .reason) p 0) (W .label) (put1 (W .state) p (waitCleared (W .state p))))
+    (put1 (W .sem) a (raised (W .sem a)))
 
 module _ {ps : List ℕ} {L : Lists} {W : View} {g : ℕ} (a p : ℕ) (xs ys : List ℕ) (f : Facts ps L W g) (h : 1 ≤ count (a + 1) (queues ps))
     (e : L (a + 1) ≡ xs ++ p ∷ ys) where
@@ -121,7 +121,7 @@ module _ {ps : List ℕ} {L : Lists} {W : View} {g : ℕ} (a p : ℕ) (xs ys : L
       go (inr n) = (rw (other-list b n) at j, here)
 
   kept-state : (x : ℕ) → x ≢ p → woken W a p .state x ≡ W .state x
-  kept-state x n = put1-other (W .state) p (W .state p / 128 * 128 + W .state p % 64) x n
+  kept-state x n = put1-other (W .state) p (waitCleared (W .state p)) x n
 
   kept-reason : (x : ℕ) → x ≢ p → woken W a p .reason x ≡ W .reason x
   kept-reason x n = put1-other (W .reason) p 0 x n
@@ -138,8 +138,9 @@ module _ {ps : List ℕ} {L : Lists} {W : View} {g : ℕ} (a p : ℕ) (xs ys : L
 
   pub facts-wake : Facts ps K (woken W a p) g
   facts-wake =
-      let w5 : (y : ℕ) → 1 ≤ count y ps → K (place y q1) ≡ L (place y q1) = λ y i. other-list (place y q1) (not-mail s a h y 5 i (omega arith) (omega arith)) in
-      let wg : (k : ℕ) → k < 32 → K (grantFor k) ≡ L (grantFor k) = λ k i. other-list (grantFor k) (not-given s a h k i) in
+      let w5 : (y : ℕ) → 1 ≤ count y ps → K (place y q1) ≡ L (place y q1) = λ y i.
+      other-list (place y q1) (not-mail s a h y q1 i (omega arith) (omega arith)) in
+      let wg : (k : ℕ) → k < pageSize → K (grantFor k) ≡ L (grantFor k) = λ k i. other-list (grantFor k) (not-given s a h k i) in
       let wf = other-list freeList (not-free s a h) in
       record {
         sep = wake-sep;
@@ -158,7 +159,7 @@ module _ {ps : List ℕ} {L : Lists} {W : View} {g : ℕ} (a p : ℕ) (xs ys : L
             record { owner = t .owner; flag = rw (kept-reason y d) (t .flag); none = λ q b. rw (kept-reason y d) (t .none q (rw (w5 y i) at b)) };
         sems = λ b i. sems b i (hit-or b a);
         granted = record {
-          bare = λ x j. let t = stays pageQueue x (omega arith) j in rw (wf, wg (W .label x % 16) (omega arith)) (f .granted .bare x (t .0));
+          bare = λ x j. let t = stays pageQueue x (omega arith) j in rw (wf, wg (lower (W .label x)) (omega arith)) (f .granted .bare x (t .0));
           known = λ k i. rw (wg k i) (f .granted .known k i);
         };
         mail = λ y w i u v q j.
@@ -171,26 +172,26 @@ module _ {ps : List ℕ} {L : Lists} {W : View} {g : ℕ} (a p : ℕ) (xs ys : L
         faults = f .faults;
       }
     where
-      bit : (x : ℕ) → 1 ≤ count x ps → (x ≡ p) ⊎ (x ≢ p) → sum x K (queues ps) ≡ woken W a p .state x % 128 / 64
+      bit : (x : ℕ) → 1 ≤ count x ps → (x ≡ p) ⊎ (x ≢ p) → sum x K (queues ps) ≡ waitIn (woken W a p .state x)
       bit x i (inl d) =
-          rw (put1-same (W .state) p (W .state p / 128 * 128 + W .state p % 64) x d, d) (omega (arith, wake-bits (W .state p), sum-wake p, hit-self p, alone))
+          rw (put1-same (W .state) p (waitCleared (W .state p)) x d, d) (omega (arith, wake-bits (W .state p), sum-wake p, hit-self p, alone))
       bit x i (inr d) = rw (kept-state x d) (omega (arith, sum-wake x, hit-other x p d, f .seats .bit x i))
 
-      zeros : (x : ℕ) → 1 ≤ count x ps → (x ≡ p) ⊎ (x ≢ p) → woken W a p .state x % 64 / 16 ≡ 0
+      zeros : (x : ℕ) → 1 ≤ count x ps → (x ≡ p) ⊎ (x ≢ p) → zerosIn (woken W a p .state x) ≡ 0
       zeros x i (inl d) =
-          rw (put1-same (W .state) p (W .state p / 128 * 128 + W .state p % 64) x d) (wake-bits (W .state p) .1 ∙ f .seats .zeros p woken-proc)
+          rw (put1-same (W .state) p (waitCleared (W .state p)) x d) (wake-bits (W .state p) .1 ∙ f .seats .zeros p woken-proc)
       zeros x i (inr d) = rw (kept-state x d) (f .seats .zeros x i)
 
-      quiet : (x : ℕ) → 1 ≤ count x ps → woken W a p .state x % 128 / 64 ≡ 0 → (x ≡ p) ⊎ (x ≢ p) → woken W a p .reason x ≡ 0
+      quiet : (x : ℕ) → 1 ≤ count x ps → waitIn (woken W a p .state x) ≡ 0 → (x ≡ p) ⊎ (x ≢ p) → woken W a p .reason x ≡ 0
       quiet x i z (inl d) = put1-same (W .reason) p 0 x d
       quiet x i z (inr d) = kept-reason x d ∙ f .seats .quiet x i (rw (kept-state x d) at z)
 
       sems : (b : ℕ) → 1 ≤ count (b + 1) (queues ps) → (b ≡ a) ⊎ (b ≢ a) → woken W a p .sem b ≡ less (stock K b) (length (K (b + 1)))
       sems b i (inl d) =
-          rw (put1-same (W .sem) a ((W .sem a + 1) % 256) b d, d, upd-same, stock-same L K (other-list freeList (not-free s a h)) a, f .sems a h)
+          rw (put1-same (W .sem) a (raised (W .sem a)) b d, d, upd-same, stock-same L K (other-list freeList (not-free s a h)) a, f .sems a h)
           (omega (arith, length-e, list-short s (a + 1) (in-queues ps (a + 1) h), stock-le s a))
       sems b i (inr n) =
-          rw (put1-other (W .sem) a ((W .sem a + 1) % 256) b n, other-list (b + 1) (omega arith), stock-same L K (other-list freeList (not-free s a h)) b)
+          rw (put1-other (W .sem) a (raised (W .sem a)) b n, other-list (b + 1) (omega arith), stock-same L K (other-list freeList (not-free s a h)) b)
           (f .sems b i)
 
 -- the model's step on the memory, and on the invariant
@@ -198,9 +199,9 @@ pub wake-mem : {m : List ℕ} {ps : List ℕ} {L : Lists} {W : View} (a p : ℕ)
     → Mem m ps L W → 1 ≤ count (a + 1) (queues ps) → Page p → L (a + 1) ≡ xs ++ p ∷ ys → Mem (wake m a p) ps (upd L (a + 1) (xs ++ ys)) (woken W a p)
 unfolding Wait.wake Wait.unqueue
 wake-mem {m} {ps} {L} {W} a p xs ys s s2 x h pg e =
-    let x1 = sem-mem s x a ((W .sem a + 1) % 256) h in
+    let x1 = sem-mem s x a (raised (W .sem a)) h in
     let x2 = leave-mem s x1 (a + 1) (seat-head s a h) (λ d. not-procs s a h (sym d)) p xs ys e in
-    let x3 = state-mem s2 x2 p (W .state p / 128 * 128 + W .state p % 64) pg in
+    let x3 = state-mem s2 x2 p (waitCleared (W .state p)) pg in
     rw (x .reads .sems a h, x2 .reads .words .state p pg) (reason-mem s2 x3 p 0 pg)
 
 pub wake-base : {m : List ℕ} {ps : List ℕ} {L : Lists} {W : View} {hs : List ℕ} {g : ℕ} (a p : ℕ) (xs ys : List ℕ) → Base m ps L W hs g
@@ -220,12 +221,12 @@ module _ {m : List ℕ} {ps : List ℕ} {L : Lists} {W : View} (s : Sep ps L) (x
   pub unqueue-frame : getD (unqueue m a p) c 0 ≡ getD m c 0
   unfolding Wait.unqueue
   unqueue-frame =
-      let v = (getD m a 0 + 1) % 256 in
+      let v = raised (getD m a 0) in
       leave-frame s (sem-mem s x a v h) (a + 1) (seat-head s a h) (λ d. not-procs s a h (sym d)) p xs ys e c nh nl ∙ other m a v c na
 
   pub wake-frame : c ≢ place p reason → c ≢ place p state → getD (wake m a p) c 0 ≡ getD m c 0
   unfolding Wait.wake
   wake-frame n2 n12 =
       let m2 = unqueue m a p in
-      let t = word m2 p state / 128 * 128 + word m2 p state % 64 in
+      let t = waitCleared (word m2 p state) in
       other (store m2 p state t) (place p reason) 0 c n2 ∙ other m2 (place p state) t c n12 ∙ unqueue-frame

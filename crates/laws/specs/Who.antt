@@ -11,12 +11,11 @@ use lib.ListN.{length, getD, set, length-set}
 use lib.Dec.{eqb, ltb}
 use borrow.Author.Tests.{eqb-true, eqb-false, eq-eqb, ne-eqb, ltb-true, ltb-false}
 use Rattle.model.specs.Map as Map
-use Rattle.model.specs.Map.{label, place, processorList, runningLabel, runningPage}
-use Rattle.model.specs.Bytes.{running, word}
+use Rattle.model.specs.Map.{controlPages, keeps, keptCount, label, listLink, pageSize, place, processorList, runningLabel, runningPage, upper}
+use Rattle.model.specs.Map.{waitBit, zeroPlace}
+use Rattle.model.specs.Bytes.{better, lists, load, priority, processors, running, save, stays, store, switch, whoRuns, word}
 use Rattle.model.specs.Turn as Turn
-use Rattle.model.specs.Map.{zeroPlace}
 use Rattle.model.specs.Turn.{fold}
-use Rattle.model.specs.Bytes.{lists, better, stays, processors, save, load, switch, whoRuns}
 use Rattle.model.specs.Bytes as Model
 use Rattle.model.specs.Lists.{count, Lists}
 use Rattle.laws.specs.Count.{hit-self, hit-other, hit-or}
@@ -24,7 +23,7 @@ use Rattle.laws.specs.Chain.{Page, walk-chain}
 use Rattle.laws.specs.Queues.{link-procs}
 use Rattle.laws.specs.Uses.{Sep, proc-page, proc-once, list-short}
 use Rattle.laws.specs.Places.{in-procs, grant-low}
-use Rattle.laws.specs.Inv.{View, view, Label, Runs, Clock, Best, Base, Inv}
+use Rattle.laws.specs.Inv.{Base, Best, Clock, Inv, Label, Runs, View, noOne, view}
 use Rattle.laws.specs.Judged.{WellFormed, invariant}
 use Rattle.laws.specs.Frames.{Kept, kept-refl, base-kept, kept-on, other}
 use Rattle.laws.specs.Views.{put1, withLow}
@@ -34,17 +33,17 @@ use Rattle.laws.specs.Changes.{facts-low}
 use Rattle.laws.specs.Grants.{Gave}
 
 -- ---- page 0's words, saved and loaded
-pub zero-low : (n : ℕ) → n < 19 → zeroPlace n < 32
+pub zero-low : (n : ℕ) → n < keptCount → zeroPlace n < pageSize
 zero-low n h = go (ltb n 3) refl
   where
-    go : (b : Bool) → ltb n 3 ≡ b → cond (ltb n 3) (4 + n) (13 + n) < 32
+    go : (b : Bool) → ltb n 3 ≡ b → zeroPlace n < pageSize
     go true e = rw e (let l = ltb-true n 3 e in omega arith)
     go false e = rw e (omega arith)
 
 pub kept-size : (n : ℕ) (m : List ℕ) (p : ℕ) (w : List ℕ) → length (Model.kept n m p w) ≡ length m
 unfolding Turn.kept
 kept-size zero m p w = refl
-kept-size (suc n) m p w = kept-size n (set m (p * 32 + (13 + n)) (getD w n 0)) p w ∙ simp length-set
+kept-size (suc n) m p w = kept-size n (store m p (keeps n) (getD w n 0)) p w ∙ simp length-set
 
 pub restored-size : (n : ℕ) (m : List ℕ) (w : List ℕ) → length (Model.restored n m w) ≡ length m
 unfolding Turn.restored
@@ -52,11 +51,11 @@ restored-size zero m w = refl
 restored-size (suc n) m w = restored-size n (set m (zeroPlace n) (getD w n 0)) w ∙ simp length-set
 
 -- every other word stays
-pub kept-frame : (n : ℕ) (m : List ℕ) (p : ℕ) (w : List ℕ) (a : ℕ) → ((i : ℕ) → i < n → a ≢ p * 32 + (13 + i)) → getD (Model.kept n m p w) a 0 ≡ getD m a 0
+pub kept-frame : (n : ℕ) (m : List ℕ) (p : ℕ) (w : List ℕ) (a : ℕ) → ((i : ℕ) → i < n → a ≢ place p (keeps i)) → getD (Model.kept n m p w) a 0 ≡ getD m a 0
 unfolding Turn.kept
 kept-frame zero m p w a f = refl
 kept-frame (suc n) m p w a f =
-    kept-frame n (set m (p * 32 + (13 + n)) (getD w n 0)) p w a (λ i h. f i (omega arith)) ∙ other m (p * 32 + (13 + n)) (getD w n 0) a (f n (omega arith))
+    kept-frame n (store m p (keeps n) (getD w n 0)) p w a (λ i h. f i (omega arith)) ∙ other m (place p (keeps n)) (getD w n 0) a (f n (omega arith))
 
 pub restored-frame : (n : ℕ) (m : List ℕ) (w : List ℕ) (a : ℕ) → ((i : ℕ) → i < n → a ≢ zeroPlace i) → getD (Model.restored n m w) a 0 ≡ getD m a 0
 unfolding Turn.restored
@@ -72,20 +71,20 @@ save-kept m p g = go (eqb p 0) refl
     go : (b : Bool) → eqb p 0 ≡ b → Kept m (save m p)
     go true e = rw e (kept-refl m)
     go false e = let pg = g (eqb-false p 0 e) in rw e (record {
-      size = kept-size 19 m p (Model.onPage0 m);
-      fixed = λ a i j. kept-frame 19 m p (Model.onPage0 m) a (λ k l. omega (arith, pg));
-      words = λ q j h i. kept-frame 19 m p (Model.onPage0 m) (place q j) (λ k l. omega arith);
-      state = λ q h. kept-frame 19 m p (Model.onPage0 m) (place q Map.state) (λ k l. omega arith);
+      size = kept-size keptCount m p (Model.onPage0 m);
+      fixed = λ a i j. kept-frame keptCount m p (Model.onPage0 m) a (λ k l. omega (arith, pg));
+      words = λ q j h i. kept-frame keptCount m p (Model.onPage0 m) (place q j) (λ k l. omega arith);
+      state = λ q h. kept-frame keptCount m p (Model.onPage0 m) (place q Map.state) (λ k l. omega arith);
     })
 
 load-kept : (m : List ℕ) (p : ℕ) → Kept m (load m p)
 unfolding Turn.load
 load-kept m p =
     either (Kept m) (eqb p 0) (kept-refl m) (record {
-      size = restored-size 19 m (Model.keptOn m p);
-      fixed = λ a i j. restored-frame 19 m (Model.keptOn m p) a (λ k l. omega (arith, zero-low k l));
-      words = λ q j h i. restored-frame 19 m (Model.keptOn m p) (place q j) (λ k l. omega (arith, h, zero-low k l));
-      state = λ q h. restored-frame 19 m (Model.keptOn m p) (place q Map.state) (λ k l. omega (arith, h, zero-low k l));
+      size = restored-size keptCount m (Model.keptOn m p);
+      fixed = λ a i j. restored-frame keptCount m (Model.keptOn m p) a (λ k l. omega (arith, zero-low k l));
+      words = λ q j h i. restored-frame keptCount m (Model.keptOn m p) (place q j) (λ k l. omega (arith, h, zero-low k l));
+      state = λ q h. restored-frame keptCount m (Model.keptOn m p) (place q Map.state) (λ k l. omega (arith, h, zero-low k l));
     })
 
 -- ---- the choice
@@ -94,7 +93,7 @@ module _ (m : List ℕ) where
   st p = word m p Map.state
 
   abbrev pr : ℕ → ℕ
-  pr p = word m p label / 16
+  pr p = priority m p
 
   -- 0 is below all
   pub rank : ℕ → ℕ
@@ -111,27 +110,27 @@ module _ (m : List ℕ) where
   -- one step: either p is taken, or b stays and p is not ready or not above it
   pub record Taken (b p t : ℕ) : Type 0 where
     pub is : t ≡ p
-    pub ready : suc (st p) ≤ 64
+    pub ready : suc (st p) ≤ waitBit
     pub over : rank b ≤ pr p
 
   pub record Stays (b p t : ℕ) : Type 0 where
     pub is : t ≡ b
-    pub over : suc (st p) ≤ 64 → pr p ≤ rank b
+    pub over : suc (st p) ≤ waitBit → pr p ≤ rank b
 
   better-cases : (b p : ℕ) → Taken b p (better m b p) ⊎ Stays b p (better m b p)
   unfolding Turn.better Turn.above
-  better-cases b p = go (ltb (st p) 64) (eqb b 0) (ltb (pr b) (pr p)) refl refl refl
+  better-cases b p = go (ltb (st p) waitBit) (eqb b 0) (ltb (pr b) (pr p)) refl refl refl
     where
-      go : (x y z : Bool) → ltb (st p) 64 ≡ x → eqb b 0 ≡ y → ltb (pr b) (pr p) ≡ z → Taken b p (better m b p) ⊎ Stays b p (better m b p)
-      go false y z e f g = inr (record { is = rw e; over = λ h. let d = ltb-false (st p) 64 e in absurd (omega arith) })
+      go : (x y z : Bool) → ltb (st p) waitBit ≡ x → eqb b 0 ≡ y → ltb (pr b) (pr p) ≡ z → Taken b p (better m b p) ⊎ Stays b p (better m b p)
+      go false y z e f g = inr (record { is = rw e; over = λ h. let d = ltb-false (st p) waitBit e in absurd (omega arith) })
       go true true z e f g = inl (record {
         is = rw (e, f);
-        ready = let d = ltb-true (st p) 64 e in omega arith;
+        ready = let d = ltb-true (st p) waitBit e in omega arith;
         over = omega (arith, rank-zero b (eqb-true b 0 f));
       })
       go true false true e f g = inl (record {
         is = rw (e, f, g);
-        ready = let d = ltb-true (st p) 64 e in omega arith;
+        ready = let d = ltb-true (st p) waitBit e in omega arith;
         over = let d = ltb-true (pr b)
             (pr p) g in omega (arith, rank-of b (eqb-false b 0 f));
       })
@@ -145,9 +144,9 @@ module _ (m : List ℕ) where
 
   -- the whole list
   pub record Chosen (b : ℕ) (qs : List ℕ) (t : ℕ) : Type 0 where
-    pub from : (t ≡ b) ⊎ ((1 ≤ count t qs) × (suc (st t) ≤ 64))
+    pub from : (t ≡ b) ⊎ ((1 ≤ count t qs) × (suc (st t) ≤ waitBit))
     pub over : rank b ≤ rank t
-    pub top : (p : ℕ) → 1 ≤ count p qs → suc (st p) ≤ 64 → pr p ≤ rank t
+    pub top : (p : ℕ) → 1 ≤ count p qs → suc (st p) ≤ waitBit → pr p ≤ rank t
 
   fold-cons : (b q : ℕ) (qs : List ℕ) → fold (better m) b (q ∷ qs) ≡ fold (better m) (better m b q) qs
   unfolding Turn.fold
@@ -168,12 +167,12 @@ module _ (m : List ℕ) where
         top = λ p h c. at p h c (hit-or p q);
       }
         where
-          pick : let c = better m b q in let t = fold (better m) c qs in (t ≡ c) ⊎ ((1 ≤ count t qs) × (suc (st t) ≤ 64))
-              → (t ≡ b) ⊎ ((1 ≤ count t (q ∷ qs)) × (suc (st t) ≤ 64))
+          pick : let c = better m b q in let t = fold (better m) c qs in (t ≡ c) ⊎ ((1 ≤ count t qs) × (suc (st t) ≤ waitBit))
+              → (t ≡ b) ⊎ ((1 ≤ count t (q ∷ qs)) × (suc (st t) ≤ waitBit))
           pick (inl e) = inr (rw (e, s .is) (omega (arith, hit-self q), s .ready))
           pick (inr i) = inr (omega arith, i .1)
 
-          at : (p : ℕ) → 1 ≤ count p (q ∷ qs) → suc (st p) ≤ 64 → (p ≡ q) ⊎ (p ≢ q) → pr p ≤ rank (fold (better m) (better m b q) qs)
+          at : (p : ℕ) → 1 ≤ count p (q ∷ qs) → suc (st p) ≤ waitBit → (p ≡ q) ⊎ (p ≢ q) → pr p ≤ rank (fold (better m) (better m b q) qs)
           at p h c (inl e) = rw e (omega (arith, r .over, rank-of q (nz q (omega (arith, hit-self q))), ap rank (s .is)))
           at p h c (inr n) = r .top p (omega (arith, hit-other p q n)) c
       go (inr s) r = record {
@@ -182,12 +181,12 @@ module _ (m : List ℕ) where
         top = λ p h c. at p h c (hit-or p q);
       }
         where
-          pick : let c = better m b q in let t = fold (better m) c qs in (t ≡ c) ⊎ ((1 ≤ count t qs) × (suc (st t) ≤ 64))
-              → (t ≡ b) ⊎ ((1 ≤ count t (q ∷ qs)) × (suc (st t) ≤ 64))
+          pick : let c = better m b q in let t = fold (better m) c qs in (t ≡ c) ⊎ ((1 ≤ count t qs) × (suc (st t) ≤ waitBit))
+              → (t ≡ b) ⊎ ((1 ≤ count t (q ∷ qs)) × (suc (st t) ≤ waitBit))
           pick (inl e) = inl (e ∙ s .is)
           pick (inr i) = inr (omega arith, i .1)
 
-          at : (p : ℕ) → 1 ≤ count p (q ∷ qs) → suc (st p) ≤ 64 → (p ≡ q) ⊎ (p ≢ q) → pr p ≤ rank (fold (better m) (better m b q) qs)
+          at : (p : ℕ) → 1 ≤ count p (q ∷ qs) → suc (st p) ≤ waitBit → (p ≡ q) ⊎ (p ≢ q) → pr p ≤ rank (fold (better m) (better m b q) qs)
           at p h c (inl e) = rw e (let d = s .over (rw e at c) in omega (arith, r .over, ap rank (s .is)))
           at p h c (inr n) = r .top p (omega (arith, hit-other p q n)) c
 
@@ -231,12 +230,12 @@ module _ {m : List ℕ} {ps : List ℕ} {L : Lists} {W : View} {hs : List ℕ} {
   pub listed : processors m ≡ ps
   listed =
       let c = rw (link-procs, s .procs) at (b .mem .holds .rep processorList (in-procs ps, grant-low processorList (omega arith))) in
-      walk-chain 20 m 1 processorList ps c (omega (arith, ap length (s .procs), list-short s processorList (in-procs ps)))
+      walk-chain controlPages m listLink processorList ps c (omega (arith, ap length (s .procs), list-short s processorList (in-procs ps)))
 
   pub record Fits (t : ℕ) : Type 0 where
     pub listed : t ≢ 0 → 1 ≤ count t ps
-    pub ready : t ≢ 0 → suc (W .state t) ≤ 64
-    pub top : (p : ℕ) → 1 ≤ count p ps → suc (W .state p) ≤ 64 → W .label p / 16 ≤ rank m t
+    pub ready : t ≢ 0 → suc (W .state t) ≤ waitBit
+    pub top : (p : ℕ) → 1 ≤ count p ps → suc (W .state p) ≤ waitBit → upper (W .label p) ≤ rank m t
 
   pub state-at : (p : ℕ) → 1 ≤ count p ps → word m p Map.state ≡ W .state p
   state-at p h = b .mem .reads .words .state p (proc-page s p h)
@@ -244,16 +243,16 @@ module _ {m : List ℕ} {ps : List ℕ} {L : Lists} {W : View} {hs : List ℕ} {
   pub label-at : (p : ℕ) → 1 ≤ count p ps → word m p label ≡ W .label p
   label-at p h = b .mem .reads .words .label p (proc-page s p h)
 
-  stays-cases : (stays m r ≡ 0) ⊎ ((stays m r ≡ r) × (r ≢ 0) × (suc (W .state r) ≤ 64))
+  stays-cases : (stays m r ≡ 0) ⊎ ((stays m r ≡ r) × (r ≢ 0) × (suc (W .state r) ≤ waitBit))
   unfolding Turn.stays
-  stays-cases = go (eqb r 0) (ltb (word m r Map.state) 64) refl refl
+  stays-cases = go (eqb r 0) (ltb (word m r Map.state) waitBit) refl refl
     where
-      go : (x y : Bool) → eqb r 0 ≡ x → ltb (word m r Map.state) 64 ≡ y → (stays m r ≡ 0) ⊎ ((stays m r ≡ r) × (r ≢ 0) × (suc (W .state r) ≤ 64))
+      go : (x y : Bool) → eqb r 0 ≡ x → ltb (word m r Map.state) waitBit ≡ y → (stays m r ≡ 0) ⊎ ((stays m r ≡ r) × (r ≢ 0) × (suc (W .state r) ≤ waitBit))
       go true y e f = inl (rw e)
       go false false e f = inl (rw (e, f))
       go false true e f =
           let n = eqb-false r 0 e in
-          let d = ltb-true (word m r Map.state) 64 f in
+          let d = ltb-true (word m r Map.state) waitBit f in
           inr (rw (e, f), n, omega (arith, state-at r (running-in n)))
 
   fits-best : Fits (fold (better m) (stays m r) ps)
@@ -264,11 +263,11 @@ module _ {m : List ℕ} {ps : List ℕ} {L : Lists} {W : View} {hs : List ℕ} {
       t : ℕ
       t = fold (better m) (stays m r) ps
 
-      top : Chosen m (stays m r) ps t → (p : ℕ) → 1 ≤ count p ps → suc (W .state p) ≤ 64 → W .label p / 16 ≤ rank m t
+      top : Chosen m (stays m r) ps t → (p : ℕ) → 1 ≤ count p ps → suc (W .state p) ≤ waitBit → upper (W .label p) ≤ rank m t
       top c p h i = rw (← label-at p h) (c .top p h (omega (arith, state-at p h)))
 
-      go : (t ≡ stays m r) ⊎ ((1 ≤ count t ps) × (suc (word m t Map.state) ≤ 64))
-          → (stays m r ≡ 0) ⊎ ((stays m r ≡ r) × (r ≢ 0) × (suc (W .state r) ≤ 64)) → Chosen m (stays m r) ps t → Fits t
+      go : (t ≡ stays m r) ⊎ ((1 ≤ count t ps) × (suc (word m t Map.state) ≤ waitBit))
+          → (stays m r ≡ 0) ⊎ ((stays m r ≡ r) × (r ≢ 0) × (suc (W .state r) ≤ waitBit)) → Chosen m (stays m r) ps t → Fits t
       go (inl e) (inl z) c = record { listed = λ n. absurd (n (e ∙ z)); ready = λ n. absurd (n (e ∙ z)); top = top c }
       go (inl e) (inr y) c =
           let q : t ≡ r = e ∙ y .0 in
@@ -278,7 +277,7 @@ module _ {m : List ℕ} {ps : List ℕ} {L : Lists} {W : View} {hs : List ℕ} {
   best-stays : (t : ℕ) → t ≡ r → Fits t → Best ps W
   best-stays t e f = record { ready = λ n. rw (← e) (f .ready (λ z. n (sym e ∙ z))); top = λ p h c. go p (f .top p h c) (hit-or r 0) }
     where
-      go : (p : ℕ) → W .label p / 16 ≤ rank m t → (r ≡ 0) ⊎ (r ≢ 0) → W .label p / 16 ≤ W .low runningLabel / 16
+      go : (p : ℕ) → upper (W .label p) ≤ rank m t → (r ≡ 0) ⊎ (r ≢ 0) → upper (W .label p) ≤ upper (W .low runningLabel)
       go p h (inl z) = omega (arith, rank-zero m t (e ∙ z))
       go p h (inr n) = rw (b .facts .runs .tag n, ← label-at r (running-in n)) (rw (rank-of m r n) at (rw e at h))
 
@@ -286,7 +285,7 @@ module _ {m : List ℕ} {ps : List ℕ} {L : Lists} {W : View} {hs : List ℕ} {
   unfolding put1
   best-new t w z n f = record { ready = f .ready; top = λ p h c. go p (f .top p h c) (hit-or t 0) }
     where
-      go : (p : ℕ) → W .label p / 16 ≤ rank m t → (t ≡ 0) ⊎ (t ≢ 0) → W .label p / 16 ≤ w / 16
+      go : (p : ℕ) → upper (W .label p) ≤ rank m t → (t ≡ 0) ⊎ (t ≢ 0) → upper (W .label p) ≤ upper w
       go p h (inl e) = omega (arith, rank-zero m t e)
       go p h (inr d) = rw (n d, ← label-at t (f .listed d)) (rw (rank-of m t d) at h)
 
@@ -342,7 +341,7 @@ module _ {m : List ℕ} {ps : List ℕ} {L : Lists} {W : View} {hs : List ℕ} {
   who-runs = rw (running-at, listed) (switched (fold (better m) (stays m r) ps) fits-best)
 
 -- "Who runs, after each call": the invariant then holds whole
-pub who-inv : {m : List ℕ} {ps : List ℕ} {L : Lists} {W : View} (b : Base m ps L W [] 32) → (X : View) × Inv (whoRuns m) ps L X
+pub who-inv : {m : List ℕ} {ps : List ℕ} {L : Lists} {W : View} (b : Base m ps L W [] noOne) → (X : View) × Inv (whoRuns m) ps L X
 who-inv {W = W} b = let t = who-runs b in (withLow W (t .low), record { base = t .base; best = t .best })
 
 -- a step that leaves words 24 and 25 of page 7 leaves who runs
@@ -356,9 +355,9 @@ label-in b p h = rw (label-at b p h) (b .facts .names .range p h)
 
 -- ---- a well-formed memory where someone runs, who is ready
 pub record Busy (m : List ℕ) : Type 0 where
-  pub base : Base m (lists m processorList) (lists m) (view m) [] 32
+  pub base : Base m (lists m processorList) (lists m) (view m) [] noOne
   pub runs : 1 ≤ count (running m) (lists m processorList)
-  pub ready : word m (running m) Map.state < 64
+  pub ready : word m (running m) Map.state < waitBit
 
 pub busy : {m : List ℕ} → WellFormed m → running m ≢ 0 → Busy m
 busy w d = let i = invariant w in record { base = i .base; runs = running-in (i .base) d; ready = omega (arith, i .best .ready d) }

@@ -8,8 +8,10 @@ use native.Mathlib.Omega.{arith}
 use lib.ListN.{length, getD, getD-replicate, List·getD-eq-default}
 use lib.Dec.{ltb}
 use borrow.Author.Tests.{eq-eqb, ltb-true, ltb-false}
-use Rattle.model.specs.Map.{firstControl, freeList, freeSemaphore, memorySize, pageQueue, processorList}
-use Rattle.model.specs.Bytes.{running}
+use Rattle.model.specs.Map as Map
+use Rattle.model.specs.Map.{firstControl, firstName, firstPriority, freeList, freeSemaphore, grantFor, link, memorySize, pageQueue, pair, place}
+use Rattle.model.specs.Map.{processorList, waitIn, wordValues}
+use Rattle.model.specs.Bytes.{fresh, lists, makeNotice, name, putToWait, running, started, word}
 use Rattle.model.specs.Store.{bytes}
 use Rattle.model.specs.Fresh as Fresh
 use Rattle.model.specs.Fresh.{startable}
@@ -17,12 +19,11 @@ use Rattle.model.specs.Call as Call
 use Rattle.model.specs.Answer as Answer
 use Rattle.model.specs.Answer.{memoryOf}
 use Rattle.model.specs.Lists.{count, Lists, some}
-use Rattle.model.specs.Bytes.{fresh, started, lists, putToWait, makeNotice}
 use Rattle.laws.specs.Chain.{Chain}
 use Rattle.laws.specs.Queues.{upd, upd-same, upd-other}
 use Rattle.laws.specs.Uses.{proc-page}
 use Rattle.laws.specs.Places.{in-free, in-asking, grant-low}
-use Rattle.laws.specs.Inv.{View, view, Message, Base}
+use Rattle.laws.specs.Inv.{Base, Message, View, noOne, view}
 use Rattle.laws.specs.Judged.{invariant, walked}
 use Rattle.laws.specs.Views.{retold}
 use Rattle.laws.specs.Cells.{chain0}
@@ -45,7 +46,7 @@ beyond a l = let h : length zeros ≤ a = omega (arith, zeros-size) in List·get
 pub zeros-small : Small zeros
 zeros-small = record { at = λ a. go a (ltb a memorySize) refl }
   where
-    go : (a : ℕ) (c : Bool) → ltb a memorySize ≡ c → getD zeros a 0 < 256
+    go : (a : ℕ) (c : Bool) → ltb a memorySize ≡ c → getD zeros a 0 < wordValues
     go a true e = rw (getD-replicate {A = ℕ} memorySize a 0 0 (ltb-true a memorySize e)) (omega arith)
     go a false e = rw (beyond a (ltb-false a memorySize e)) (omega arith)
 
@@ -70,7 +71,7 @@ example-is = fresh-is (bytes .zeros) 16 5 zeros-size refl
 
 -- someone runs
 pub example-runs : running example ≡ firstControl
-example-runs = ap (λ (m : List ℕ). running m) example-is ∙ computed 16 5 .at248
+example-runs = ap (λ (m : List ℕ). running m) example-is ∙ computed 16 5 .runs
 
 -- the host may leave everything as it is
 pub example-host : Host example example
@@ -84,9 +85,9 @@ pub record InHand : Type 0 where
   pub view : View
   pub page : ℕ
   pub rest : List ℕ
-  pub base : Base memory procs lists view (page ∷ rest) 32
+  pub base : Base memory procs lists view (page ∷ rest) noOne
 
-example-base : Base example (lists example processorList) (lists example) (view example) [] 32
+example-base : Base example (lists example processorList) (lists example) (view example) [] noOne
 example-base = invariant (well example-sound) .base
 
 example-at : (a v : ℕ) → getD (started (bytes .zeros) 16 5) a 0 ≡ v → getD example a 0 ≡ v
@@ -101,7 +102,7 @@ record Dry (ps : List ℕ) (L : Lists) (W : View) : Type 0 where
   label : hand .view .label ≡ W .label
   state : hand .view .state ≡ W .state
 
-dry : (fs : List ℕ) {m : List ℕ} {ps : List ℕ} {L : Lists} {W : View} (x : ℕ) (rest : List ℕ) → Base m ps L W (x ∷ rest) 32 → L freeList ≡ fs → Dry ps L W
+dry : (fs : List ℕ) {m : List ℕ} {ps : List ℕ} {L : Lists} {W : View} (x : ℕ) (rest : List ℕ) → Base m ps L W (x ∷ rest) noOne → L freeList ≡ fs → Dry ps L W
 dry [] {m} {ps} {L} {W} x rest b e = record {
   hand = record { memory = m; procs = ps; lists = L; view = W; page = x; rest = rest; base = b };
   procs = refl;
@@ -126,7 +127,7 @@ first-free [] e =
     let c = chain0 (example-base .facts .sep) (example-base .mem) freeList
     (in-free (lists example processorList), grant-low freeList (omega arith)) (omega arith) in
     let z : getD example freeList 0 ≡ 0 = rw e at c in
-    absurd (omega (arith, z, example-at freeList 237 (computed 16 5 .at244)))
+    absurd (omega (arith, z, example-at freeList (firstControl + 1) (computed 16 5 .firstFree)))
 first-free (f ∷ fs) e =
     let t = dry fs f [] (take-free f fs example-base e) (upd-same (lists example) freeList fs) in
     record {
@@ -177,7 +178,7 @@ example-asked = go (first-free (lists example freeList) refl)
     r : 1 ≤ count firstControl (lists example processorList)
     r = rw example-runs at (running-in example-base (λ e. omega (arith, example-runs, e)))
 
-    ready : getD example (236 * 32 + 12) 0 % 128 / 64 ≡ 0
+    ready : waitIn (getD example (place firstControl Map.state) 0) ≡ 0
     ready = omega (arith, rw example-runs at (invariant (well example-sound) .best .ready (λ e. omega (arith, example-runs, e))))
 
     empty : lists example pageQueue ≡ []
@@ -185,14 +186,16 @@ example-asked = go (first-free (lists example freeList) refl)
         nil (lists example pageQueue) (chain0 (example-base .facts .sep) (example-base .mem) pageQueue
         (in-asking (lists example processorList), grant-low pageQueue (omega arith)) (omega arith))
       where
-        nil : (xs : List ℕ) → Chain example 0 pageQueue xs → xs ≡ []
+        nil : (xs : List ℕ) → Chain example link pageQueue xs → xs ≡ []
         nil [] c = refl
-        nil (x ∷ xs) c = absurd (omega (arith, c .0, c .1, example-at pageQueue 0 (computed 16 5 .at246)))
+        nil (x ∷ xs) c = absurd (omega (arith, c .0, c .1, example-at pageQueue 0 (computed 16 5 .asks)))
 
-    bare : length (lists example (320 + getD example (236 * 32 + 7) 0 % 16)) ≡ 0
+    bare : length (lists example (grantFor (name example firstControl))) ≡ 0
     bare =
-        let l : getD example 7559 0 ≡ 17 = example-at 7559 17 (computed 16 5 .at7559) in
-        rw l (ap length (example-base .mem .holds .grant 1 (omega arith)) ∙ ap (λ (x : ℕ). length (some x)) (example-at 321 0 (computed 16 5 .at321)))
+        let l : word example firstControl Map.label ≡ pair firstPriority firstName =
+        example-at (place firstControl Map.label) (pair firstPriority firstName) (computed 16 5 .label) in
+        rw l (ap length (example-base .mem .holds .grant firstName (omega arith))
+        ∙ ap (λ (x : ℕ). length (some x)) (example-at (grantFor firstName) 0 (computed 16 5 .grant)))
 
     go : Dry (lists example processorList) (lists example) (view example) → InHandAsked
     go t =
@@ -201,20 +204,20 @@ example-asked = go (first-free (lists example freeList) refl)
         let hp : 1 ≤ count firstControl (h .procs) = rw (t .procs) r in
         let b2 = wait-base freeSemaphore firstControl 0 b (page-sem (h .procs)) hp (rw (t .state) ready) (record {
           line = λ k i e. absurd (omega arith);
-          page = λ e. (refl, ap length (t .none), rw (t .label) (rw (t .others (320 + getD example (236 * 32 + 7) 0 % 16) (omega arith)) bare));
+          page = λ e. (refl, ap length (t .none), rw (t .label) (rw (t .others (grantFor (name example firstControl)) (omega arith)) bare));
           own = λ y i e. let p = proc-page (b .facts .sep) y i in absurd (omega arith);
         }) in
         record {
           hand = record {
-            memory = putToWait (h .memory) freeSemaphore 236 0;
+            memory = putToWait (h .memory) freeSemaphore firstControl 0;
             procs = h .procs;
-            lists = upd (h .lists) pageQueue (h .lists 246 ++ 236 ∷ []);
-            view = waiting (h .view) freeSemaphore 236 0;
+            lists = upd (h .lists) pageQueue (h .lists pageQueue ++ firstControl ∷ []);
+            view = waiting (h .view) freeSemaphore firstControl 0;
             page = h .page;
             rest = h .rest;
             base = b2;
           };
           waiter = firstControl;
-          asks = walked b2 pageQueue (in-asking (h .procs)) ∙ upd-same (h .lists) pageQueue (h .lists 246 ++ 236 ∷ [])
-              ∙ ap (λ (l : List ℕ). l ++ 236 ∷ []) (t .others pageQueue (omega arith) ∙ empty);
+          asks = walked b2 pageQueue (in-asking (h .procs)) ∙ upd-same (h .lists) pageQueue (h .lists pageQueue ++ firstControl ∷ [])
+              ∙ ap (λ (l : List ℕ). l ++ firstControl ∷ []) (t .others pageQueue (omega arith) ∙ empty);
         }

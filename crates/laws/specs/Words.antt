@@ -10,13 +10,15 @@ use lib.ListN.{length, getD, set}
 use lib.Seq.{getD-set-same, getD-set-other, set-out}
 use lib.Dec.{eqb, ltb}
 use borrow.Author.Tests.{eqb-false, ltb-true, ltb-false}
-use Rattle.model.specs.Map.{c0, c1, c2, c3, clockLine, codeWord, divider, firstControl, freeList, freeSemaphore, grantFor, guardedLast}
-use Rattle.model.specs.Map.{headerOf, highLr, interrupts, label, link, lowLr, memorySize, note, ownSemaphore, pageQueue, place, processorList}
-use Rattle.model.specs.Map.{q1, q2, reason, runningLabel, runningPage, semaphoreOf, size, state, text, wordA, wordS}
+use Rattle.model.specs.Map.{builtInCodes, c0, c0Interrupt, c1, c1End, c1Interrupt, c2, c2End, c2Interrupt, c3, c3End, c3Interrupt, clockLine}
+use Rattle.model.specs.Map.{codeWord, controlPages, divider, firstClassed, firstControl, firstName, firstPriority, firstUnused, freeList}
+use Rattle.model.specs.Map.{freeSemaphore, grantFor, guardedLast, headWords, headerOf, high, highLr, interruptPage, interrupts, keeps, keptCount}
+use Rattle.model.specs.Map.{kernelPages, label, lastOuter, link, listLink, low, lowLr, lower, memorySize, note, notice, ownSemaphore, pageQueue}
+use Rattle.model.specs.Map.{pageSize, pair, place, processorList, q1, q2, reason, runningLabel, runningPage, semaphoreOf, size, state, text}
+use Rattle.model.specs.Map.{threeFlags, topped, upper, waitBit, wordA, wordS, wordValues, zeroPlace}
 use Rattle.model.specs.Address.{wrapped}
-use Rattle.model.specs.Bytes.{name, running, word}
+use Rattle.model.specs.Bytes.{lengthOf, name, running, word}
 use Rattle.model.specs.declared.Registers.{Registers}
-use Rattle.model.specs.Map.{threeFlags}
 use Rattle.model.specs.Address as Address
 use Rattle.model.specs.Queue as Queue
 use Rattle.model.specs.Queue.{first}
@@ -34,20 +36,21 @@ use Rattle.model.specs.Turn as Turn
 use Rattle.model.specs.Turn.{fold}
 use Rattle.model.specs.Fresh as Fresh
 use Rattle.model.specs.Bytes as Model
+use Rattle.model.specs.Instruction.{builtIn}
 use Rattle.laws.specs.Count.{hit-or}
 
 pub record Small (m : List ℕ) : Type 0 where
-  pub at : (a : ℕ) → getD m a 0 < 256
+  pub at : (a : ℕ) → getD m a 0 < wordValues
 
 -- either arm of a test
 pub either : {A : Type 0} (P : A → Type 0) (c : Bool) {x y : A} → P x → P y → P (cond c x y)
 either P true p q = p
 either P false p q = q
 
-pub small-set : {m : List ℕ} (a v : ℕ) → v < 256 → Small m → Small (set m a v)
+pub small-set : {m : List ℕ} (a v : ℕ) → v < wordValues → Small m → Small (set m a v)
 small-set {m} a v l s = record { at = λ b. go b (hit-or b a) (ltb a (length m)) refl }
   where
-    go : (b : ℕ) → (b ≡ a) ⊎ (b ≢ a) → (c : Bool) → ltb a (length m) ≡ c → getD (set m a v) b 0 < 256
+    go : (b : ℕ) → (b ≡ a) ⊎ (b ≢ a) → (c : Bool) → ltb a (length m) ≡ c → getD (set m a v) b 0 < wordValues
     go b (inl e) true f = rw (e, getD-set-same m a v 0 (ltb-true a (length m) f)) l
     go b (inl e) false f = rw (set-out m a v (ltb-false a (length m) f)) (s .at b)
     go b (inr n) c f = rw (getD-set-other m a b v 0 n) (s .at b)
@@ -66,34 +69,34 @@ small-zeroed (suc n) a s = small-zeroed n a (small-set (wrapped a n) 0 (omega ar
 -- all of a list are below 256
 abbrev pub Few : List ℕ → Type 0
 Few [] = Unit {0}
-Few (x ∷ xs) = (x < 256) × Few xs
+Few (x ∷ xs) = (x < wordValues) × Few xs
 
 pub few-walk : (n : ℕ) {m : List ℕ} (k a : ℕ) → Small m → Few (Model.walk n m k a)
 unfolding Queue.walk
 few-walk zero k a s = tt
-few-walk (suc n) {m} k a s = go (eqb (getD m a 0) 0) refl (few-walk n k (getD m a 0 * 32 + k) s)
+few-walk (suc n) {m} k a s = go (eqb (getD m a 0) 0) refl (few-walk n k (place (getD m a 0) k) s)
   where
-    go : (c : Bool) → eqb (getD m a 0) 0 ≡ c → Few (Model.walk n m k (getD m a 0 * 32 + k)) → Few (Model.walk (suc n) m k a)
+    go : (c : Bool) → eqb (getD m a 0) 0 ≡ c → Few (Model.walk n m k (place (getD m a 0) k)) → Few (Model.walk (suc n) m k a)
     go true e ih = let q : Model.walk (suc n) m k a ≡ [] = rw (e, Queue.walk) in rw q tt
-    go false e ih = let q : Model.walk (suc n) m k a ≡ getD m a 0 ∷ Model.walk n m k (getD m a 0 * 32 + k) = rw (e, Queue.walk) in rw q (s .at a, ih)
+    go false e ih = let q : Model.walk (suc n) m k a ≡ getD m a 0 ∷ Model.walk n m k (place (getD m a 0) k) = rw (e, Queue.walk) in rw q (s .at a, ih)
 
-pub few-first : (t : ℕ → Bool) (xs : List ℕ) → Few xs → first t xs < 256
+pub few-first : (t : ℕ → Bool) (xs : List ℕ) → Few xs → first t xs < wordValues
 unfolding Queue.first
 few-first t [] f = omega arith
 few-first t (x ∷ xs) f = go (t x) refl (few-first t xs (f .1))
   where
-    go : (c : Bool) → t x ≡ c → first t xs < 256 → first t (x ∷ xs) < 256
+    go : (c : Bool) → t x ≡ c → first t xs < wordValues → first t (x ∷ xs) < wordValues
     go true e ih = rw (e, Queue.first) (f .0)
     go false e ih = rw (e, Queue.first) ih
 
 module _ {m : List ℕ} (s : Small m) where
-  pub few-page : (n : ℕ) → Model.pageOf m n < 256
-  few-page n = few-first (Model.isNamed m n) (Model.processors m) (few-walk 20 1 processorList s)
+  pub few-page : (n : ℕ) → Model.pageOf m n < wordValues
+  few-page n = few-first (Model.isNamed m n) (Model.processors m) (few-walk controlPages listLink processorList s)
 
-  pub few-queue : (t : ℕ → Bool) (h : ℕ) → first t (Model.queue m h) < 256
-  few-queue t h = few-first t (Model.queue m h) (few-walk 20 0 h s)
+  pub few-queue : (t : ℕ → Bool) (h : ℕ) → first t (Model.queue m h) < wordValues
+  few-queue t h = few-first t (Model.queue m h) (few-walk controlPages link h s)
 
-  pub small-join : (h k p : ℕ) → p < 256 → Small (Model.join m h k p)
+  pub small-join : (h k p : ℕ) → p < wordValues → Small (Model.join m h k p)
   unfolding Queue.join
   small-join h k p l = small-set _ p l (small-set (place p k) 0 (omega arith) s)
 
@@ -119,15 +122,15 @@ module _ {m : List ℕ} (s : Small m) where
   small-advance n = small-lr (running m) ((Model.lr m + n) % memorySize)
 
 -- ---- waiting
-small-enqueue : {m : List ℕ} → Small m → (a p : ℕ) → p < 256 → Small (Model.enqueue m a p)
+small-enqueue : {m : List ℕ} → Small m → (a p : ℕ) → p < wordValues → Small (Model.enqueue m a p)
 unfolding Wait.enqueue
-small-enqueue s a p l = small-join (small-set a _ (omega arith) s) (a + 1) 0 p l
+small-enqueue s a p l = small-join (small-set a _ (omega arith) s) (a + 1) link p l
 
 small-unqueue : {m : List ℕ} → Small m → (a p : ℕ) → Small (Model.unqueue m a p)
 unfolding Wait.unqueue
-small-unqueue s a p = small-leave (small-set a _ (omega arith) s) (a + 1) 0 p
+small-unqueue s a p = small-leave (small-set a _ (omega arith) s) (a + 1) link p
 
-pub small-wait : {m : List ℕ} → Small m → (a p w : ℕ) → p < 256 → w < 256 → Small (Model.putToWait m a p w)
+pub small-wait : {m : List ℕ} → Small m → (a p w : ℕ) → p < wordValues → w < wordValues → Small (Model.putToWait m a p w)
 unfolding Wait.putToWait
 small-wait s a p w l u = small-enqueue (small-set (place p reason) w u (small-set (place p state) _ (omega (arith, s .at (place p state))) s)) a p l
 
@@ -141,9 +144,9 @@ small-wake s a p =
 pub small-registers : {m : List ℕ} → Small m → (p : ℕ) (r : Registers) → Small (Model.setRegistersOf m p r)
 unfolding Processor.setRegistersOf Processor.setFlagsLr
 small-registers {m} s p r =
-    let t2 = small-set (place p wordS) (r .s % 256) (omega arith) (small-set (place p wordA) (r .a % 256) (omega arith) s) in
-    let t3 = small-set (place p highLr) (threeFlags (r .p) (r .z) (r .ci) + r .lr / 256 % 32) (omega arith) t2 in
-    let t4 = small-set (place p lowLr) (r .lr % 256) (omega arith) t3 in
+    let t2 = small-set (place p wordS) (low (r .s)) (omega arith) (small-set (place p wordA) (low (r .a)) (omega arith) s) in
+    let t3 = small-set (place p highLr) (threeFlags (r .p) (r .z) (r .ci) + high (r .lr)) (omega arith) t2 in
+    let t4 = small-set (place p lowLr) (low (r .lr)) (omega arith) t3 in
     small-set (place p state) _ (omega (arith, t4 .at (place p state))) t4
 
 pub small-back : {m : List ℕ} → Small m → (p : ℕ) (r : Registers) → Small (Model.handBack m p r)
@@ -153,51 +156,51 @@ small-back s p r = small-set (place p state) _ (omega arith) (small-registers s 
 -- ---- pages
 pub small-free : {m : List ℕ} → Small m → (q : ℕ) → Small (Model.takeFree m q)
 unfolding Page.takeFree
-small-free s q = small-leave (small-set freeSemaphore _ (omega arith) s) freeList 0 q
+small-free s q = small-leave (small-set freeSemaphore _ (omega arith) s) freeList link q
 
 -- a page taken, and the memory without it
 pub record Light (t : Taken (List ℕ)) : Type 0 where
   pub page : ℕ
   pub memory : List ℕ
   pub is : t ≡ took page memory
-  pub few : page < 256
+  pub few : page < wordValues
   pub small : Small memory
 
-light : {m : List ℕ} (q : ℕ) → q < 256 → Small m → Light (took q m)
+light : {m : List ℕ} (q : ℕ) → q < wordValues → Small m → Light (took q m)
 light {m} q l s = record { page = q; memory = m; is = refl; few = l; small = s }
 
 pub small-take : {m : List ℕ} → Small m → (p : ℕ) → Light (Model.takePage m p)
 unfolding Page.takePage Page.firstFree
 small-take {m} s p =
-    let a = 320 + name m p in
+    let a = grantFor (name m p) in
     either Light (eqb (getD m a 0) 0)
     (either Light (eqb (getD m freeList 0) 0) (light 0 (omega arith) s) (light (getD m freeList 0) (s .at freeList) (small-free s (getD m freeList 0))))
     (light (getD m a 0) (s .at a) (small-set a 0 (omega arith) s))
 
-pub small-give : {m : List ℕ} → Small m → (q : ℕ) → q < 256 → Small (Model.giveBack m q)
+pub small-give : {m : List ℕ} → Small m → (q : ℕ) → q < wordValues → Small (Model.giveBack m q)
 unfolding Page.giveBack Page.freePage Page.grantPage
 small-give {m} s q l =
-    either Small (eqb (getD m pageQueue 0) 0) (small-join (small-set freeSemaphore _ (omega arith) s) freeList 0 q l)
+    either Small (eqb (getD m pageQueue 0) 0) (small-join (small-set freeSemaphore _ (omega arith) s) freeList link q l)
     (small-wake (small-set _ q l s) freeSemaphore (getD m pageQueue 0))
 
 -- ---- mail
-pub small-deliver : {m : List ℕ} → Small m → (p q : ℕ) → q < 256 → Small (Model.deliver m p q)
+pub small-deliver : {m : List ℕ} → Small m → (p q : ℕ) → q < wordValues → Small (Model.deliver m p q)
 unfolding Mail.deliver Mail.heard
 small-deliver {m} s p q l =
-    let t = small-join s (place p q1) 0 q l in
-    either Small (Model.awaits (Model.join m (place p q1) 0 q) p q) (small-wake t (place p ownSemaphore) p) t
+    let t = small-join s (place p q1) link q l in
+    either Small (Model.awaits (Model.join m (place p q1) link q) p q) (small-wake t (place p ownSemaphore) p) t
 
 pub small-notice : {m : List ℕ} → Small m → (q n f : ℕ) → n < 16 → f < 16 → Small (Model.makeNotice m q n f)
 unfolding Mail.makeNotice
-small-notice s q n f l u = small-set (place q size) 128 (omega arith) (small-set (place q note) (n * 16 + f) (omega arith) s)
+small-notice s q n f l u = small-set (place q size) notice (omega arith) (small-set (place q note) (pair n f) (omega arith) s)
 
-pub small-message : {m : List ℕ} → Small m → (q f a l : ℕ) → f < 16 → l < 256 → Small (Model.writeMessage m q f a l)
+pub small-message : {m : List ℕ} → Small m → (q f a l : ℕ) → f < 16 → l < wordValues → Small (Model.writeMessage m q f a l)
 unfolding Mail.writeMessage
 small-message s q f a l i j = small-copy l a (place q text) (small-set (place q size) l j (small-set (place q note) _ (omega arith) s))
 
-pub small-move : {m : List ℕ} → Small m → (p q : ℕ) → q < 256 → Small (Model.move m p q)
+pub small-move : {m : List ℕ} → Small m → (p q : ℕ) → q < wordValues → Small (Model.move m p q)
 unfolding Mail.move
-small-move s p q l = small-join (small-leave s (place p q1) 0 q) (place p q2) 0 q l
+small-move s p q l = small-join (small-leave s (place p q1) link q) (place p q2) link q l
 
 -- "Q1 messages tested, the found one too, go to Q2 in order": what the first of Q1, moved, keeps, testing keeps
 pub record Tried (G : List ℕ → Type 0) (t : Tested (List ℕ)) : Type 0 where
@@ -234,54 +237,54 @@ small-test k {m} p n f s = test-kept Small p (λ x t d. small-move t p (word x p
 pub small-out : {m : List ℕ} → Small m → (q a : ℕ) → Small (Model.copyOut m q a)
 unfolding Mail.copyOut
 small-out {m} s q a =
-    small-copy (word m q size % 128) (place q text) (wrapped a 3)
+    small-copy (lengthOf m q) (place q text) (wrapped a headWords)
     (small-set (wrapped a 2) _ (omega arith) (small-set (wrapped a 1) _ (omega arith) (small-set a _ (omega (arith, s .at (place q note))) s)))
 
 -- ---- deleting
 pub small-unlisted : {m : List ℕ} → Small m → (p : ℕ) → Small (Model.unlisted m p)
 unfolding Delete.unlisted Wait.leaveWait
 small-unlisted {m} s p =
-    small-leave (either Small (Model.queued m (Model.seat interrupts m p) p) (small-unqueue s (Model.seat interrupts m p) p) s) processorList 1 p
+    small-leave (either Small (Model.queued m (Model.seat interrupts m p) p) (small-unqueue s (Model.seat interrupts m p) p) s) processorList listLink p
 
-small-returned : {m : List ℕ} → Small m → (n q : ℕ) → n < 16 → q < 256 → Small (Model.returned m n q)
+small-returned : {m : List ℕ} → Small m → (n q : ℕ) → n < 16 → q < wordValues → Small (Model.returned m n q)
 unfolding Delete.returned Delete.noticed
 small-returned {m} s n q l u =
-    let f = word m q note % 16 in
-    let p = Model.pageOf m (word m q note / 16) in
-    either Small (eqb (word m q size) 128) (small-give s q u)
+    let f = lower (word m q note) in
+    let p = Model.pageOf m (upper (word m q note)) in
+    either Small (eqb (word m q size) notice) (small-give s q u)
     (either Small (eqb p 0) (small-give s q u) (small-deliver (small-notice s q n f l (omega arith)) p q u))
 
 small-emptied : (i : ℕ) {m : List ℕ} (n h : ℕ) → n < 16 → Small m → Small (Model.emptied i m n h)
 unfolding Delete.emptied
 small-emptied zero n h l s = s
 small-emptied (suc i) {m} n h l s =
-    go (eqb (getD m h 0) 0) refl (small-emptied i n h l (small-returned (small-leave s h 0 (getD m h 0)) n (getD m h 0) l (s .at h)))
+    go (eqb (getD m h 0) 0) refl (small-emptied i n h l (small-returned (small-leave s h link (getD m h 0)) n (getD m h 0) l (s .at h)))
   where
-    go : (c : Bool) → eqb (getD m h 0) 0 ≡ c → Small (Model.emptied i (Model.returned (Model.leave m h 0 (getD m h 0)) n (getD m h 0)) n h)
+    go : (c : Bool) → eqb (getD m h 0) 0 ≡ c → Small (Model.emptied i (Model.returned (Model.leave m h link (getD m h 0)) n (getD m h 0)) n h)
         → Small (Model.emptied (suc i) m n h)
     go true e ih = let q : Model.emptied (suc i) m n h ≡ m = rw (e, Delete.emptied) in rw q s
     go false e ih =
-        let q : Model.emptied (suc i) m n h ≡ Model.emptied i (Model.returned (Model.leave m h 0 (getD m h 0)) n (getD m h 0)) n h = rw (e, Delete.emptied)
+        let q : Model.emptied (suc i) m n h ≡ Model.emptied i (Model.returned (Model.leave m h link (getD m h 0)) n (getD m h 0)) n h = rw (e, Delete.emptied)
         in rw q ih
 
-pub small-delete : {m : List ℕ} → Small m → (p : ℕ) → p < 256 → Small (Model.delete m p)
+pub small-delete : {m : List ℕ} → Small m → (p : ℕ) → p < wordValues → Small (Model.delete m p)
 unfolding Delete.delete Delete.mailReturned Delete.grantReturned
 small-delete {m} s p l =
     let n = name m p in
-    let t = small-emptied 20 n (place p q1) (omega arith) (small-emptied 20 n (place p q2) (omega arith) (small-unlisted s p)) in
+    let t = small-emptied controlPages n (place p q1) (omega arith) (small-emptied controlPages n (place p q2) (omega arith) (small-unlisted s p)) in
     let m1 = Model.mailReturned (Model.unlisted m p) n p in
     small-give (either Small (eqb (getD m1 (grantFor n) 0) 0) t
     (small-give (small-set (grantFor n) 0 (omega arith) t) (getD m1 (grantFor n) 0) (t .at (grantFor n)))) p l
 
 -- ---- interrupts
-small-struck : {m : List ℕ} → Small m → (k c p : ℕ) → c < 256 → Small (Model.struck m k c p)
+small-struck : {m : List ℕ} → Small m → (k c p : ℕ) → c < wordValues → Small (Model.struck m k c p)
 unfolding Interrupt.struck Interrupt.classed
 small-struck {m} s k c p l =
     let t = small-wake s (semaphoreOf k) p in
-    either Small (eqb (word m p reason) 1) (either Small (ltb k 48) t (either Small (ltb 50 k) t (small-set (place p wordA) c l t)))
+    either Small (eqb (word m p reason) 1) (either Small (ltb k firstClassed) t (either Small (ltb lastOuter k) t (small-set (place p wordA) c l t)))
     (small-set (place p reason) _ (omega arith) s)
 
-small-from : (n : ℕ) {m : List ℕ} (k c p : ℕ) → c < 256 → Small m → Small (Model.servedFrom n m k c p)
+small-from : (n : ℕ) {m : List ℕ} (k c p : ℕ) → c < wordValues → Small m → Small (Model.servedFrom n m k c p)
 unfolding Interrupt.servedFrom
 small-from zero k c p l s = s
 small-from (suc n) {m} k c p l s = go (eqb p 0) refl (small-from n k c (word m p link) l (small-struck s k c p l))
@@ -292,9 +295,9 @@ small-from (suc n) {m} k c p l s = go (eqb p 0) refl (small-from n k c (word m p
         let q : Model.servedFrom (suc n) m k c p ≡ Model.servedFrom n (Model.struck m k c p) k c (word m p link) = rw (e, Interrupt.servedFrom)
         in rw q ih
 
-pub small-serve : {m : List ℕ} → Small m → (k c : ℕ) → c < 256 → Small (Model.serve m k c)
+pub small-serve : {m : List ℕ} → Small m → (k c : ℕ) → c < wordValues → Small (Model.serve m k c)
 unfolding Interrupt.serve
-small-serve {m} s k c l = small-from 20 k c (getD m (headerOf k) 0) l s
+small-serve {m} s k c l = small-from controlPages k c (getD m (headerOf k) 0) l s
 
 small-turns : {m : List ℕ} → Small m → (c k : ℕ) → Small (Model.turns m c k)
 unfolding Interrupt.turns
@@ -306,58 +309,59 @@ small-counts s c = small-set c _ (omega arith) s
 
 small-c3 : {m : List ℕ} → Small m → Small (Model.c3Counts m)
 unfolding Interrupt.c3Counts
-small-c3 {m} s = either Small (Model.ends m c3 60) (small-turns s c3 interrupts) (small-counts s c3)
+small-c3 {m} s = either Small (Model.ends m c3 c3End) (small-turns s c3 c3Interrupt) (small-counts s c3)
 
 small-c2 : {m : List ℕ} → Small m → Small (Model.c2Counts m)
 unfolding Interrupt.c2Counts
-small-c2 {m} s = either Small (Model.ends m c2 60) (small-c3 (small-turns s c2 53)) (small-counts s c2)
+small-c2 {m} s = either Small (Model.ends m c2 c2End) (small-c3 (small-turns s c2 c2Interrupt)) (small-counts s c2)
 
 small-c1 : {m : List ℕ} → Small m → Small (Model.c1Counts m)
 unfolding Interrupt.c1Counts
-small-c1 {m} s = either Small (Model.ends m c1 10) (small-c2 (small-turns s c1 52)) (small-counts s c1)
+small-c1 {m} s = either Small (Model.ends m c1 c1End) (small-c2 (small-turns s c1 c1Interrupt)) (small-counts s c1)
 
 small-c0 : {m : List ℕ} → Small m → Small (Model.c0Counts m)
 unfolding Interrupt.c0Counts
-small-c0 {m} s = either Small (Model.ends m c0 (getD m divider 0)) (small-c1 (small-turns s c0 51)) (small-counts s c0)
+small-c0 {m} s = either Small (Model.ends m c0 (getD m divider 0)) (small-c1 (small-turns s c0 c0Interrupt)) (small-counts s c0)
 
-pub small-delivered : {m : List ℕ} → Small m → (k c : ℕ) → c < 256 → Small (Model.delivered m k c)
+pub small-delivered : {m : List ℕ} → Small m → (k c : ℕ) → c < wordValues → Small (Model.delivered m k c)
 unfolding Interrupt.delivered
 small-delivered {m} s k c l = let t = small-serve s k c l in either Small (eqb k (getD m clockLine 0)) (small-c0 t) t
 
 -- ---- who runs
-small-kept : (n : ℕ) {m : List ℕ} (p : ℕ) (w : List ℕ) → ((i : ℕ) → getD w i 0 < 256) → Small m → Small (Model.kept n m p w)
+small-kept : (n : ℕ) {m : List ℕ} (p : ℕ) (w : List ℕ) → ((i : ℕ) → getD w i 0 < wordValues) → Small m → Small (Model.kept n m p w)
 unfolding Turn.kept
 small-kept zero p w f s = s
-small-kept (suc n) p w f s = small-kept n p w f (small-set (p * 32 + (13 + n)) (getD w n 0) (f n) s)
+small-kept (suc n) p w f s = small-kept n p w f (small-set (place p (keeps n)) (getD w n 0) (f n) s)
 
-small-restored : (n : ℕ) {m : List ℕ} (w : List ℕ) → ((i : ℕ) → getD w i 0 < 256) → Small m → Small (Model.restored n m w)
+small-restored : (n : ℕ) {m : List ℕ} (w : List ℕ) → ((i : ℕ) → getD w i 0 < wordValues) → Small m → Small (Model.restored n m w)
 unfolding Turn.restored
 small-restored zero w f s = s
 small-restored (suc n) w f s = small-restored n w f (small-set _ (getD w n 0) (f n) s)
 
-few-getD : (xs : List ℕ) → Few xs → (i : ℕ) → getD xs i 0 < 256
+few-getD : (xs : List ℕ) → Few xs → (i : ℕ) → getD xs i 0 < wordValues
 few-getD [] f i = omega arith
 few-getD (x ∷ xs) f zero = f .0
 few-getD (x ∷ xs) f (suc i) = few-getD xs (f .1) i
 
-few-19 : (f : ℕ → ℕ) → ((i : ℕ) → f i < 256) → Few (Turn.nineteen f)
-few-19 f h =
+few-nineteen : (f : ℕ → ℕ) → ((i : ℕ) → f i < wordValues) → Few (Turn.nineteen f)
+few-nineteen f h =
     (h 0, (h 1, (h 2, (h 3, (h 4, (h 5, (h 6, (h 7, (h 8, (h 9, (h 10, (h 11, (h 12, (h 13, (h 14, (h 15, (h 16, (h 17, (h 18, tt)))))))))))))))))))
 
-few-fold : {m : List ℕ} → Small m → (b : ℕ) (xs : List ℕ) → b < 256 → Few xs → fold (Model.better m) b xs < 256
+few-fold : {m : List ℕ} → Small m → (b : ℕ) (xs : List ℕ) → b < wordValues → Few xs → fold (Model.better m) b xs < wordValues
 unfolding Turn.fold Turn.better
 few-fold s b [] l f = l
 few-fold {m} s b (x ∷ xs) l f =
     few-fold s (Model.better m b x) xs
-    (either (λ (y : ℕ). y < 256) (ltb (word m x state) 64) (either (λ (y : ℕ). y < 256) (Model.above m b x) (f .0) l) l) (f .1)
+    (either (λ (y : ℕ). y < wordValues) (ltb (word m x state) waitBit) (either (λ (y : ℕ). y < wordValues) (Model.above m b x) (f .0) l) l) (f .1)
 
-pub few-chosen : {m : List ℕ} → Small m → Model.chosen m < 256
+pub few-chosen : {m : List ℕ} → Small m → Model.chosen m < wordValues
 unfolding Turn.chosen Turn.stays
 few-chosen {m} s =
     let r = running m in
     few-fold s (Model.stays m r) (Model.processors m)
-    (either (λ (y : ℕ). y < 256) (eqb r 0) (omega arith) (either (λ (y : ℕ). y < 256) (ltb (word m r state) 64) (s .at runningPage) (omega arith)))
-    (few-walk 20 1 processorList s)
+    (either (λ (y : ℕ). y < wordValues) (eqb r 0) (omega arith)
+    (either (λ (y : ℕ). y < wordValues) (ltb (word m r state) waitBit) (s .at runningPage) (omega arith)))
+    (few-walk controlPages listLink processorList s)
 
 pub small-turn : {m : List ℕ} → Small m → Small (Model.whoRuns m)
 unfolding Turn.whoRuns Turn.switch Turn.runs Turn.save Turn.load Turn.onPage0 Turn.keptOn
@@ -365,16 +369,15 @@ small-turn {m} s =
     let r = running m in
     let t = Model.chosen m in
     let s1 : Small (Model.save m r) = either Small (eqb r 0) s
-    (small-kept 19 r (Model.onPage0 m) (few-getD (Model.onPage0 m) (few-19 (λ i. getD m (cond (ltb i 3) (4 + i) (13 + i)) 0)
-    (λ i. s .at (cond (ltb i 3) (4 + i) (13 + i))))) s) in
+    (small-kept keptCount r (Model.onPage0 m) (few-getD (Model.onPage0 m) (few-nineteen (λ i. getD m (zeroPlace i) 0) (λ i. s .at (zeroPlace i)))) s) in
     let s2 : Small (Model.load (Model.save m r) t) = either Small (eqb t 0) s1
-    (small-restored 19 (Model.keptOn (Model.save m r) t) (few-getD (Model.keptOn (Model.save m r) t) (few-19 (λ i. getD (Model.save m r) (t * 32 + (13 + i))
-    0) (λ i. s1 .at (t * 32 + (13 + i))))) s1) in
+    (small-restored keptCount (Model.keptOn (Model.save m r) t) (few-getD (Model.keptOn (Model.save m r) t)
+    (few-nineteen (λ i. word (Model.save m r) t (keeps i)) (λ i. s1 .at (place t (keeps i))))) s1) in
     either Small (eqb r t) s
-    (small-set runningLabel _ (either (λ (y : ℕ). y < 256) (eqb t 0) (omega arith) (s2 .at (place t label))) (small-set runningPage t (few-chosen s) s2))
+    (small-set runningLabel _ (either (λ (y : ℕ). y < wordValues) (eqb t 0) (omega arith) (s2 .at (place t label))) (small-set runningPage t (few-chosen s) s2))
 
 -- ---- a fresh start
-small-chained : (n : ℕ) {m : List ℕ} (p : ℕ) → p + n < 256 → Small m → Small (Model.chained n m p)
+small-chained : (n : ℕ) {m : List ℕ} (p : ℕ) → p + n < wordValues → Small m → Small (Model.chained n m p)
 unfolding Fresh.chained
 small-chained zero p l s = s
 small-chained (suc n) p l s = small-chained n (p + 1) (omega arith) (small-set (place p link) (p + 1) (omega arith) s)
@@ -382,14 +385,15 @@ small-chained (suc n) p l s = small-chained n (p + 1) (omega arith) (small-set (
 small-built : (n : ℕ) {m : List ℕ} → Small m → Small (Model.allBuiltIn n m)
 unfolding Fresh.allBuiltIn
 small-built zero s = s
-small-built (suc n) s = small-built n (small-set (codeWord n) 32 (omega arith) s)
+small-built (suc n) s = small-built n (small-set (codeWord n) (topped builtIn 0) (omega arith) s)
 
-pub small-started : {m : List ℕ} → Small m → (line d : ℕ) → line < 256 → d < 256 → Small (Model.started m line d)
+pub small-started : {m : List ℕ} → Small m → (line d : ℕ) → line < wordValues → d < wordValues → Small (Model.started m line d)
 unfolding Fresh.started Fresh.freed Fresh.firstProcessor Fresh.timed Fresh.cleared Turn.runs
 small-started s line d l u =
-    let t = small-zeroed 640 guardedLast (small-zeroed 224 128 (small-zeroed 32 0 s)) in
-    let t2 = small-set divider d u (small-set clockLine line l t) in
-    let t3 = small-set processorList firstControl (omega arith) (small-back (small-set 7559 17 (omega arith) t2) firstControl _) in
-    let t4 = small-set runningLabel _ (t3 .at 7559) (small-set runningPage firstControl (omega arith) t3) in
-    let t5 = small-chained 18 237 (omega arith) (small-set freeSemaphore 19 (omega arith) (small-set freeList 237 (omega arith) t4)) in
-    small-set 288 1 (omega arith) (small-built 15 t5)
+    let t = small-zeroed (controlPages * pageSize) guardedLast (small-zeroed (kernelPages * pageSize) (place interruptPage 0) (small-zeroed pageSize 0 s)) in
+    let t1 = small-set divider d u (small-set clockLine line l t) in
+    let t2 = small-set (place firstControl label) (pair firstPriority firstName) (omega arith) t1 in
+    let t3 = small-set processorList firstControl (omega arith) (small-back t2 firstControl _) in
+    let t4 = small-set runningLabel _ (t3 .at (place firstControl label)) (small-set runningPage firstControl (omega arith) t3) in
+    let t5 = small-set freeSemaphore (controlPages - 1) (omega arith) (small-set freeList (firstControl + 1) (omega arith) t4) in
+    small-set firstUnused 1 (omega arith) (small-built builtInCodes (small-chained (controlPages - 2) (firstControl + 1) (omega arith) t5))
