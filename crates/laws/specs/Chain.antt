@@ -1,5 +1,5 @@
 -- Memory map: "A header holds the first page, a link the next, 0 ends." What a walk meets, what joining and leaving store, and what of a chain
--- a store elsewhere leaves. Page x has its link word k at x * 32 + k. Assumes nothing.
+-- a store elsewhere leaves. Page x links through its word k. Assumes nothing.
 use mathlib.Core.Path.{_≡_, refl, sym, ap, _∙_}
 use mathlib.Core.Logic.{_≢_, _⊎_, inl, inr}
 use mathlib.Core.List.{List, [], _∷_, _++_}

@@ -292,7 +292,7 @@ module _ {m : List ℕ} {ps : List ℕ} {L : Lists} {W : View} {hs : List ℕ} {
       join-is m listLink processorList q ps ch (omega (arith, ap length (s .procs), list-short s processorList (in-procs ps))) (omega (arith, pg))
       (off-page q listLink listLink ps (omega arith) (omega arith) out)
 
-  -- a word that is neither q's word 1, nor word 1 of a processor, nor 247
+  -- a word that is no list link, of q or of a processor, and not the head of the processor list
   same : (a : ℕ) → a ≢ place q listLink → a ≢ processorList → ((z : ℕ) → 1 ≤ count z ps → a ≢ place z listLink) → getD m2 a 0 ≡ getD m a 0
   same a n1 n7 nz = other m1 c q a (last-not listLink processorList ps a n7 nz) ∙ other m (place q listLink) 0 a n1
 

@@ -30,7 +30,7 @@ pub record View : Type 0 where
   pub label : ℕ → ℕ  -- word 7
   pub state : ℕ → ℕ  -- word 12
   pub sem : ℕ → ℕ  -- the word before the header of a wait queue
-  pub low : ℕ → ℕ  -- 239-243 and 248-251
+  pub low : ℕ → ℕ  -- on page 7 the clock line and the counters, and from the running page to the divider
   pub code : ℕ → ℕ  -- the first word of code c
   pub next : ℕ  -- word 0 of page 9
   pub entry : ℕ → ℕ  -- word i + 1 of page 9
