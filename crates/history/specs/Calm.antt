@@ -198,7 +198,7 @@ module _ {m : List ℕ} {ps : List ℕ} {L : Lists} {W : View} (s : Sep ps L) (x
       let v1 = word m p state / 128 * 128 + 64 + word m p state % 64 in
       let x1 = state-mem s x p v1 pg in
       let m1 = store m p state v1 in
-      let x2 = reason-mem s x1 p w pg in
+      let x2 = reason-mem s x1 p w hp in
       let m2 = store m1 p reason w in
       let v3 = (getD m2 a 0 + 255) % 256 in
       let x3 = sem-mem s x2 a v3 h in

@@ -25,7 +25,7 @@ notice-mail b n f l =
 
 -- ---- the delivery
 module _ {m : List ℕ} {ps : List ℕ} {L : Lists} {W : View} {hs : List ℕ} {g q : ℕ} (b : Base m ps L W (q ∷ hs) g) (p : ℕ) (hp : 1 ≤ count p ps)
-    (t : Message (W .note q) (W .reason q)) where
+    (t : Message (W .note q) (W .size q)) where
   -- the text of every page that is no processor's stays
   pub delivered-texts : Texted ps m (deliver m p q)
   delivered-texts = record {

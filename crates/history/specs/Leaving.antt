@@ -113,7 +113,8 @@ module _ (xs : List ℕ) (p : ℕ) (ys : List ℕ) {m : List ℕ} {L : Lists} {W
   left-mem : (X : View) × ((y : ℕ) → X .label y ≡ W .label y) × Mem (unlisted m p) (xs ++ ys) (upd (o .lists) processorList (xs ++ ys)) X
   unfolding Delete.unlisted
   left-mem =
-      (withWords (o .view) (put1 (o .view .note) p 0) (o .view .reason) (o .view .label) (o .view .state), o .label, shrink-mem xs p ys (o .sep) (o .mem))
+      let Z = o .view in
+      (withWords Z (put1 (Z .note) p 0) (put1 (Z .size) p (Z .reason p)) (Z .reason) (Z .label) (Z .state), o .label, shrink-mem xs p ys (o .sep) (o .mem))
 
   left-names : (y : ℕ) → Page y → Memory.word u y Map.label ≡ Memory.word m y Map.label
   left-names y g = left-mem .2 .reads .words .label y g ∙ left-mem .1 y ∙ sym (b .mem .reads .words .label y g)

@@ -197,11 +197,11 @@ module _ {m : List ℕ} {ps : List ℕ} {L : Lists} {W : View} {hs : List ℕ} {
   pub letter-sized : (p w x : ℕ) → 1 ≤ count p ps → 5 ≤ w → w ≤ 6 → 1 ≤ count x (L (place p w)) → Sized m x
   letter-sized p w x h u v i =
       let t = b .facts .mail p w h u v x i in
-      let pg = q-free (b .facts .sep) p w x u v h i .0 in
-      let e = b .mem .reads .words .reason x pg in
+      let n = q-free (b .facts .sep) p w x u v h i in
+      let e = b .mem .reads .words .size x (n .0) (n .1) in
       go (hit-or (word m x 2) 128) t e
     where
-      go : (word m x 2 ≡ 128) ⊎ (word m x 2 ≢ 128) → Message (W .note x) (W .reason x) → word m x 2 ≡ W .reason x → Sized m x
+      go : (word m x 2 ≡ 128) ⊎ (word m x 2 ≢ 128) → Message (W .note x) (W .size x) → word m x 2 ≡ W .size x → Sized m x
       go (inl z) t e = omega arith
       go (inr z) t e = let y = t .long (λ f. z (e ∙ f)) in omega arith
 

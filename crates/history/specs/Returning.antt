@@ -98,7 +98,7 @@ module _ {m : List ℕ} {ps : List ℕ} {L : Lists} {W : View} {hs : List ℕ} {
     waiter = λ p i. (omega arith, omega arith, omega arith);
   })
 
-  deliver-names : (p : ℕ) → 1 ≤ count p ps → Message (W .note q) (W .reason q) → word (deliver m p q) y label ≡ word m y label
+  deliver-names : (p : ℕ) → 1 ≤ count p ps → Message (W .note q) (W .size q) → word (deliver m p q) y label ≡ word m y label
   deliver-names p hp t = deliver-frame b p hp t (place y label) (λ j u. omega arith) (omega arith) (omega arith) (λ z i. omega arith)
 
 -- ---- one page

@@ -55,7 +55,7 @@ module _ {m : List ℕ} {ps : List ℕ} {L : Lists} {W : View} (b : Base m ps L 
   b2 : Base m2 ps K (retold m2 X q) (q ∷ []) 32
   b2 = hand-base q (in-hand b1) o b1
 
-  t2 : Message (retold m2 X q .note q) (retold m2 X q .reason q)
+  t2 : Message (retold m2 X q .note q) (retold m2 X q .size q)
   t2 = retold-letter b1 o letter
 
   abbrev m3 : List ℕ

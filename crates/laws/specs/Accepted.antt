@@ -129,7 +129,7 @@ judge-inv m size e =
             grant = λ k h. lists-some m (grantFor k) (grant-is k h);
           };
           reads = record {
-            words = record { note = λ p h n. refl; reason = λ p h. refl; label = λ p h. refl; state = λ p h. refl };
+            words = record { note = λ p h n. refl; size = λ p h n. refl; reason = λ p h i. refl; label = λ p h. refl; state = λ p h. refl };
             fixed = record { clock = λ a h i. refl; turn = λ a h i. refl; code = λ c h. refl; next = refl; entry = λ i h. refl };
             sems = λ s h. refl;
           };

@@ -63,7 +63,7 @@ pub record News (ps : List ℕ) (L K : Lists) (W : View) (h : ℕ → ℕ) (g : 
   pub sems : (s : ℕ) → 1 ≤ count (s + 1) (queues ps) → h s ≡ less (stock K s) (length (L (s + 1)))
   pub bare : (p : ℕ) → 1 ≤ count p (L pageQueue) → (length (K freeList) ≡ 0) × (length (K (grantFor (lower (W .label p)))) ≡ 0)
   pub known : (k : ℕ) → k < pageSize → k ≢ g → length (K (grantFor k)) ≢ 0 → bearers (W .label) ps k ≡ 1
-  pub mail : (p w : ℕ) → 1 ≤ count p ps → q1 ≤ w → w ≤ q2 → (q : ℕ) → 1 ≤ count q (K (place p w)) → Message (W .note q) (W .reason q)
+  pub mail : (p w : ℕ) → 1 ≤ count p ps → q1 ≤ w → w ≤ q2 → (q : ℕ) → 1 ≤ count q (K (place p w)) → Message (W .note q) (W .size q)
   pub none : (p x : ℕ) → 1 ≤ count p ps → 1 ≤ count x (L (place p ownQueue)) → (q : ℕ) → 1 ≤ count q (K (place p q1))
       → fits (upper (W .reason p)) (lower (W .reason p)) (W .note q) ≡ false
 
@@ -148,6 +148,7 @@ module _ {m : List ℕ} {ps : List ℕ} {L : Lists} {W : View} {hs : List ℕ} {
 -- two views that differ at page q only
 pub record Off (q : ℕ) (W X : View) : Type 0 where
   pub note : (z : ℕ) → z ≢ q → X .note z ≡ W .note z
+  pub size : (z : ℕ) → z ≢ q → X .size z ≡ W .size z
   pub reason : (z : ℕ) → z ≢ q → X .reason z ≡ W .reason z
   pub label : (z : ℕ) → z ≢ q → X .label z ≡ W .label z
   pub state : (z : ℕ) → z ≢ q → X .state z ≡ W .state z
@@ -193,7 +194,7 @@ facts-off {ps} {L} {W} {X} q out free o f =
         bare = λ p j. rw (o .label p (nw pageQueue p (omega arith) j)) (f .granted .bare p j);
         known = λ k h d n. same k ∙ f .granted .known k h d n;
       };
-      mail = λ p w h u v y c. let d = nm p w y h u v c in rw (o .note y d, o .reason y d) (f .mail p w h u v y c);
+      mail = λ p w h u v y c. let d = nm p w y h u v c in rw (o .note y d, o .size y d) (f .mail p w h u v y c);
       runs = record {
         idle = rw (o .low) (f .runs .idle);
         listed = rw (o .low) (f .runs .listed);

@@ -94,7 +94,8 @@ module _ {m m′ : List ℕ} (k : Kept m m′) where
         reads = record {
           words = record {
             note = λ y h n. k .words y Map.note h (omega arith) ∙ p .note y h n;
-            reason = λ y h. k .words y Map.reason h (omega arith) ∙ p .reason y h;
+            size = λ y h n. k .words y Map.size h (omega arith) ∙ p .size y h n;
+            reason = λ y h i. k .words y Map.reason h (omega arith) ∙ p .reason y h i;
             label = λ y h. k .words y Map.label h (omega arith) ∙ p .label y h;
             state = λ y h. k .state y h ∙ p .state y h;
           };

@@ -29,7 +29,7 @@ use Rattle.laws.specs.Still.{Aside, aside-hand}
 
 -- ---- the new page q: its words, and that nobody bears its name
 pub record New (m : List ℕ) (ps : List ℕ) (W : View) (q : ℕ) : Type 0 where
-  pub empty : (w : ℕ) → ownSemaphore ≤ w → w ≤ q2 → word m q w ≡ 0
+  pub empty : (w : ℕ) → Map.reason ≤ w → w ≤ q2 → word m q w ≡ 0
   pub label : Label (W .label q)
   pub unnamed : bearers (W .label) ps (lower (W .label q)) ≡ 0
   pub bit : waitIn (W .state q) ≡ 0
@@ -269,7 +269,7 @@ module _ {m : List ℕ} {ps : List ℕ} {L : Lists} {W : View} {hs : List ℕ} {
           let d : a ≡ place q ownSemaphore = omega arith in
           rw (put1-same (W .sem) (place q ownSemaphore) 0 a d, e, new-list ownQueue (omega arith) (omega arith), stock-else grown a (omega arith))
 
-      mail : (y w : ℕ) → q1 ≤ w → w ≤ q2 → (x : ℕ) → 1 ≤ count x (grown (place y w)) → (1 ≤ count y ps) ⊎ (y ≡ q) → Message (W .note x) (W .reason x)
+      mail : (y w : ℕ) → q1 ≤ w → w ≤ q2 → (x : ℕ) → 1 ≤ count x (grown (place y w)) → (1 ≤ count y ps) ⊎ (y ≡ q) → Message (W .note x) (W .size x)
       mail y w u v x c (inl h) =
           let t = proc-page s y h in
           b .facts .mail y w h u v x (rw (at-same (place y w) (in-q ps y w u v h) (omega arith)) at c)
@@ -317,7 +317,8 @@ module _ {m : List ℕ} {ps : List ℕ} {L : Lists} {W : View} {hs : List ℕ} {
             let d = hit-or y q in
             same (place y listLink) (note y i) (omega (arith, h)) (λ z j e. omega (arith, ap (λ (x : ℕ). count x ps) (row y z e), count-P y))
             ∙ b .mem .reads .words .note y h (omega (arith, count-P y));
-        reason = λ y h. same-word y Map.reason h (omega arith) (omega arith) ∙ b .mem .reads .words .reason y h;
+        size = λ y h i. same-word y Map.size h (omega arith) (omega arith) ∙ b .mem .reads .words .size y h (omega (arith, count-P y));
+        reason = λ y h i. same-word y Map.reason h (omega arith) (omega arith) ∙ reason y h (which-proc y i);
         label = λ y h. same-word y Map.label h (omega arith) (omega arith) ∙ b .mem .reads .words .label y h;
         state = λ y h. same-word y Map.state h (omega arith) (omega arith) ∙ b .mem .reads .words .state y h;
       };
@@ -332,6 +333,10 @@ module _ {m : List ℕ} {ps : List ℕ} {L : Lists} {W : View} {hs : List ℕ} {
 
       note : (y : ℕ) → count y P ≡ 0 → place y listLink ≢ place q listLink
       note y i e = omega (arith, count-P y, one-hit y q (row y q e))
+
+      reason : (y : ℕ) → Page y → (1 ≤ count y ps) ⊎ (y ≡ q) → word m y Map.reason ≡ W .reason y
+      reason y h (inl i) = b .mem .reads .words .reason y h i
+      reason y h (inr e) = rw e (n .empty Map.reason (omega arith) (omega arith) ∙ sym (n .reason))
 
       rep : (a : ℕ) → Head P a → Which a → Chain m2 (linkOf a) a (grown a)
       rep a h (old i) =

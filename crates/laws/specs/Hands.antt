@@ -37,7 +37,8 @@ hand-base {m} {m′} {ps} {L} {W} q h o b = record {
   mem = hand-mem o (hand-page b q h) (b .facts .sep) (hand-out b q h) (hand-free b q h) (b .mem);
   facts = facts-off q (hand-out b q h) (λ a i n. hand-free b q h a (in-uses ps a i)) (record {
     note = λ z n. put1-other (W .note) q (word m′ q Map.note) z n;
-    reason = λ z n. put1-other (W .reason) q (word m′ q size) z n;
+    size = λ z n. put1-other (W .size) q (word m′ q Map.size) z n;
+    reason = λ z n. put1-other (W .reason) q (word m′ q Map.reason) z n;
     label = λ z n. put1-other (W .label) q (word m′ q Map.label) z n;
     state = λ z n. put1-other (W .state) q (word m′ q Map.state) z n;
     sem = refl;
@@ -155,7 +156,7 @@ module _ {m : List ℕ} {ps : List ℕ} {L : Lists} {W : View} {hs : List ℕ} {
 
 -- ---- to the end of Q1 or Q2: the sentences, and the model's step
 module _ {ps : List ℕ} {L : Lists} {W : View} {g : ℕ} (q : ℕ) (fc : Facts ps L W g) (room : (z : ℕ) → sum z L (uses ps) + hit (eqb z q) ≤ one z)
-    (p w : ℕ) (h : 1 ≤ count p ps) (u : q1 ≤ w) (v : w ≤ q2) (letter : Message (W .note q) (W .reason q))
+    (p w : ℕ) (h : 1 ≤ count p ps) (u : q1 ≤ w) (v : w ≤ q2) (letter : Message (W .note q) (W .size q))
     (none : (x : ℕ) → 1 ≤ count x (L (place p ownQueue)) → w ≡ q1 → fits (upper (W .reason p)) (lower (W .reason p)) (W .note q) ≡ false) where
   sp : Sep ps L
   sp = fc .sep
@@ -173,7 +174,7 @@ module _ {ps : List ℕ} {L : Lists} {W : View} {g : ℕ} (q : ℕ) (fc : Facts 
   more-mail z = omega (arith, uses-upd sp a (q-once sp p w u v h) (omega (arith, low)) K z, count-append z (L a) (q ∷ []))
 
   mails : (y n : ℕ) → 1 ≤ count y ps → q1 ≤ n → n ≤ q2 → (x : ℕ) → 1 ≤ count x (upd L a K (place y n))
-      → (place y n ≡ a) ⊎ (place y n ≢ a) → (x ≡ q) ⊎ (x ≢ q) → Message (W .note x) (W .reason x)
+      → (place y n ≡ a) ⊎ (place y n ≢ a) → (x ≡ q) ⊎ (x ≢ q) → Message (W .note x) (W .size x)
   mails y n j l r x c d (inl e) = rw e letter
   mails y n j l r x c (inl d) (inr e) =
       let k = rw (d, upd-same) at c in
@@ -223,7 +224,7 @@ module _ {m : List ℕ} {ps : List ℕ} {L : Lists} {W : View} {hs : List ℕ} {
       let t = proc-page sp p h in
       join-mem sp (b .mem) (place p w) (in-q ps p w u v h, grant-high (place p w) (omega arith)) (omega arith) q (hand-page b q (in-hand b)) (hand-new b)
 
-  pub give-mail : (p w : ℕ) → 1 ≤ count p ps → q1 ≤ w → w ≤ q2 → Message (W .note q) (W .reason q)
+  pub give-mail : (p w : ℕ) → 1 ≤ count p ps → q1 ≤ w → w ≤ q2 → Message (W .note q) (W .size q)
       → ((x : ℕ) → 1 ≤ count x (L (place p ownQueue)) → w ≡ q1 → fits (upper (W .reason p)) (lower (W .reason p)) (W .note q) ≡ false)
       → Base (join m (place p w) link q) ps (upd L (place p w) (L (place p w) ++ q ∷ [])) W hs g
   give-mail p w h u v letter none = record {

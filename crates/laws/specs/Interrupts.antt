@@ -73,7 +73,7 @@ facts-reason {ps} {L} {W} k p v hk i u1 u2 f = record {
       rw (kept y (λ e. d (t .owner ∙ e))) t;
   sems = f .sems;
   granted = f .granted;
-  mail = λ y w h l r q c. let n = q-free s y w q l r h c in rw (kept q (λ e. omega (arith, ap (λ (z : ℕ). count z ps) e, n .1, hp))) (f .mail y w h l r q c);
+  mail = f .mail;
   runs = f .runs;
   codes = f .codes;
   clock = f .clock;
@@ -150,11 +150,14 @@ module _ (k c : ℕ) (k1 : 1 ≤ k) (k2 : k ≤ interrupts) where
       inside : 1 ≤ count p (L (a + 1))
       inside = rw e (count-mid p xs ys)
 
+      hp : 1 ≤ count p ps
+      hp = wait-page s (a + 1) p (seat ps) inside
+
       pg : Page p
-      pg = proc-page s p (wait-page s (a + 1) p (seat ps) inside)
+      pg = proc-page s p hp
 
       reason : word m p Map.reason ≡ W .reason p
-      reason = b .mem .reads .words .reason p pg
+      reason = b .mem .reads .words .reason p pg hp
 
       range : (1 ≤ W .reason p) × (W .reason p ≤ aWord)
       range = b .facts .seats .served (k - 1) (omega arith) p (rw at-head inside)
@@ -178,7 +181,7 @@ module _ (k c : ℕ) (k1 : 1 ≤ k) (k2 : k ≤ interrupts) where
               lists = L;
               view = withReason W (put1 (W .reason) p v);
               base = record {
-                mem = reason-mem s (b .mem) p v pg;
+                mem = reason-mem s (b .mem) p v hp;
                 facts = facts-reason (k - 1) p v (omega arith) (rw at-head inside) (omega (arith, range)) (omega (arith, range)) (b .facts);
                 all = b .all;
               };

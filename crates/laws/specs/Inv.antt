@@ -26,7 +26,8 @@ use Rattle.laws.specs.Uses.{Head, Sep}
 -- ---- the judged words: numbers that the memory must hold
 pub record View : Type 0 where
   pub note : ℕ → ℕ  -- word 1 of a page that is no processor's
-  pub reason : ℕ → ℕ  -- word 2 of a page
+  pub size : ℕ → ℕ  -- word 2 of such a page
+  pub reason : ℕ → ℕ  -- word 2 of a processor's page
   pub label : ℕ → ℕ  -- word 7
   pub state : ℕ → ℕ  -- word 12
   pub sem : ℕ → ℕ  -- the word before the header of a wait queue
@@ -38,6 +39,7 @@ pub record View : Type 0 where
 abbrev pub view : List ℕ → View
 view m = record {
   note = λ p. Memory.word m p Map.note;
+  size = λ p. Memory.word m p Map.size;
   reason = λ p. Memory.word m p Map.reason;
   label = λ p. Memory.word m p Map.label;
   state = λ p. Memory.word m p Map.state;
@@ -48,13 +50,20 @@ view m = record {
   entry = λ i. getD m (entryAfter i) 0;
 }
 
--- word k of each control page
+-- word k of each control page, of each that is no processor's, and of each processor's
 abbrev pub Col : List ℕ → ℕ → (ℕ → ℕ) → Type 0
 Col m k f = (p : ℕ) → Page p → Memory.word m p k ≡ f p
 
-pub record Words (m : List ℕ) (ps : List ℕ) (n r l t : ℕ → ℕ) : Type 0 where
-  pub note : (p : ℕ) → Page p → count p ps ≡ 0 → Memory.word m p Map.note ≡ n p
-  pub reason : Col m Map.reason r
+abbrev pub Others : List ℕ → List ℕ → ℕ → (ℕ → ℕ) → Type 0
+Others m ps k f = (p : ℕ) → Page p → count p ps ≡ 0 → Memory.word m p k ≡ f p
+
+abbrev pub Theirs : List ℕ → List ℕ → ℕ → (ℕ → ℕ) → Type 0
+Theirs m ps k f = (p : ℕ) → Page p → 1 ≤ count p ps → Memory.word m p k ≡ f p
+
+pub record Words (m : List ℕ) (ps : List ℕ) (n z r l t : ℕ → ℕ) : Type 0 where
+  pub note : Others m ps Map.note n
+  pub size : Others m ps Map.size z
+  pub reason : Theirs m ps Map.reason r
   pub label : Col m Map.label l
   pub state : Col m Map.state t
 
@@ -66,7 +75,7 @@ pub record Fixed (m : List ℕ) (l c : ℕ → ℕ) (n : ℕ) (e : ℕ → ℕ) 
   pub entry : (i : ℕ) → i < entries → getD m (entryAfter i) 0 ≡ e i
 
 pub record Reads (m : List ℕ) (ps : List ℕ) (W : View) : Type 0 where
-  pub words : Words m ps (W .note) (W .reason) (W .label) (W .state)
+  pub words : Words m ps (W .note) (W .size) (W .reason) (W .label) (W .state)
   pub fixed : Fixed m (W .low) (W .code) (W .next) (W .entry)
   pub sems : (s : ℕ) → 1 ≤ count (s + 1) (queues ps) → getD m s 0 ≡ W .sem s
 
@@ -173,7 +182,7 @@ pub record Facts (ps : List ℕ) (L : Lists) (W : View) (g : ℕ) : Type 0 where
   pub own : (p : ℕ) → 1 ≤ count p ps → (x : ℕ) → 1 ≤ count x (L (place p ownQueue)) → Waits (W .reason p) (W .note) (L (place p q1)) p x
   pub sems : (s : ℕ) → 1 ≤ count (s + 1) (queues ps) → W .sem s ≡ less (stock L s) (length (L (s + 1)))
   pub granted : Granted ps L (W .label) g
-  pub mail : (p w : ℕ) → 1 ≤ count p ps → q1 ≤ w → w ≤ q2 → (q : ℕ) → 1 ≤ count q (L (place p w)) → Message (W .note q) (W .reason q)
+  pub mail : (p w : ℕ) → 1 ≤ count p ps → q1 ≤ w → w ≤ q2 → (q : ℕ) → 1 ≤ count q (L (place p w)) → Message (W .note q) (W .size q)
   pub runs : Runs ps (W .low) (W .label)
   pub codes : Codes (W .code)
   pub clock : Clock (W .low)

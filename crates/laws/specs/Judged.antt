@@ -97,17 +97,21 @@ module _ {m : List ℕ} {ps : List ℕ} {L : Lists} {W : View} {hs : List ℕ} {
           served = λ k h p j.
               let q = int-queue ps k h in
               let g = rw (at-queue (headerAfter k) q) at j in
-              rw (r .words .reason p (pg p (wait-page s (headerAfter k) p q g))) (f .seats .served k h p g);
-          asking = λ p j. let g = rw wa at j in rw (r .words .reason p (pg p (wait-page s pageQueue p (omega arith) g))) (f .seats .asking p g);
-          quiet = λ p h z. rw (r .words .reason p (pg p h)) (f .seats .quiet p h (rw (r .words .state p (pg p h)) at z));
+              let i = wait-page s (headerAfter k) p q g in
+              rw (r .words .reason p (pg p i) i) (f .seats .served k h p g);
+          asking = λ p j.
+              let g = rw wa at j in
+              let i = wait-page s pageQueue p (omega arith) g in
+              rw (r .words .reason p (pg p i) i) (f .seats .asking p g);
+          quiet = λ p h z. rw (r .words .reason p (pg p h) h) (f .seats .quiet p h (rw (r .words .state p (pg p h)) at z));
         };
         own = λ p h x j. let t = f .own p h x (rw (at-own p h) at j) in record {
           owner = t .owner;
-          flag = rw (r .words .reason p (pg p h)) (t .flag);
+          flag = rw (r .words .reason p (pg p h) h) (t .flag);
           none = λ q c.
               let c2 = rw (at-mail p q1 (omega arith) (omega arith) h) at c in
               let n = q-free s p q1 q (omega arith) (omega arith) h c2 in
-              rw (r .words .reason p (pg p h), r .words .note q (n .0) (n .1)) (t .none q c2);
+              rw (r .words .reason p (pg p h) h, r .words .note q (n .0) (n .1)) (t .none q c2);
         };
         sems = λ a h. rw (at-queue (a + 1) h, stock-is a) (r .sems a h ∙ f .sems a h);
         granted = record {
@@ -120,7 +124,7 @@ module _ {m : List ℕ} {ps : List ℕ} {L : Lists} {W : View} {hs : List ℕ} {
         mail = λ p w h u v q c.
             let c2 = rw (at-mail p w u v h) at c in
             let n = q-free s p w q u v h c2 in
-            rw (r .words .note q (n .0) (n .1), r .words .reason q (n .0)) (f .mail p w h u v q c2);
+            rw (r .words .note q (n .0) (n .1), r .words .size q (n .0) (n .1)) (f .mail p w h u v q c2);
         runs = record {
           idle = rw (l8, l9) (f .runs .idle);
           listed = rw l8 (f .runs .listed);

@@ -191,11 +191,12 @@ module _ (xs : List ℕ) (p : ℕ) (ys : List ℕ) {m : List ℕ} {K : Lists} {Z
   sf = f .sep
 
   abbrev Y : View
-  Y = withWords Z (put1 (Z .note) p 0) (Z .reason) (Z .label) (Z .state)
+  Y = withWords Z (put1 (Z .note) p 0) (put1 (Z .size) p (Z .reason p)) (Z .reason) (Z .label) (Z .state)
 
   off-Y : Off p X Y
   off-Y = record {
     note = λ z d. put1-other (Z .note) p 0 z d ∙ off .note z d;
+    size = λ z d. put1-other (Z .size) p (Z .reason p) z d ∙ off .size z d;
     reason = off .reason;
     label = off .label;
     state = off .state;
@@ -227,8 +228,7 @@ module _ (xs : List ℕ) (p : ℕ) (ys : List ℕ) {m : List ℕ} {K : Lists} {Z
         let t = q-free sf p w z u v (in-P xs p ys) h in
         let d : z ≢ p = λ e. omega (arith, ap (λ (y : ℕ). count y (xs ++ p ∷ ys)) e, t .1, in-P xs p ys) in
         let o : count z (xs ++ ys) ≡ 0 = omega (arith, t .1, count-more xs p ys z) in
-        rw (mem-Y .reads .words .note z (t .0) o, mem-Y .reads .words .reason z (t .0), put1-other (Z .note) p 0 z d, off .note z d, off .reason z d)
-        (f .mail p w (in-P xs p ys) u v z h);
+        rw (mem-Y .reads .words .note z (t .0) o, mem-Y .reads .words .size z (t .0) o, off-Y .note z d, off-Y .size z d) (f .mail p w (in-P xs p ys) u v z h);
   }
 
   left-bag : ((z : ℕ) → sum z K (uses (xs ++ p ∷ ys)) ≡ one z) → Bag (leave m processorList listLink p) p (lower (X .label p))
@@ -280,6 +280,7 @@ unlisted-in xs p ys {m} {L} {W} b runs = go (queued m t p) refl
         rw e (left-bag xs p ys (b .mem) (b .facts) (seat-none b p hp e) runs
         (record {
           note = λ z d. refl;
+          size = λ z d. refl;
           reason = λ z d. refl;
           label = λ z d. refl;
           state = λ z d. refl;
@@ -300,6 +301,7 @@ unlisted-in xs p ys {m} {L} {W} b runs = go (queued m t p) refl
         (r .2)) runs
         (record {
           note = λ z d. refl;
+          size = λ z d. refl;
           reason = λ z d. sym (put1-other (W .reason) p 0 z d);
           label = λ z d. refl;
           state = λ z d. sym (put1-other (W .state) p (waitCleared (W .state p)) z d);

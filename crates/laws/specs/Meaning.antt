@@ -95,7 +95,7 @@ give-grants {m} {ps} {L} {W} {q = q} b p ws e =
 
 -- "The page joins NI's Q1; if NI waits for it, NI wakes": p is NI's page; its own wait is the only other list that may change
 pub deliver-appends : {m : List ℕ} {ps : List ℕ} {L : Lists} {W : View} {hs : List ℕ} {g q : ℕ} (b : Base m ps L W (q ∷ hs) g) (p : ℕ) (h : 1 ≤ count p ps)
-    (letter : Message (W .note q) (W .reason q)) → (lists (deliver m p q) (place p q1) ≡ lists m (place p q1) ++ q ∷ [])
+    (letter : Message (W .note q) (W .size q)) → (lists (deliver m p q) (place p q1) ≡ lists m (place p q1) ++ q ∷ [])
     × ((c : ℕ) → Among ps c → c ≢ place p q1 → c ≢ place p ownQueue → lists (deliver m p q) c ≡ lists m c)
 deliver-appends {ps = ps} {q = q} b p h letter =
     let t = deliver-all b p h letter in

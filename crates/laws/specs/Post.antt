@@ -33,7 +33,7 @@ use Rattle.laws.specs.Hands.{hand-base, in-hand, hand-new, room, facts-m
 use Rattle.laws.specs.Grants.{Gave}
 
 module _ {m : List ℕ} {ps : List ℕ} {L : Lists} {W : View} {hs : List ℕ} {g q : ℕ} (b : Base m ps L W (q ∷ hs) g) (p : ℕ) (h : 1 ≤ count p ps)
-    (letter : Message (W .note q) (W .reason q)) where
+    (letter : Message (W .note q) (W .size q)) where
   s : Sep ps L
   s = b .facts .sep
 
@@ -60,7 +60,7 @@ module _ {m : List ℕ} {ps : List ℕ} {L : Lists} {W : View} {hs : List ℕ} {
 
   -- what `awaits` reads
   pub reason-at : word m1 p reason ≡ W .reason p
-  reason-at = x1 .reads .words .reason p pg
+  reason-at = x1 .reads .words .reason p pg h
 
   pub note-at : word m1 q note ≡ W .note q
   note-at = x1 .reads .words .note q (hand-page b q (in-hand b)) (hand-out b q (in-hand b))
@@ -87,14 +87,8 @@ module _ {m : List ℕ} {ps : List ℕ} {L : Lists} {W : View} {hs : List ℕ} {
     fw : Facts ps (upd L a4 xs) (woken W (place p ownSemaphore) p) g
     fw = facts-wake (place p ownSemaphore) p [] xs (b .facts) (own-sem s p h) e
 
-    not-p : q ≢ p
-    not-p d = omega (arith, ap (λ (y : ℕ). count y ps) d, hand-out b q (in-hand b))
-
     room4 : (z : ℕ) → sum z (upd L a4 xs) (uses ps) + hit (eqb z q) ≤ one z
     room4 z = omega (arith, room b z, sum-skip z L a4 xs (uses ps) (rw at4 (own-once s p h .away)))
-
-    letter4 : Message (W .note q) (put1 (W .reason) p 0 q)
-    letter4 = rw (put1-other (W .reason) p 0 q not-p) letter
 
     alone : (x : ℕ) → 1 ≤ count x (upd L a4 xs (place p ownQueue)) → _≡_ {A = ℕ} q1 q1
         → fits (upper (woken W (place p ownSemaphore) p .reason p)) (lower (woken W (place p ownSemaphore) p .reason p)) (W .note q) ≡ false
@@ -109,7 +103,7 @@ module _ {m : List ℕ} {ps : List ℕ} {L : Lists} {W : View} {hs : List ℕ} {
         ))
 
     fm : Facts ps (upd (upd L a4 xs) a5 (upd L a4 xs a5 ++ q ∷ [])) (woken W (place p ownSemaphore) p) g
-    fm = facts-mail q fw room4 p q1 h (omega arith) (omega arith) letter4 alone
+    fm = facts-mail q fw room4 p q1 h (omega arith) (omega arith) letter alone
 
     swap : upd K a4 xs ≡ upd (upd L a4 xs) a5 (upd L a4 xs a5 ++ q ∷ [])
     swap = rw (upd-other L a4 a5 xs (omega arith)) (upd-swap L a5 a4 (L a5 ++ q ∷ []) xs (omega arith))
@@ -130,7 +124,7 @@ module _ {m : List ℕ} {ps : List ℕ} {L : Lists} {W : View} {hs : List ℕ} {
               all = λ z.
                   omega (
                     arith,
-                    more-mail q fw room4 p q1 h (omega arith) (omega arith) letter4 alone z,
+                    more-mail q fw room4 p q1 h (omega arith) (omega arith) letter alone z,
                     b .all z,
                     sum-skip z L a4 xs (uses ps) (rw at4 (own-once s p h .away)),
                   );
@@ -209,8 +203,8 @@ module _ {m : List ℕ} {ps : List ℕ} {L : Lists} {W : View} {hs : List ℕ} {
 
   -- the page in hand is written, then delivered
   module _ {m2 : List ℕ} (o : Only q m m2) (letter : Message (word m2 q note) (word m2 q size)) where
-    pub retold-letter : Message (retold m2 W q .note q) (retold m2 W q .reason q)
-    retold-letter = rw (put1-same (W .note) q (word m2 q note) q refl, put1-same (W .reason) q (word m2 q size) q refl) letter
+    pub retold-letter : Message (retold m2 W q .note q) (retold m2 W q .size q)
+    retold-letter = rw (put1-same (W .note) q (word m2 q note) q refl, put1-same (W .size) q (word m2 q size) q refl) letter
 
     written-base : (p : ℕ) → 1 ≤ count p ps → Gave (deliver m2 p q) ps hs g W
     written-base p h =

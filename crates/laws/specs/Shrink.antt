@@ -197,7 +197,8 @@ module _ (xs : List ℕ) (p : ℕ) (ys : List ℕ) where
       same-low : (a : ℕ) → a < guardedLast → a ≢ processorList → getD m2 a 0 ≡ getD m a 0
       same-low a l d = same a d (λ z i. let t = proc-page s z i in omega arith)
 
-      pub shrink-mem : Mem (leave m processorList listLink p) Q A (withWords W (put1 (W .note) p 0) (W .reason) (W .label) (W .state))
+      pub shrink-mem : Mem (leave m processorList listLink p) Q A
+          (withWords W (put1 (W .note) p 0) (put1 (W .size) p (W .reason p)) (W .reason) (W .label) (W .state))
       shrink-mem = rw left-is (record {
         size = simp length-set (x .size);
         holds = record {
@@ -207,7 +208,8 @@ module _ (xs : List ℕ) (p : ℕ) (ys : List ℕ) where
         reads = record {
           words = record {
             note = λ y h i. note y h i (hit-or y p);
-            reason = λ y h. same-word y Map.reason h (omega arith) (omega arith) ∙ x .reads .words .reason y h;
+            size = λ y h i. same-word y Map.size h (omega arith) (omega arith) ∙ size y h i (hit-or y p);
+            reason = λ y h i. same-word y Map.reason h (omega arith) (omega arith) ∙ x .reads .words .reason y h (left y i);
             label = λ y h. same-word y Map.label h (omega arith) (omega arith) ∙ x .reads .words .label y h;
             state = λ y h. same-word y Map.state h (omega arith) (omega arith) ∙ x .reads .words .state y h;
           };
@@ -225,6 +227,12 @@ module _ (xs : List ℕ) (p : ℕ) (ys : List ℕ) where
               rw (put1-other (W .note) p 0 y d)
               (same (place y Map.note) (omega (arith, h)) (λ z j e. let t : y ≡ z = omega arith in omega (arith, ap (λ (w : ℕ). count w P) t, out))
               ∙ x .reads .words .note y h out)
+
+          -- what was its reason is then a size
+          size : (y : ℕ) → Page y → count y Q ≡ 0 → (y ≡ p) ⊎ (y ≢ p) → word m y Map.size ≡ put1 (W .size) p (W .reason p) y
+          size y h i (inl e) = rw (put1-same (W .size) p (W .reason p) y e, e) (x .reads .words .reason p pg in-P)
+          size y h i (inr d) =
+              rw (put1-other (W .size) p (W .reason p) y d) (x .reads .words .size y h (omega (arith, count-more xs p ys y, hit-other y p d)))
 
           sem : (a : ℕ) → Seat P a → getD m2 a 0 ≡ getD m a 0
           sem = seat-same m m2 (λ a i j. same-low a (omega arith) (omega arith)) (λ y u. same-word y ownSemaphore (proc-page s y u) (omega arith) (omega arith))

@@ -56,7 +56,7 @@ module _ {m : List ℕ} {ps : List ℕ} {L : Lists} {W : View} {hs : List ℕ} {
     waiter = λ p h. let d = not-proc o p (wait-page s pageQueue p (omega arith) h) in (omega arith, omega arith, omega arith);
   })
 
-  pub deliver-still : (p : ℕ) → 1 ≤ count p ps → Message (W .note q) (W .reason q) → word (deliver m p q) y j ≡ word m y j
+  pub deliver-still : (p : ℕ) → 1 ≤ count p ps → Message (W .note q) (W .size q) → word (deliver m p q) y j ≡ word m y j
   deliver-still p h letter =
       let d = not-proc o p h in
       deliver-frame b p h letter (place y j) (λ k u. omega arith) (omega arith) (omega (arith, not-q))

@@ -22,7 +22,7 @@ use Rattle.laws.specs.Heads.Place.{int, three, grant, slot}
 use Rattle.laws.specs.Heads.Seat.{line, page, own}
 use Rattle.laws.specs.Uses.{Among, head-place, Sep, proc-page}
 use Rattle.laws.specs.Places.{all-pages}
-use Rattle.laws.specs.Inv.{View, Col, Words, Fixed, Holds, Mem}
+use Rattle.laws.specs.Inv.{View, Col, Others, Words, Fixed, Holds, Mem}
 use Rattle.laws.specs.Frames.{other, holds-kept, Only, fixed-same, seat-same}
 use Rattle.laws.specs.Views.{put1, put1-same, put1-other, withWords, withRest, withState, withReason, withSem, withLow, withCode, withEntry, retold}
 
@@ -101,16 +101,17 @@ deaf-mid b i = record { line = λ c1 c2. omega arith; page = i .2 freeSemaphore 
 abbrev NoWord : ℕ → ℕ → Type 0
 NoWord b k = (p : ℕ) → Page p → place p k ≢ b
 
-pub words-off : {m : List ℕ} (b v : ℕ) {ps : List ℕ} {n r l t : ℕ → ℕ} → NoWord b Map.note → NoWord b Map.reason → NoWord b Map.label
-    → NoWord b Map.state → Words m ps n r l t → Words (set m b v) ps n r l t
-words-off {m} b v {ps} {n} {r} {l} {t} n1 n2 n7 n12 f = record {
-  note = λ p h z. other m b v (place p Map.note) (n1 p h) ∙ f .note p h z;
-  reason = col-off m b v Map.reason r n2 (f .reason);
+pub words-off : {m : List ℕ} (b v : ℕ) {ps : List ℕ} {n z r l t : ℕ → ℕ} → NoWord b Map.note → NoWord b Map.reason → NoWord b Map.label
+    → NoWord b Map.state → Words m ps n z r l t → Words (set m b v) ps n z r l t
+words-off {m} b v {l = l} {t = t} n1 n2 n7 n12 f = record {
+  note = λ p h i. other m b v (place p Map.note) (n1 p h) ∙ f .note p h i;
+  size = λ p h i. other m b v (place p Map.size) (n2 p h) ∙ f .size p h i;
+  reason = λ p h i. other m b v (place p Map.reason) (n2 p h) ∙ f .reason p h i;
   label = col-off m b v Map.label l n7 (f .label);
   state = col-off m b v Map.state t n12 (f .state);
 }
 
-words-low : {m : List ℕ} (b v : ℕ) {ps : List ℕ} {n r l t : ℕ → ℕ} → b < guardedLast → Words m ps n r l t → Words (set m b v) ps n r l t
+words-low : {m : List ℕ} (b v : ℕ) {ps : List ℕ} {n z r l t : ℕ → ℕ} → b < guardedLast → Words m ps n z r l t → Words (set m b v) ps n z r l t
 words-low b v g f = words-off b v (λ p h. omega arith) (λ p h. omega arith) (λ p h. omega arith) (λ p h. omega arith) f
 
 pub fixed-off : {m : List ℕ} (b v : ℕ) {l c : ℕ → ℕ} {n : ℕ} {e : ℕ → ℕ} → ((a : ℕ) → clockLine ≤ a → a ≤ Map.c3 → a ≢ b)
@@ -123,8 +124,8 @@ module _ {m : List ℕ} {ps : List ℕ} {L : Lists} {W : View} (s : Sep ps L) (x
   sems-off b v d a h = other m b v a (deaf-seat s b d a h) ∙ x .reads .sems a h
 
   -- a word of a control page
-  high-mem : (b v : ℕ) {n r l t h : ℕ → ℕ} → grantsEnd ≤ b → Loose b → Words (set m b v) ps n r l t
-      → ((a : ℕ) → 1 ≤ count (a + 1) (queues ps) → getD (set m b v) a 0 ≡ h a) → Mem (set m b v) ps L (withSem (withWords W n r l t) h)
+  high-mem : (b v : ℕ) {n z r l t h : ℕ → ℕ} → grantsEnd ≤ b → Loose b → Words (set m b v) ps n z r l t
+      → ((a : ℕ) → 1 ≤ count (a + 1) (queues ps) → getD (set m b v) a 0 ≡ h a) → Mem (set m b v) ps L (withSem (withWords W n z r l t) h)
   high-mem b v u l words sems = record {
     size = simp length-set (x .size);
     holds = holds-loose m b v s l (x .holds);
@@ -135,26 +136,39 @@ module _ {m : List ℕ} {ps : List ℕ} {L : Lists} {W : View} (s : Sep ps L) (x
     };
   }
 
-  -- words 2 and 12
+  -- word 12 of any control page, and word 2 of a processor's
   pub state-mem : (q v : ℕ) → Page q → Mem (store m q Map.state v) ps L (withState W (put1 (W .state) q v))
   state-mem q v g = let p = x .reads .words in let a = place q Map.state in high-mem a v (omega arith)
       (loose-word q Map.state g (omega arith) (λ c1 c2 c3 c4. omega arith))
       (record {
         note = λ y h n. other m a v (place y Map.note) (omega arith) ∙ p .note y h n;
-        reason = col-off m a v Map.reason (W .reason) (λ y h. omega arith) (p .reason);
+        size = λ y h n. other m a v (place y Map.size) (omega arith) ∙ p .size y h n;
+        reason = λ y h i. other m a v (place y Map.reason) (omega arith) ∙ p .reason y h i;
         label = col-off m a v Map.label (W .label) (λ y h. omega arith) (p .label);
         state = col-on m q v Map.state (W .state) (x .size) g (omega arith) (p .state);
       }) (sems-off a v (deaf-word q Map.state g (omega arith) (omega arith)))
 
-  pub reason-mem : (q v : ℕ) → Page q → Mem (store m q Map.size v) ps L (withReason W (put1 (W .reason) q v))
-  reason-mem q v g = let p = x .reads .words in let a = place q Map.size in high-mem a v (omega arith)
+  pub reason-mem : (q v : ℕ) → 1 ≤ count q ps → Mem (store m q Map.reason v) ps L (withReason W (put1 (W .reason) q v))
+  reason-mem q v hq = let p = x .reads .words in let a = place q Map.reason in let g = proc-page s q hq in high-mem a v (omega arith)
       (loose-word q Map.reason g (omega arith) (λ c1 c2 c3 c4. omega arith))
       (record {
         note = λ y h n. other m a v (place y Map.note) (omega arith) ∙ p .note y h n;
-        reason = col-on m q v Map.reason (W .reason) (x .size) g (omega arith) (p .reason);
+        size = λ y h n. other m a v (place y Map.size) (λ e. apart y n (omega arith)) ∙ p .size y h n;
+        reason = λ y h i. here y i (hit-or y q);
         label = col-off m a v Map.label (W .label) (λ y h. omega arith) (p .label);
         state = col-off m a v Map.state (W .state) (λ y h. omega arith) (p .state);
       }) (sems-off a v (deaf-word q Map.reason g (omega arith) (omega arith)))
+    where
+      apart : (y : ℕ) → count y ps ≡ 0 → y ≡ q → ⊥
+      apart y n e = omega (arith, ap (λ (z : ℕ). count z ps) e)
+
+      here : (y : ℕ) → 1 ≤ count y ps → (y ≡ q) ⊎ (y ≢ q) → word (store m q Map.reason v) y Map.reason ≡ put1 (W .reason) q v y
+      here y i (inl e) =
+          let g = proc-page s q hq in
+          rw (put1-same (W .reason) q v y e, e) (getD-set-same m (place q Map.reason) v 0 (omega (arith, x .size)))
+      here y i (inr n) =
+          rw (put1-other (W .reason) q v y n)
+          (other m (place q Map.reason) v (place y Map.reason) (omega arith) ∙ x .reads .words .reason y (proc-page s y i) i)
 
   -- a semaphore
   pub sem-mem : (b v : ℕ) → 1 ≤ count (b + 1) (queues ps) → Mem (set m b v) ps L (withSem W (put1 (W .sem) b v))
@@ -302,8 +316,11 @@ module _ {m m′ : List ℕ} {q : ℕ} (o : Only q m m′) (g : Page q) {ps : Li
             (λ y h. only-word o y listLink (not-q y h) (omega arith)) (x .holds);
         reads = record {
           words = record {
-            note = λ y h n. note y h n (hit-or y q);
-            reason = col-retold Map.reason (W .reason) (omega arith) (p .reason);
+            note = λ y h n. others Map.note (W .note) (p .note) y h n (omega arith) (hit-or y q);
+            size = λ y h n. others Map.size (W .size) (p .size) y h n (omega arith) (hit-or y q);
+            reason = λ y h i.
+                let d = not-q y i in
+                rw (put1-other (W .reason) q (word m′ q Map.reason) y d) (only-word o y Map.reason d (omega arith) ∙ p .reason y h i);
             label = col-retold Map.label (W .label) (omega arith) (p .label);
             state = col-retold Map.state (W .state) (omega arith) (p .state);
           };
@@ -323,6 +340,7 @@ module _ {m m′ : List ℕ} {q : ℕ} (o : Only q m m′) (g : Page q) {ps : Li
       link : (a y : ℕ) → Among ps a → 1 ≤ count y (L a) → y ≡ q → ⊥
       link a y h c e = let d = ap (λ (z : ℕ). count z (L a)) e in omega (arith, free a h)
 
-      note : (y : ℕ) → Page y → count y ps ≡ 0 → (y ≡ q) ⊎ (y ≢ q) → word m′ y Map.note ≡ put1 (W .note) q (word m′ q Map.note) y
-      note y h n (inl e) = rw (put1-same (W .note) q (word m′ q Map.note) y e, e)
-      note y h n (inr d) = rw (put1-other (W .note) q (word m′ q Map.note) y d) (only-word o y Map.note d (omega arith) ∙ x .reads .words .note y h n)
+      others : (k : ℕ) (f : ℕ → ℕ) → Others m ps k f → (y : ℕ) → Page y → count y ps ≡ 0 → k < pageSize → (y ≡ q) ⊎ (y ≢ q)
+          → word m′ y k ≡ put1 f q (word m′ q k) y
+      others k f c y h n l (inl e) = rw (put1-same f q (word m′ q k) y e, e)
+      others k f c y h n l (inr d) = rw (put1-other f q (word m′ q k) y d) (only-word o y k d l ∙ c y h n)

@@ -8,7 +8,6 @@ use lib.ListN.{getD}
 use lib.Dec.{eqb}
 use borrow.Author.Tests.{eq-eqb, ne-eqb}
 use Rattle.model.specs.Map as Map
-use Rattle.model.specs.Map.{place, size}
 use Rattle.model.specs.Bytes.{word}
 use Rattle.laws.specs.Inv.{View}
 
@@ -25,9 +24,10 @@ unfolding put1
 put1-other f q v p n = rw (ne-eqb p q n, put1)
 
 -- ---- a view with some of its functions changed
-abbrev pub withWords : View → (ℕ → ℕ) → (ℕ → ℕ) → (ℕ → ℕ) → (ℕ → ℕ) → View
-withWords W n r l t = record {
+abbrev pub withWords : View → (ℕ → ℕ) → (ℕ → ℕ) → (ℕ → ℕ) → (ℕ → ℕ) → (ℕ → ℕ) → View
+withWords W n z r l t = record {
   note = n;
+  size = z;
   reason = r;
   label = l;
   state = t;
@@ -39,14 +39,15 @@ withWords W n r l t = record {
 }
 
 abbrev pub withState : View → (ℕ → ℕ) → View
-withState W t = withWords W (W .note) (W .reason) (W .label) t
+withState W t = withWords W (W .note) (W .size) (W .reason) (W .label) t
 
 abbrev pub withReason : View → (ℕ → ℕ) → View
-withReason W r = withWords W (W .note) r (W .label) (W .state)
+withReason W r = withWords W (W .note) (W .size) r (W .label) (W .state)
 
 abbrev pub withRest : View → (ℕ → ℕ) → (ℕ → ℕ) → (ℕ → ℕ) → ℕ → (ℕ → ℕ) → View
 withRest W s l c n e = record {
   note = W .note;
+  size = W .size;
   reason = W .reason;
   label = W .label;
   state = W .state;
@@ -72,5 +73,5 @@ withEntry W n e = withRest W (W .sem) (W .low) (W .code) n e
 -- page q as the memory m has it
 abbrev pub retold : List ℕ → View → ℕ → View
 retold m W q =
-    withWords W (put1 (W .note) q (word m q Map.note)) (put1 (W .reason) q (word m q size)) (put1 (W .label) q (word m q Map.label))
-    (put1 (W .state) q (word m q Map.state))
+    withWords W (put1 (W .note) q (word m q Map.note)) (put1 (W .size) q (word m q Map.size)) (put1 (W .reason) q (word m q Map.reason))
+    (put1 (W .label) q (word m q Map.label)) (put1 (W .state) q (word m q Map.state))

@@ -34,7 +34,7 @@ wait-bits w =
 -- page p waits in the queue at a with reason w
 abbrev pub waiting : View → ℕ → ℕ → ℕ → View
 waiting W a p w =
-    withSem (withWords W (W .note) (put1 (W .reason) p w) (W .label) (put1 (W .state) p (waitSet (W .state p))))
+    withSem (withWords W (W .note) (W .size) (put1 (W .reason) p w) (W .label) (put1 (W .state) p (waitSet (W .state p))))
     (put1 (W .sem) a (lowered (W .sem a)))
 
 -- the reason fits the queue
@@ -133,10 +133,7 @@ module _ {ps : List ℕ} {L : Lists} {W : View} {g : ℕ} (a p w : ℕ) (f : Fac
           bare = λ x j. rw (wf, wg (lower (W .label x)) (omega arith)) (bare x (split pageQueue x (omega arith) j));
           known = λ k i. rw (wg k i) (f .granted .known k i);
         };
-        mail = λ y v i l u q j.
-            let c = rw (other-list (place y v) (not-mail s a h y v i l u)) at j in
-            let n = q-free s y v q l u i c in
-            rw (kept-reason q (λ d. omega (arith, ap (λ (y : ℕ). count y ps) d, n .1))) (f .mail y v i l u q c);
+        mail = λ y v i l u q j. f .mail y v i l u q (rw (other-list (place y v) (not-mail s a h y v i l u)) at j);
         runs = f .runs;
         codes = f .codes;
         clock = f .clock;
@@ -204,7 +201,7 @@ wait-base {m} {ps} {L} {W} a p w b h hp idle fit =
     let s = b .facts .sep in
     let pg = proc-page s p hp in
     let x1 = state-mem s (b .mem) p (waitSet (W .state p)) pg in
-    let x2 = reason-mem s x1 p w pg in
+    let x2 = reason-mem s x1 p w hp in
     let x3 = sem-mem s x2 a (lowered (W .sem a)) h in
     let x4 = join-mem s x3 (a + 1) (seat-head s a h) (λ d. not-procs s a h (sym d)) p pg (waits-not s p hp (nowhere a p w (b .facts) h hp idle fit)) in
     rw (b .mem .reads .words .state p pg, x2 .reads .sems a h) (record {

@@ -14,7 +14,7 @@ use Rattle.model.specs.Bytes.{store, word}
 use Rattle.model.specs.Wait as Wait
 use Rattle.model.specs.Bytes.{unqueue, wake}
 use Rattle.model.specs.Lists.{hit, count, Lists, sum, uses, queues, isGrant}
-use Rattle.laws.specs.Count.{hit-self, hit-other, hit-or, count-append}
+use Rattle.laws.specs.Count.{hit-self, hit-other, hit-or, count-append, count-mid}
 use Rattle.laws.specs.Chain.{Page}
 use Rattle.laws.specs.Queues.{upd, upd-same, upd-other}
 use Rattle.laws.specs.Heads.{sum-one, sum-skip, sum-upd, Seat, seat-of}
@@ -71,7 +71,7 @@ stock-le {ps} {L} s a = go (hit-or a freeSemaphore)
 -- page p no longer waits in the queue at a
 abbrev pub woken : View → ℕ → ℕ → View
 woken W a p =
-    withSem (withWords W (W .note) (put1 (W .reason) p 0) (W .label) (put1 (W .state) p (waitCleared (W .state p))))
+    withSem (withWords W (W .note) (W .size) (put1 (W .reason) p 0) (W .label) (put1 (W .state) p (waitCleared (W .state p))))
     (put1 (W .sem) a (raised (W .sem a)))
 
 module _ {ps : List ℕ} {L : Lists} {W : View} {g : ℕ} (a p : ℕ) (xs ys : List ℕ) (f : Facts ps L W g) (h : 1 ≤ count (a + 1) (queues ps))
@@ -126,9 +126,6 @@ module _ {ps : List ℕ} {L : Lists} {W : View} {g : ℕ} (a p : ℕ) (xs ys : L
   kept-reason : (x : ℕ) → x ≢ p → woken W a p .reason x ≡ W .reason x
   kept-reason x n = put1-other (W .reason) p 0 x n
 
-  not-p : (q : ℕ) → count q ps ≡ 0 → q ≢ p
-  not-p q z d = omega (arith, ap (λ (y : ℕ). count y ps) d, woken-proc)
-
   pub wake-sep : Sep ps K
   wake-sep = record {
     procs = other-list processorList (not-procs s a h) ∙ s .procs;
@@ -162,10 +159,7 @@ module _ {ps : List ℕ} {L : Lists} {W : View} {g : ℕ} (a p : ℕ) (xs ys : L
           bare = λ x j. let t = stays pageQueue x (omega arith) j in rw (wf, wg (lower (W .label x)) (omega arith)) (f .granted .bare x (t .0));
           known = λ k i. rw (wg k i) (f .granted .known k i);
         };
-        mail = λ y w i u v q j.
-            let c = rw (other-list (place y w) (not-mail s a h y w i u v)) at j in
-            let n = q-free s y w q u v i c in
-            rw (kept-reason q (not-p q (n .1))) (f .mail y w i u v q c);
+        mail = λ y w i u v q j. f .mail y w i u v q (rw (other-list (place y w) (not-mail s a h y w i u v)) at j);
         runs = f .runs;
         codes = f .codes;
         clock = f .clock;
@@ -202,7 +196,7 @@ wake-mem {m} {ps} {L} {W} a p xs ys s s2 x h pg e =
     let x1 = sem-mem s x a (raised (W .sem a)) h in
     let x2 = leave-mem s x1 (a + 1) (seat-head s a h) (λ d. not-procs s a h (sym d)) p xs ys e in
     let x3 = state-mem s2 x2 p (waitCleared (W .state p)) pg in
-    rw (x .reads .sems a h, x2 .reads .words .state p pg) (reason-mem s2 x3 p 0 pg)
+    rw (x .reads .sems a h, x2 .reads .words .state p pg) (reason-mem s2 x3 p 0 (wait-page s (a + 1) p h (rw e (count-mid p xs ys))))
 
 pub wake-base : {m : List ℕ} {ps : List ℕ} {L : Lists} {W : View} {hs : List ℕ} {g : ℕ} (a p : ℕ) (xs ys : List ℕ) → Base m ps L W hs g
     → 1 ≤ count (a + 1) (queues ps) → L (a + 1) ≡ xs ++ p ∷ ys → Base (wake m a p) ps (upd L (a + 1) (xs ++ ys)) (woken W a p) hs g

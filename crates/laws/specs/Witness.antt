@@ -145,7 +145,7 @@ example-hand = first-free (lists example freeList) refl .hand
 -- a page in hand that is a message
 pub record InHandMessage : Type 0 where
   pub hand : InHand
-  pub mails : Message (hand .view .note (hand .page)) (hand .view .reason (hand .page))
+  pub mails : Message (hand .view .note (hand .page)) (hand .view .size (hand .page))
 
 pub example-message : InHandMessage
 example-message =
