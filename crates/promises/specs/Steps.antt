@@ -37,7 +37,7 @@ module _ {m : List ℕ} {ps : List ℕ} {L : Lists} {W : View} {hs : List ℕ} {
   pub giving-back-grants : (p : ℕ) (ws : List ℕ) → lists m pageQueue ≡ p ∷ ws → Grants ps m (giveBack m q) (name m p) q ws
   giving-back-grants = give-grants b
 
-  pub delivering : (p : ℕ) → 1 ≤ count p ps → Message (W .note q) (W .reason q) → (lists (deliver m p q) (place p q1) ≡ lists m (place p q1) ++ q ∷ [])
+  pub delivering : (p : ℕ) → 1 ≤ count p ps → Message (W .note q) (W .size q) → (lists (deliver m p q) (place p q1) ≡ lists m (place p q1) ++ q ∷ [])
       × ((c : ℕ) → 1 ≤ count c (uses ps ++ queues ps) → c ≢ place p q1 → c ≢ place p ownQueue → lists (deliver m p q) c ≡ lists m c)
   delivering = deliver-appends b
 
