@@ -1,5 +1,6 @@
 // Refusals and faults: how an instruction ends, done, by a jump, put to wait or with a fault; then who runs.
 use model::Answer;
+use model::map;
 use processors::advance;
 use processors::enter;
 use processors::name;
@@ -52,7 +53,7 @@ pub fn wait_for_page(m: &mut [u8]) -> Answer
     requires { ⌜ length (now m) ≡ 8192 ⌝ }
     ensures { λ r. ⌜ gives r (now (m .exit)) ≡ Model.waitsForPage (now (m .entry)) ⌝ }
 {
-    wait(m, 245, 0)
+    wait(m, map::FREE_SEMAPHORE, 0)
 }
 
 // The runner is stopped, and fault f is entered on page 9; its name.
@@ -64,7 +65,7 @@ fn stop_runner(m: &mut [u8], f: u8) -> u8
     let p = running(m);
     let n = name(m, p);
     stop(m, p);
-    enter(m, n * 16 + f);
+    enter(m, n * map::FIELD + f);
     n
 }
 

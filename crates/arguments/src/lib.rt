@@ -1,5 +1,7 @@
 // Instructions: the table of lengths and argument counts, and the arguments of each code, direct and for EXI.
 use model::Arguments;
+use model::instructions;
+use model::map;
 use model::wide;
 use words::address_at;
 use words::at;
@@ -12,55 +14,55 @@ ghost use Rattle.model.specs.Instruction as Instruction;
 ghost use Rattle.model.specs.Bytes as Model;
 
 // CVI DVI GIN WIN SME WNM RME TME ST1 STP ST2 CRP DEP 13 EXI: the length of each, how many argument words it has for EXI, and its shape.
-const LENGTHS: [u8; 15] = [4, 2, 2, 4, 4, 3, 4, 4, 2, 2, 4, 5, 2, 4, 4];
+const LENGTHS: [u8; map::TABLE_ROWS] = [4, 2, 2, 4, 4, 3, 4, 4, 2, 2, 4, 5, 2, 4, 4];
 
-const COUNTS: [u8; 15] = [3, 1, 0, 2, 4, 2, 4, 4, 1, 1, 3, 5, 1, 4, 0];
+const COUNTS: [u8; map::TABLE_ROWS] = [3, 1, 0, 2, 4, 2, 4, 4, 1, 1, 3, 5, 1, 4, 0];
 
-const SHAPES: [u8; 15] = [2, 1, 0, 3, 5, 4, 5, 5, 1, 1, 2, 6, 1, 5, 5];
+const SHAPES: [u8; map::TABLE_ROWS] = [2, 1, 0, 3, 5, 4, 5, 5, 1, 1, 2, 6, 1, 5, 5];
 
 // The most that each of up to five argument words may be, a row for each shape.
 const LIMITS: [u8; 35] = [
-    255,
-    255,
-    255,
-    255,
-    255,
-    15,
-    255,
-    255,
-    255,
-    255,
-    15,
-    31,
-    255,
-    255,
-    255,
-    255,
-    255,
-    255,
-    255,
-    255,
-    15,
-    7,
-    255,
-    255,
-    255,
-    15,
-    7,
-    31,
-    255,
-    255,
-    15,
-    15,
-    15,
-    31,
-    255,
+    map::A_WORD,
+    map::A_WORD,
+    map::A_WORD,
+    map::A_WORD,
+    map::A_WORD,
+    map::FOUR_BITS,
+    map::A_WORD,
+    map::A_WORD,
+    map::A_WORD,
+    map::A_WORD,
+    map::FOUR_BITS,
+    map::FIVE_BITS,
+    map::A_WORD,
+    map::A_WORD,
+    map::A_WORD,
+    map::A_WORD,
+    map::A_WORD,
+    map::A_WORD,
+    map::A_WORD,
+    map::A_WORD,
+    map::FOUR_BITS,
+    map::THREE_BITS,
+    map::A_WORD,
+    map::A_WORD,
+    map::A_WORD,
+    map::FOUR_BITS,
+    map::THREE_BITS,
+    map::FIVE_BITS,
+    map::A_WORD,
+    map::A_WORD,
+    map::FOUR_BITS,
+    map::FOUR_BITS,
+    map::FOUR_BITS,
+    map::FIVE_BITS,
+    map::A_WORD,
 ];
 
 pub fn length_for(c: u8) -> u8
     ensures { λ r. ⌜ (r ≡ Instruction.lengthFor c) × (2 ≤ r) × (r ≤ 5) ⌝ }
 {
-    if c < 15 {
+    if c < map::BUILT_IN_CODES {
         return LENGTHS[c as usize];
     }
     2
@@ -69,7 +71,7 @@ pub fn length_for(c: u8) -> u8
 pub fn count_for(c: u8) -> u8
     ensures { λ r. ⌜ (r ≡ Instruction.countFor c) × (r ≤ 5) ⌝ }
 {
-    if c < 15 {
+    if c < map::BUILT_IN_CODES {
         return COUNTS[c as usize];
     }
     0
@@ -78,7 +80,7 @@ pub fn count_for(c: u8) -> u8
 pub fn shape_for(c: u8) -> u8
     ensures { λ r. ⌜ (r ≡ Instruction.shapeFor c) × (r ≤ 6) ⌝ }
 {
-    if c < 15 {
+    if c < map::BUILT_IN_CODES {
         return SHAPES[c as usize];
     }
     0
@@ -132,7 +134,7 @@ fn four_at(m: &[u8], n: u16, i: u16) -> u8
     requires { ⌜ (length (now m) ≡ 8192) × (n < 8192) × (i < 8192) ⌝ }
     ensures { λ r. ⌜ (r ≡ Model.fourAt (now (m .entry)) n i) × (r < 16) ⌝ }
 {
-    argument(m, n, i) % 16
+    argument(m, n, i) % map::FIELD
 }
 
 fn address_from(m: &[u8], n: u16, i: u16) -> u16
@@ -147,7 +149,7 @@ fn three_at(m: &[u8], n: u16) -> u8
     requires { ⌜ (length (now m) ≡ 8192) × (n < 8192) ⌝ }
     ensures { λ r. ⌜ (r ≡ Model.threeAt (now (m .entry)) n) × (r < 16) ⌝ }
 {
-    argument(m, n, 2) / 32
+    argument(m, n, 2) / map::HIGHS
 }
 
 fn direct_counted(m: &[u8], n: u16) -> Arguments
@@ -166,7 +168,7 @@ fn direct_creating(m: &[u8], n: u16) -> Arguments
     let f = four_at(m, n, 1);
     let w = argument(m, n, 2);
     let a = address_from(m, n, 3);
-    arguments(f, w / 16, w % 16, a)
+    arguments(f, w / map::FIELD, w % map::FIELD, a)
 }
 
 // The arguments of the instruction at n, of shape s.
@@ -175,12 +177,17 @@ pub fn direct(m: &[u8], n: u16, s: u8) -> Arguments
     ensures { λ r. ⌜ (r ≡ Model.direct (now (m .entry)) n s) × (r .field < 16) × (r .second < 16) × (r .w < 16) × (r .address < 8192) ⌝ }
 {
     match s {
-        1 => arguments(four_at(m, n, 1), 0, 0, 0),
-        2 => arguments(four_at(m, n, 1), 0, 0, address_from(m, n, 2)),
-        3 => direct_counted(m, n),
-        4 => arguments(four_at(m, n, 1), three_at(m, n), 0, 0),
-        5 => arguments(four_at(m, n, 1), three_at(m, n), 0, address_from(m, n, 2)),
-        6 => direct_creating(m, n),
+        instructions::PLAIN => arguments(four_at(m, n, 1), 0, 0, 0),
+        instructions::ADDRESSED => arguments(four_at(m, n, 1), 0, 0, address_from(m, n, 2)),
+        instructions::COUNTED => direct_counted(m, n),
+        instructions::FLAGGED => arguments(four_at(m, n, 1), three_at(m, n), 0, 0),
+        instructions::COMPLETE => arguments(
+            four_at(m, n, 1),
+            three_at(m, n),
+            0,
+            address_from(m, n, 2),
+        ),
+        instructions::CREATING => direct_creating(m, n),
         _ => arguments(0, 0, 0, 0),
     }
 }
@@ -190,7 +197,7 @@ fn flag_at(m: &[u8], e: u16) -> u8
     requires { ⌜ (length (now m) ≡ 8192) × (e < 8192) ⌝ }
     ensures { λ r. ⌜ (r ≡ Model.flagAt (now (m .entry)) e) × (r < 16) ⌝ }
 {
-    argument(m, e, 1) % 8
+    argument(m, e, 1) % map::FLAGS
 }
 
 fn pointed_creating(m: &[u8], e: u16) -> Arguments
@@ -210,12 +217,17 @@ pub fn pointed(m: &[u8], e: u16, s: u8) -> Arguments
     ensures { λ r. ⌜ (r ≡ Model.pointed (now (m .entry)) e s) × (r .field < 16) × (r .second < 16) × (r .w < 16) × (r .address < 8192) ⌝ }
 {
     match s {
-        1 => arguments(four_at(m, e, 0), 0, 0, 0),
-        2 => arguments(four_at(m, e, 0), 0, 0, address_from(m, e, 1)),
-        3 => counted_arguments(argument(m, e, 0), argument(m, e, 1)),
-        4 => arguments(four_at(m, e, 0), flag_at(m, e), 0, 0),
-        5 => arguments(four_at(m, e, 0), flag_at(m, e), 0, address_from(m, e, 2)),
-        6 => pointed_creating(m, e),
+        instructions::PLAIN => arguments(four_at(m, e, 0), 0, 0, 0),
+        instructions::ADDRESSED => arguments(four_at(m, e, 0), 0, 0, address_from(m, e, 1)),
+        instructions::COUNTED => counted_arguments(argument(m, e, 0), argument(m, e, 1)),
+        instructions::FLAGGED => arguments(four_at(m, e, 0), flag_at(m, e), 0, 0),
+        instructions::COMPLETE => arguments(
+            four_at(m, e, 0),
+            flag_at(m, e),
+            0,
+            address_from(m, e, 2),
+        ),
+        instructions::CREATING => pointed_creating(m, e),
         _ => arguments(0, 0, 0, 0),
     }
 }

@@ -5,6 +5,9 @@ use answers::jump;
 use answers::wait;
 use interrupts::serve;
 use model::Answer;
+use model::faults;
+use model::instructions;
+use model::map;
 use model::wide;
 use processors::advance;
 use processors::lr;
@@ -30,14 +33,14 @@ pub fn kind(m: &[u8], c: u8) -> u8
     requires { ⌜ length (now m) ≡ 8192 ⌝ }
     ensures { λ r. ⌜ r ≡ Model.kind (now (m .entry)) c ⌝ }
 {
-    at(m, 256 + 2 * wide(c)) / 32
+    at(m, map::CODE_WORDS + 2 * wide(c)) / map::HIGHS
 }
 
 pub fn program(m: &[u8], c: u8) -> u16
     requires { ⌜ length (now m) ≡ 8192 ⌝ }
     ensures { λ r. ⌜ r ≡ Model.program (now (m .entry)) c ⌝ }
 {
-    address_at(m, 256 + 2 * wide(c))
+    address_at(m, map::CODE_WORDS + 2 * wide(c))
 }
 
 // Code c becomes of kind k, at a.
@@ -45,8 +48,8 @@ fn set_code(m: &mut [u8], c: u8, k: u8, a: u16)
     requires { ⌜ (length (now m) ≡ 8192) × (k < 8) ⌝ }
     ensures { λ _. ⌜ now (m .exit) ≡ Model.setCode (now (m .entry)) c k a ⌝ }
 {
-    write(m, 256 + 2 * wide(c), k * 32 + high(a));
-    write(m, 257 + 2 * wide(c), low(a));
+    write(m, map::CODE_WORDS + 2 * wide(c), k * map::HIGHS + high(a));
+    write(m, map::CODE_LOWS + 2 * wide(c), low(a));
 }
 
 pub fn cvi(m: &mut [u8], c: u8, a: u16, len: u16) -> Answer
@@ -54,25 +57,25 @@ pub fn cvi(m: &mut [u8], c: u8, a: u16, len: u16) -> Answer
     ensures { λ r. ⌜ gives r (now (m .exit)) ≡ Model.cvi (now (m .entry)) c a len ⌝ }
 {
     let k = kind(m, c);
-    if k == 0 {
-        set_code(m, c, 2, a);
+    if k == instructions::ABSENT {
+        set_code(m, c, instructions::OWN, a);
         return done(m, len);
     }
-    fault(m, 3)
+    fault(m, faults::CODE_EXISTS)
 }
 
 pub fn dvi(m: &mut [u8], c: u8, len: u16) -> Answer
     requires { ⌜ (length (now m) ≡ 8192) × (len < 8192) ⌝ }
     ensures { λ r. ⌜ gives r (now (m .exit)) ≡ Model.dvi (now (m .entry)) c len ⌝ }
 {
-    if c < 2 {
-        return fault(m, 4);
+    if c < instructions::FIRST_GOING {
+        return fault(m, faults::KEPT_CODE);
     }
     let k = kind(m, c);
-    if k == 0 {
-        return fault(m, 1);
+    if k == instructions::ABSENT {
+        return fault(m, faults::ABSENT_CODE);
     }
-    set_code(m, c, 0, 0);
+    set_code(m, c, instructions::ABSENT, 0);
     done(m, len)
 }
 
@@ -90,17 +93,17 @@ pub fn win(m: &mut [u8], k: u8, c: u8, len: u16) -> Answer
     requires { ⌜ (length (now m) ≡ 8192) × (len < 8192) ⌝ }
     ensures { λ r. ⌜ gives r (now (m .exit)) ≡ Model.win (now (m .entry)) k c len ⌝ }
 {
-    if k == 0 {
-        return fault(m, 5);
+    if k == instructions::ABSENT {
+        return fault(m, faults::BAD_WAIT);
     }
-    if 54 < k {
-        return fault(m, 5);
+    if map::INTERRUPTS < k {
+        return fault(m, faults::BAD_WAIT);
     }
     if c == 0 {
-        return fault(m, 5);
+        return fault(m, faults::BAD_WAIT);
     }
     advance(m, len);
-    wait(m, 129 + 2 * wide(k), c)
+    wait(m, map::SEMAPHORES + 2 * wide(k), c)
 }
 
 // Code 13's work on the word at a: 0 adds, 1 stores, 2 ands, 3 increments.
@@ -109,10 +112,14 @@ fn add(m: &mut [u8], a: u16)
     ensures { λ _. ⌜ now (m .exit) ≡ Model.adds (now (m .entry)) a ⌝ }
 {
     let p = running(m);
-    let s = wide(p.word(m, 8)) + wide(at(m, a));
-    let x = p.word(m, 10);
-    p.store(m, 8, (s % 256) as u8);
-    p.store(m, 10, (s / 256) as u8 * 128 + x % 128);
+    let s = wide(p.word(m, map::WORD_A)) + wide(at(m, a));
+    let x = p.word(m, map::HIGH_LR);
+    p.store(m, map::WORD_A, (s % map::WORD_VALUES) as u8);
+    p.store(
+        m,
+        map::HIGH_LR,
+        (s / map::WORD_VALUES) as u8 * map::STOP_BIT + x % map::STOP_BIT,
+    );
 }
 
 fn store_a(m: &mut [u8], a: u16)
@@ -120,9 +127,9 @@ fn store_a(m: &mut [u8], a: u16)
     ensures { λ _. ⌜ now (m .exit) ≡ Model.storesA (now (m .entry)) a ⌝ }
 {
     let p = running(m);
-    let v = p.word(m, 8);
+    let v = p.word(m, map::WORD_A);
     write(m, a, v);
-    p.store(m, 8, 0);
+    p.store(m, map::WORD_A, 0);
 }
 
 fn and(m: &mut [u8], a: u16)
@@ -130,9 +137,9 @@ fn and(m: &mut [u8], a: u16)
     ensures { λ _. ⌜ now (m .exit) ≡ Model.ands (now (m .entry)) a ⌝ }
 {
     let p = running(m);
-    let v = p.word(m, 8);
+    let v = p.word(m, map::WORD_A);
     let w = at(m, a);
-    p.store(m, 8, v & w);
+    p.store(m, map::WORD_A, v & w);
 }
 
 fn increment(m: &mut [u8], a: u16)
@@ -148,10 +155,10 @@ fn work(m: &mut [u8], o: u8, a: u16)
     ensures { λ _. ⌜ now (m .exit) ≡ Model.worked (now (m .entry)) o a ⌝ }
 {
     match o {
-        0 => add(m, a),
-        1 => store_a(m, a),
-        2 => and(m, a),
-        3 => increment(m, a),
+        instructions::ADD => add(m, a),
+        instructions::STORE => store_a(m, a),
+        instructions::AND => and(m, a),
+        instructions::INCREMENT => increment(m, a),
         _ => (),
     }
 }
@@ -161,8 +168,8 @@ fn return_to(m: &mut [u8], a: u16)
     requires { ⌜ length (now m) ≡ 8192 ⌝ }
     ensures { λ _. ⌜ now (m .exit) ≡ Model.returnTo (now (m .entry)) a ⌝ }
 {
-    write(m, 5, high(a));
-    write(m, 6, low(a));
+    write(m, map::RETURN_HIGH, high(a));
+    write(m, map::RETURN_LOW, low(a));
 }
 
 // CODE1 o at its address a.
@@ -170,16 +177,16 @@ fn reach(m: &mut [u8], o: u8, a: u16, len: u16) -> Answer
     requires { ⌜ (length (now m) ≡ 8192) × (a < 8192) × (len < 8192) ⌝ }
     ensures { λ r. ⌜ gives r (now (m .exit)) ≡ Model.reaches (now (m .entry)) o a len ⌝ }
 {
-    if o == 5 {
+    if o == instructions::VEP {
         let n = wrapped(lr(m), len);
         return_to(m, n);
         return jump(m, a);
     }
-    if o == 4 {
+    if o == instructions::JUMP {
         return jump(m, a);
     }
     if guarded(a) {
-        return fault(m, 11);
+        return fault(m, faults::PROTECTED);
     }
     work(m, o, a);
     done(m, len)
@@ -197,7 +204,7 @@ fn follow(m: &mut [u8], i: u8, o: u8, a: u16, len: u16) -> Answer
         let b = address_at(m, a);
         return reach(m, o, b, len);
     }
-    fault(m, 11)
+    fault(m, faults::PROTECTED)
 }
 
 // The address a, indexed where x says so.
@@ -205,8 +212,8 @@ pub fn indexed(m: &[u8], x: u8, a: u16) -> u16
     requires { ⌜ (length (now m) ≡ 8192) × (a < 8192) ⌝ }
     ensures { λ r. ⌜ (r ≡ Model.indexed (now (m .entry)) x a) × (r < 8192) ⌝ }
 {
-    if 4 <= x {
-        let b = address_at(m, 24 + 2 * wide(x % 4));
+    if map::INDEX_BIT <= x {
+        let b = address_at(m, map::X_REGISTERS + 2 * wide(x % map::INDEX_BIT));
         return wrapped(a, b);
     }
     a
@@ -216,9 +223,9 @@ pub fn thirteen(m: &mut [u8], x: u8, o: u8, a: u16, len: u16) -> Answer
     requires { ⌜ (length (now m) ≡ 8192) × (a < 8192) × (len < 8192) ⌝ }
     ensures { λ r. ⌜ gives r (now (m .exit)) ≡ Model.thirteen (now (m .entry)) x o a len ⌝ }
 {
-    if 5 < o {
-        return fault(m, 12);
+    if instructions::VEP < o {
+        return fault(m, faults::BAD_ARGUMENT);
     }
-    let b = indexed(m, x % 8, a);
-    follow(m, x / 8, o, b, len)
+    let b = indexed(m, x % map::INDIRECT_BIT, a);
+    follow(m, x / map::INDIRECT_BIT, o, b, len)
 }

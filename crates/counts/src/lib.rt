@@ -1,5 +1,6 @@
 // The lists of the judge: how long they are, how often a page or a name stands in the processor list.
 use model::ControlPage;
+use model::map;
 use model::wide;
 use words::at;
 ghost use mathlib.Core.Path.{_≡_};
@@ -33,30 +34,30 @@ pub fn lies(x: u8, low: u8, high: u8) -> bool
 pub fn less(a: u8, b: u8) -> u8
     ensures { λ r. ⌜ r ≡ Map.less a b ⌝ }
 {
-    ((256 + wide(a) - wide(b)) % 256) as u8
+    ((map::WORD_VALUES + wide(a) - wide(b)) % map::WORD_VALUES) as u8
 }
 
 // The word that links the list of the head at a.
 pub fn link_of(a: u16) -> u16
     ensures { λ r. ⌜ (r ≡ linkOf a) × (r < 32) ⌝ }
 {
-    if a == 247 {
-        return 1;
+    if a == map::PROCESSOR_LIST {
+        return map::LIST_LINK;
     }
-    0
+    map::LINK
 }
 
 // How far it goes: one page more than there are, and one page for a grant.
 pub fn left_of(a: u16) -> u8
     ensures { λ r. ⌜ r ≡ leftOf a ⌝ }
 {
-    if a < 320 {
-        return 21;
+    if a < map::GRANTS {
+        return map::ONE_MORE;
     }
-    if a < 352 {
+    if a < map::GRANTS_END {
         return 1;
     }
-    21
+    map::ONE_MORE
 }
 
 // How many pages hang from the cell at a.
@@ -94,7 +95,7 @@ pub fn listings(m: &[u8], z: u8, a: u16, left: u8) -> u8
     if w == 0 {
         return 0;
     }
-    let n = listings(m, z, ControlPage(w).place(1), left - 1);
+    let n = listings(m, z, ControlPage(w).place(map::LIST_LINK), left - 1);
     if z == w {
         return n + 1;
     }
@@ -113,9 +114,9 @@ pub fn bearers(m: &[u8], k: u8, a: u16, left: u8) -> u8
     if w == 0 {
         return 0;
     }
-    let x = ControlPage(w).word(m, 7);
-    let n = bearers(m, k, ControlPage(w).place(1), left - 1);
-    if k == x % 16 {
+    let x = ControlPage(w).word(m, map::LABEL);
+    let n = bearers(m, k, ControlPage(w).place(map::LIST_LINK), left - 1);
+    if k == x % map::FIELD {
         return n + 1;
     }
     n

@@ -7,6 +7,9 @@ use model::Answer;
 use model::ControlPage;
 use model::Name;
 use model::Registers;
+use model::faults;
+use model::instructions;
+use model::map;
 use model::wide;
 use pages::take_page;
 use processors::running;
@@ -43,12 +46,12 @@ fn dep(m: &mut [u8], p: ControlPage, len: u16) -> Answer
     requires { ⌜ (length (now m) ≡ 8192) × (len < 8192) ⌝ }
     ensures { λ r. ⌜ gives r (now (m .exit)) ≡ Model.dep (now (m .entry)) (p .0) len ⌝ }
 {
-    let x = p.word(m, 12);
-    if 128 <= x {
+    let x = p.word(m, map::STATE);
+    if map::STOP_BIT <= x {
         delete(m, p);
         return done(m, len);
     }
-    fault(m, 10)
+    fault(m, faults::NOT_STOPPED)
 }
 
 // ST1, STP or DEP, by its code, of the processor of page p.
@@ -56,10 +59,10 @@ fn on_page(m: &mut [u8], c: u8, p: ControlPage, len: u16) -> Answer
     requires { ⌜ (length (now m) ≡ 8192) × (len < 8192) ⌝ }
     ensures { λ r. ⌜ gives r (now (m .exit)) ≡ Model.onPage (now (m .entry)) c (p .0) len ⌝ }
 {
-    if c == 8 {
+    if c == instructions::ST1 {
         return st1(m, p, len);
     }
-    if c == 9 {
+    if c == instructions::STP {
         return stp(m, p, len);
     }
     dep(m, p, len)
@@ -71,11 +74,11 @@ pub fn named(m: &mut [u8], c: u8, n: Name, len: u16) -> Answer
     ensures { λ r. ⌜ gives r (now (m .exit)) ≡ Model.named (now (m .entry)) c (n .0) len ⌝ }
 {
     if n.0 == 0 {
-        return fault(m, 12);
+        return fault(m, faults::BAD_ARGUMENT);
     }
     let p = page_of(m, n);
     if p.0 == 0 {
-        return fault(m, 7);
+        return fault(m, faults::NO_NAME);
     }
     on_page(m, c, p, len)
 }
@@ -84,16 +87,16 @@ fn st2_found(m: &mut [u8], p: ControlPage, a: u16, len: u16) -> Answer
     requires { ⌜ (length (now m) ≡ 8192) × (len < 8192) ⌝ }
     ensures { λ r. ⌜ gives r (now (m .exit)) ≡ Model.st2Found (now (m .entry)) (p .0) a len ⌝ }
 {
-    let x = p.word(m, 12);
-    if x < 128 {
-        return fault(m, 8);
+    let x = p.word(m, map::STATE);
+    if x < map::STOP_BIT {
+        return fault(m, faults::NOT_STARTABLE);
     }
-    if x % 128 / 64 == 0 {
+    if x % map::STOP_BIT / map::WAIT_BIT == 0 {
         set_lr(m, p, a);
         start(m, p);
         return done(m, len);
     }
-    fault(m, 8)
+    fault(m, faults::NOT_STARTABLE)
 }
 
 pub fn st2(m: &mut [u8], n: Name, a: u16, len: u16) -> Answer
@@ -101,11 +104,11 @@ pub fn st2(m: &mut [u8], n: Name, a: u16, len: u16) -> Answer
     ensures { λ r. ⌜ gives r (now (m .exit)) ≡ Model.st2 (now (m .entry)) (n .0) a len ⌝ }
 {
     if n.0 == 0 {
-        return fault(m, 12);
+        return fault(m, faults::BAD_ARGUMENT);
     }
     let p = page_of(m, n);
     if p.0 == 0 {
-        return fault(m, 7);
+        return fault(m, faults::NO_NAME);
     }
     st2_found(m, p, a, len)
 }
@@ -123,7 +126,7 @@ fn head(m: &mut [u8], q: ControlPage, n: Name, b: u8, w: u8, a: u16)
     requires { ⌜ (length (now m) ≡ 8192) × (n .0 < 16) × (b < 16) ⌝ }
     ensures { λ _. ⌜ now (m .exit) ≡ Model.headed (now (m .entry)) (q .0) (n .0) b w a ⌝ }
 {
-    q.store(m, 7, b * 16 + n.0);
+    q.store(m, map::LABEL, b * map::FIELD + n.0);
     let r = new_registers(a, w);
     r.hand_back(m, q);
 }
@@ -132,9 +135,9 @@ fn create(m: &mut [u8], q: ControlPage, n: Name, b: u8, w: u8, a: u16)
     requires { ⌜ (length (now m) ≡ 8192) × (n .0 < 16) × (b < 16) ⌝ }
     ensures { λ _. ⌜ now (m .exit) ≡ Model.created (now (m .entry)) (q .0) (n .0) b w a ⌝ }
 {
-    zero(m, q.place(0), 32);
+    zero(m, q.place(map::LINK), map::PAGE_SIZE);
     head(m, q, n, b, w, a);
-    join(m, 247, 1, q);
+    join(m, map::PROCESSOR_LIST, map::LIST_LINK, q);
 }
 
 fn crp_page(m: &mut [u8], n: Name, b: u8, w: u8, a: u16, len: u16) -> Answer
@@ -155,14 +158,14 @@ pub fn crp(m: &mut [u8], n: Name, b: u8, w: u8, a: u16, len: u16) -> Answer
     ensures { λ r. ⌜ gives r (now (m .exit)) ≡ Model.crp (now (m .entry)) (n .0) b w a len ⌝ }
 {
     if n.0 == 0 {
-        return fault(m, 12);
+        return fault(m, faults::BAD_ARGUMENT);
     }
     if b == 0 {
-        return fault(m, 12);
+        return fault(m, faults::BAD_ARGUMENT);
     }
     let p = page_of(m, n);
     if p.0 == 0 {
         return crp_page(m, n, b, w, a, len);
     }
-    fault(m, 9)
+    fault(m, faults::NAME_EXISTS)
 }

@@ -3,6 +3,7 @@ use mail::deliver;
 use mail::make_notice;
 use model::ControlPage;
 use model::Name;
+use model::map;
 use model::wide;
 use pages::give_back;
 use processors::leave_wait;
@@ -22,7 +23,7 @@ fn unlist(m: &mut [u8], p: ControlPage)
     ensures { λ _. ⌜ now (m .exit) ≡ Model.unlisted (now (m .entry)) (p .0) ⌝ }
 {
     leave_wait(m, p);
-    leave(m, 247, 1, p);
+    leave(m, map::PROCESSOR_LIST, map::LIST_LINK, p);
 }
 
 // Message q becomes a notice from n to the processor of page p, its sender.
@@ -30,8 +31,8 @@ fn notify(m: &mut [u8], n: Name, q: ControlPage, p: ControlPage)
     requires { ⌜ (length (now m) ≡ 8192) × (n .0 < 16) ⌝ }
     ensures { λ _. ⌜ now (m .exit) ≡ Model.noticed (now (m .entry)) (n .0) (q .0) (p .0) ⌝ }
 {
-    let w = q.word(m, 1);
-    make_notice(m, q, n, w % 16);
+    let w = q.word(m, map::NOTE);
+    make_notice(m, q, n, w % map::FIELD);
     deliver(m, p, q);
 }
 
@@ -40,13 +41,13 @@ fn return_message(m: &mut [u8], n: Name, q: ControlPage)
     requires { ⌜ (length (now m) ≡ 8192) × (n .0 < 16) ⌝ }
     ensures { λ _. ⌜ now (m .exit) ≡ Model.returned (now (m .entry)) (n .0) (q .0) ⌝ }
 {
-    let l = q.word(m, 2);
-    if l == 128 {
+    let l = q.word(m, map::SIZE);
+    if l == map::NOTICE {
         give_back(m, q);
         return;
     }
-    let w = q.word(m, 1);
-    let p = page_of(m, Name(w / 16));
+    let w = q.word(m, map::NOTE);
+    let p = page_of(m, Name(w / map::FIELD));
     if p.0 == 0 {
         give_back(m, q);
         return;
@@ -66,7 +67,7 @@ fn empty(m: &mut [u8], n: Name, h: u16, left: u8)
     if q == 0 {
         return;
     }
-    leave(m, h, 0, ControlPage(q));
+    leave(m, h, map::LINK, ControlPage(q));
     return_message(m, n, ControlPage(q));
     empty(m, n, h, left - 1);
 }
@@ -76,8 +77,8 @@ fn return_mail(m: &mut [u8], n: Name, p: ControlPage)
     requires { ⌜ (length (now m) ≡ 8192) × (n .0 < 16) ⌝ }
     ensures { λ _. ⌜ now (m .exit) ≡ Model.mailReturned (now (m .entry)) (n .0) (p .0) ⌝ }
 {
-    empty(m, n, p.place(6), 20);
-    empty(m, n, p.place(5), 20);
+    empty(m, n, p.place(map::Q2), map::CONTROL_PAGES);
+    empty(m, n, p.place(map::Q1), map::CONTROL_PAGES);
 }
 
 // The grant of the processor named n is given back.
@@ -85,7 +86,7 @@ fn return_grant(m: &mut [u8], n: Name)
     requires { ⌜ (length (now m) ≡ 8192) × (n .0 < 16) ⌝ }
     ensures { λ _. ⌜ now (m .exit) ≡ Model.grantReturned (now (m .entry)) (n .0) ⌝ }
 {
-    let g = 320 + wide(n.0);
+    let g = map::GRANTS + wide(n.0);
     let q = at(m, g);
     if q == 0 {
         return;

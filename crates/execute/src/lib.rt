@@ -20,6 +20,10 @@ use creating::st2;
 use model::Answer;
 use model::Arguments;
 use model::Name;
+use model::faults;
+use model::instructions;
+use model::map;
+use model::refusals;
 use model::wide;
 use sending::rme;
 use sending::sme;
@@ -41,11 +45,11 @@ fn foreign(m: &mut [u8], c: u8, a: u16) -> Answer
     ensures { λ r. ⌜ gives r (now (m .exit)) ≡ Model.foreign (now (m .entry)) c a ⌝ }
 {
     let k = kind(m, c);
-    if k == 2 {
+    if k == instructions::OWN {
         let p = program(m, c);
         return Answer::HandedOut(p, a);
     }
-    fault(m, 1)
+    fault(m, faults::ABSENT_CODE)
 }
 
 // Whether EXI meets a code that is not built in; an EXI of EXI is left to the depth.
@@ -53,11 +57,11 @@ fn is_foreign(m: &[u8], c: u8) -> bool
     requires { ⌜ length (now m) ≡ 8192 ⌝ }
     ensures { λ r. ⌜ r ≡ Model.isForeign (now (m .entry)) c ⌝ }
 {
-    if c == 14 {
+    if c == instructions::EXI {
         return false;
     }
     let k = kind(m, c);
-    if k == 1 {
+    if k == instructions::BUILT_IN {
         return false;
     }
     true
@@ -68,18 +72,18 @@ fn argument_fault(m: &[u8], c: u8, e: u16) -> u8
     requires { ⌜ (length (now m) ≡ 8192) × (e < 8192) ⌝ }
     ensures { λ r. ⌜ (r ≡ Model.argumentFault (now (m .entry)) c e) × (r < 16) ⌝ }
 {
-    if c == 14 {
-        return 0;
+    if c == instructions::EXI {
+        return faults::NONE;
     }
     let n = count_for(c);
     if clear(n, e) {
         let s = shape_for(c);
         if within(m, e, s, n) {
-            return 0;
+            return faults::NONE;
         }
-        return 12;
+        return faults::BAD_ARGUMENT;
     }
-    11
+    faults::PROTECTED
 }
 
 // The instruction with code c and arguments x; depth more EXIs are allowed.
@@ -88,20 +92,25 @@ pub fn execute(m: &mut [u8], c: u8, x: Arguments, len: u16, depth: u8) -> Answer
     ensures { λ r. ⌜ gives r (now (m .exit)) ≡ Model.execute depth (now (m .entry)) c x len ⌝ }
 {
     match c {
-        0 => cvi(m, x.field, x.address, len),
-        1 => dvi(m, x.field, len),
-        2 => gin(m, len),
-        3 => win(m, x.interrupt, x.count, len),
-        4 => sme(m, Name(x.field), x.second, x.address, len),
-        5 => wnm(m, Name(x.field), x.second, len),
-        6 => rme(m, Name(x.field), x.second, x.address, len),
-        7 => tme(m, Name(x.field), x.second, x.address, len),
-        8 | 9 | 12 => named(m, c, Name(x.field), len),
-        10 => st2(m, Name(x.field), x.address, len),
-        11 => crp(m, Name(x.field), x.second, x.w, x.address, len),
-        13 => thirteen(m, x.field, x.second, x.address, len),
-        14 => exi_step(m, x, depth),
-        _ => fault(m, 1),
+        instructions::CVI => cvi(m, x.field, x.address, len),
+        instructions::DVI => dvi(m, x.field, len),
+        instructions::GIN => gin(m, len),
+        instructions::WIN => win(m, x.interrupt, x.count, len),
+        instructions::SME => sme(m, Name(x.field), x.second, x.address, len),
+        instructions::WNM => wnm(m, Name(x.field), x.second, len),
+        instructions::RME => rme(m, Name(x.field), x.second, x.address, len),
+        instructions::TME => tme(m, Name(x.field), x.second, x.address, len),
+        instructions::ST1 | instructions::STP | instructions::DEP => named(
+            m,
+            c,
+            Name(x.field),
+            len,
+        ),
+        instructions::ST2 => st2(m, Name(x.field), x.address, len),
+        instructions::CRP => crp(m, Name(x.field), x.second, x.w, x.address, len),
+        instructions::THIRTEEN => thirteen(m, x.field, x.second, x.address, len),
+        instructions::EXI => exi_step(m, x, depth),
+        _ => fault(m, faults::ABSENT_CODE),
     }
 }
 
@@ -111,7 +120,7 @@ fn exi_step(m: &mut [u8], x: Arguments, depth: u8) -> Answer
     ensures { λ r. ⌜ gives r (now (m .exit)) ≡ Model.exi depth (now (m .entry)) x ⌝ }
 {
     if depth == 0 {
-        return fault(m, 2);
+        return fault(m, faults::EXI_OF_EXI);
     }
     let c = x.field;
     let e = indexed(m, x.second, x.address);
@@ -119,7 +128,7 @@ fn exi_step(m: &mut [u8], x: Arguments, depth: u8) -> Answer
         return foreign(m, c, e);
     }
     let f = argument_fault(m, c, e);
-    if f == 0 {
+    if f == faults::NONE {
         let s = shape_for(c);
         let y = pointed(m, e, s);
         return execute(m, c, y, 4, depth - 1);
@@ -139,7 +148,7 @@ fn taken(m: &mut [u8], n: u16, c: u8) -> Answer
         let x = direct(m, n, s);
         return execute(m, c, x, wide(l), 1);
     }
-    fault(m, 11)
+    fault(m, faults::PROTECTED)
 }
 
 fn decoded(m: &mut [u8], n: u16, c: u8) -> Answer
@@ -147,7 +156,7 @@ fn decoded(m: &mut [u8], n: u16, c: u8) -> Answer
     ensures { λ r. ⌜ gives r (now (m .exit)) ≡ Model.decoded (now (m .entry)) n c ⌝ }
 {
     let k = kind(m, c);
-    if k == 1 {
+    if k == instructions::BUILT_IN {
         return taken(m, n, c);
     }
     let a = wrapped(n, 1);
@@ -160,10 +169,10 @@ fn coded(m: &mut [u8], n: u16) -> Answer
 {
     let a = wrapped(n, 1);
     if guarded(a) {
-        return fault(m, 11);
+        return fault(m, faults::PROTECTED);
     }
     let w = at(m, a);
-    decoded(m, n, w / 16)
+    decoded(m, n, w / map::FIELD)
 }
 
 // The instruction at n.
@@ -172,11 +181,11 @@ pub fn fetched(m: &mut [u8], n: u16) -> Answer
     ensures { λ r. ⌜ gives r (now (m .exit)) ≡ Model.fetched (now (m .entry)) n ⌝ }
 {
     if guarded(n) {
-        return fault(m, 11);
+        return fault(m, faults::PROTECTED);
     }
     let w = at(m, n);
-    if w == 224 {
+    if w == instructions::FIRST_WORD {
         return coded(m, n);
     }
-    Answer::Refused(23)
+    Answer::Refused(refusals::NO_INSTRUCTION)
 }

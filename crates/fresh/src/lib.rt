@@ -1,6 +1,8 @@
 // Fresh start: "Fresh takes clock line and divider, clears .., then: ..".
 use model::ControlPage;
 use model::Registers;
+use model::instructions;
+use model::map;
 use model::wide;
 use turn::runs;
 use words::write;
@@ -16,16 +18,16 @@ ghost use Rattle.model.specs.Bytes as Model;
 pub fn startable(line: u16, d: u16) -> bool
     ensures { λ r. ⌜ r ≡ Fresh.startable line d ⌝ }
 {
-    if line < 16 {
+    if line < map::FIRST_OUTER_WIDE {
         return false;
     }
-    if 47 < line {
+    if map::LAST_LINE_WIDE < line {
         return false;
     }
     if d == 0 {
         return false;
     }
-    if 255 < d {
+    if map::A_WORD_WIDE < d {
         return false;
     }
     true
@@ -36,17 +38,17 @@ fn clear_pages(m: &mut [u8])
     requires { ⌜ length (now m) ≡ 8192 ⌝ }
     ensures { λ _. ⌜ now (m .exit) ≡ Model.cleared (now (m .entry)) ⌝ }
 {
-    zero(m, 0, 32);
-    zero(m, 128, 224);
-    zero(m, 7552, 640);
+    zero(m, map::PAGE_ZERO, map::PAGE_SIZE);
+    zero(m, map::INTERRUPT_PAGE, map::KERNEL_WORDS);
+    zero(m, map::CONTROL_PAGE, map::CONTROL_WORDS);
 }
 
 fn set_clock(m: &mut [u8], line: u8, d: u8)
     requires { ⌜ length (now m) ≡ 8192 ⌝ }
     ensures { λ _. ⌜ now (m .exit) ≡ Model.timed (now (m .entry)) line d ⌝ }
 {
-    write(m, 239, line);
-    write(m, 251, d);
+    write(m, map::CLOCK_LINE, line);
+    write(m, map::DIVIDER, d);
 }
 
 // Processor 1, priority 1, on page 236, running.
@@ -54,11 +56,11 @@ fn first_processor(m: &mut [u8])
     requires { ⌜ length (now m) ≡ 8192 ⌝ }
     ensures { λ _. ⌜ now (m .exit) ≡ Model.firstProcessor (now (m .entry)) ⌝ }
 {
-    let p = ControlPage(236);
-    p.store(m, 7, 17);
-    let r = Registers::starting_at(2752, 0);
+    let p = ControlPage(map::FIRST_CONTROL);
+    p.store(m, map::LABEL, map::FIRST_LABEL);
+    let r = Registers::starting_at(map::START_ADDRESS, 0);
     r.hand_back(m, p);
-    write(m, 247, 236);
+    write(m, map::PROCESSOR_LIST, map::FIRST_CONTROL);
     runs(m, p);
 }
 
@@ -71,7 +73,7 @@ fn chain(m: &mut [u8], p: ControlPage, n: u8)
         return;
     }
     let next = p.0 + 1;
-    p.store(m, 0, next);
+    p.store(m, map::LINK, next);
     chain(m, ControlPage(next), n - 1);
 }
 
@@ -80,9 +82,9 @@ fn free_pages(m: &mut [u8])
     requires { ⌜ length (now m) ≡ 8192 ⌝ }
     ensures { λ _. ⌜ now (m .exit) ≡ Model.freed (now (m .entry)) ⌝ }
 {
-    write(m, 244, 237);
-    write(m, 245, 19);
-    chain(m, ControlPage(237), 18);
+    write(m, map::FREE_LIST, map::FIRST_FREE);
+    write(m, map::FREE_SEMAPHORE, map::FREE_PAGES);
+    chain(m, ControlPage(map::FIRST_FREE), map::FREE_LINKS);
 }
 
 // The first c codes are built in.
@@ -93,7 +95,11 @@ fn build_in(m: &mut [u8], c: u8)
     if c == 0 {
         return;
     }
-    write(m, 256 + 2 * wide(c - 1), 32);
+    write(
+        m,
+        map::CODE_WORDS + 2 * wide(c - 1),
+        instructions::BUILT_IN_WORD,
+    );
     build_in(m, c - 1);
 }
 
@@ -105,6 +111,6 @@ pub fn start(m: &mut [u8], line: u8, d: u8)
     set_clock(m, line, d);
     first_processor(m);
     free_pages(m);
-    build_in(m, 15);
-    write(m, 288, 1);
+    build_in(m, map::BUILT_IN_CODES);
+    write(m, map::FIRST_UNUSED, 1);
 }

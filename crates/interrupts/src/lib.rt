@@ -1,5 +1,6 @@
 // Interrupts: each waiter served front to back, and the clock.
 use model::ControlPage;
+use model::map;
 use model::wide;
 use processors::wake;
 use words::at;
@@ -17,13 +18,13 @@ fn class(m: &mut [u8], k: u8, c: u8, p: ControlPage)
     requires { ⌜ length (now m) ≡ 8192 ⌝ }
     ensures { λ _. ⌜ now (m .exit) ≡ Model.classed (now (m .entry)) k c (p .0) ⌝ }
 {
-    if k < 48 {
+    if k < map::FIRST_CLASSED {
         return;
     }
-    if 50 < k {
+    if map::LAST_OUTER < k {
         return;
     }
-    p.store(m, 8, c);
+    p.store(m, map::WORD_A, c);
 }
 
 // A waiter on page p: reason 1 wakes and leaves, else the reason falls by one.
@@ -31,13 +32,13 @@ fn strike(m: &mut [u8], k: u8, c: u8, p: ControlPage)
     requires { ⌜ (length (now m) ≡ 8192) × (k ≤ 54) ⌝ }
     ensures { λ _. ⌜ now (m .exit) ≡ Model.struck (now (m .entry)) k c (p .0) ⌝ }
 {
-    let w = p.word(m, 2);
+    let w = p.word(m, map::REASON);
     if w == 1 {
-        wake(m, 129 + 2 * wide(k), p);
+        wake(m, map::SEMAPHORES + 2 * wide(k), p);
         class(m, k, c, p);
         return;
     }
-    p.store(m, 2, lowered(w));
+    p.store(m, map::REASON, lowered(w));
 }
 
 // The waiters from page p on; the next is read before p leaves.
@@ -51,7 +52,7 @@ fn serve_from(m: &mut [u8], k: u8, c: u8, p: ControlPage, left: u8)
     if p.0 == 0 {
         return;
     }
-    let next = p.word(m, 0);
+    let next = p.word(m, map::LINK);
     strike(m, k, c, p);
     serve_from(m, k, c, ControlPage(next), left - 1);
 }
@@ -61,8 +62,8 @@ pub fn serve(m: &mut [u8], k: u8, c: u8)
     requires { ⌜ (length (now m) ≡ 8192) × (k ≤ 54) ⌝ }
     ensures { λ _. ⌜ now (m .exit) ≡ Model.serve (now (m .entry)) k c ⌝ }
 {
-    let p = at(m, 130 + 2 * wide(k));
-    serve_from(m, k, c, ControlPage(p), 20);
+    let p = at(m, map::HEADERS + 2 * wide(k));
+    serve_from(m, k, c, ControlPage(p), map::CONTROL_PAGES);
 }
 
 // A counter counts. Whether it came to its end: there it is 0 and interrupt k is served.
@@ -86,14 +87,14 @@ fn c3_counts(m: &mut [u8])
     requires { ⌜ length (now m) ≡ 8192 ⌝ }
     ensures { λ _. ⌜ now (m .exit) ≡ Model.c3Counts (now (m .entry)) ⌝ }
 {
-    tick(m, 243, 60, 54);
+    tick(m, map::C3, map::C3_END, map::C3_INTERRUPT);
 }
 
 fn c2_counts(m: &mut [u8])
     requires { ⌜ length (now m) ≡ 8192 ⌝ }
     ensures { λ _. ⌜ now (m .exit) ≡ Model.c2Counts (now (m .entry)) ⌝ }
 {
-    if tick(m, 242, 60, 53) {
+    if tick(m, map::C2, map::C2_END, map::C2_INTERRUPT) {
         c3_counts(m);
     }
 }
@@ -102,7 +103,7 @@ fn c1_counts(m: &mut [u8])
     requires { ⌜ length (now m) ≡ 8192 ⌝ }
     ensures { λ _. ⌜ now (m .exit) ≡ Model.c1Counts (now (m .entry)) ⌝ }
 {
-    if tick(m, 241, 10, 52) {
+    if tick(m, map::C1, map::C1_END, map::C1_INTERRUPT) {
         c2_counts(m);
     }
 }
@@ -111,8 +112,8 @@ fn c0_counts(m: &mut [u8])
     requires { ⌜ length (now m) ≡ 8192 ⌝ }
     ensures { λ _. ⌜ now (m .exit) ≡ Model.c0Counts (now (m .entry)) ⌝ }
 {
-    let d = at(m, 251);
-    if tick(m, 240, d, 51) {
+    let d = at(m, map::DIVIDER);
+    if tick(m, map::C0, d, map::C0_INTERRUPT) {
         c1_counts(m);
     }
 }
@@ -122,7 +123,7 @@ pub fn deliver(m: &mut [u8], k: u8, c: u8)
     requires { ⌜ (length (now m) ≡ 8192) × (k ≤ 54) ⌝ }
     ensures { λ _. ⌜ now (m .exit) ≡ Model.delivered (now (m .entry)) k c ⌝ }
 {
-    let line = at(m, 239);
+    let line = at(m, map::CLOCK_LINE);
     if k == line {
         serve(m, k, c);
         c0_counts(m);

@@ -9,6 +9,7 @@ use counts::listings;
 use marks::used_once;
 use marks::waiting_bits;
 use model::ControlPage;
+use model::map;
 use model::wide;
 use rules::deep::Deep;
 use rules::deep::all_deep;
@@ -34,7 +35,7 @@ fn names(m: &[u8]) -> bool
     requires { ⌜ length (now m) ≡ 8192 ⌝ }
     ensures { λ r. ⌜ r ≡ holds (rule (Judge.names bytes) (now (m .entry))) ⌝ }
 {
-    all_of(m, Test::Label, 247)
+    all_of(m, Test::Label, map::PROCESSOR_LIST)
 }
 
 // Interrupt k + 1; the first n interrupts.
@@ -42,7 +43,7 @@ fn served(m: &[u8], k: u8) -> bool
     requires { ⌜ length (now m) ≡ 8192 ⌝ }
     ensures { λ r. ⌜ r ≡ holds (rule (Judge.served bytes) (now (m .entry)) k) ⌝ }
 {
-    all_of(m, Test::Reasoned, 132 + 2 * wide(k))
+    all_of(m, Test::Reasoned, map::HEADERS_AFTER + 2 * wide(k))
 }
 
 fn all_served(m: &[u8], n: u8) -> bool
@@ -63,10 +64,10 @@ fn reasons(m: &[u8]) -> bool
     ensures { λ r. ⌜ r ≡ holds (rule (Judge.reasons bytes) (now (m .entry))) ⌝ }
 {
     both(
-        all_served(m, 54),
+        all_served(m, map::INTERRUPTS),
         both(
-            all_of(m, Test::Reasonless, 246),
-            all_of(m, Test::Quiet, 247),
+            all_of(m, Test::Reasonless, map::PAGE_QUEUE),
+            all_of(m, Test::Quiet, map::PROCESSOR_LIST),
         ),
     )
 }
@@ -76,7 +77,7 @@ fn message_wait(m: &[u8], p: ControlPage) -> bool
     requires { ⌜ length (now m) ≡ 8192 ⌝ }
     ensures { λ r. ⌜ r ≡ holds (rule (Judge.messageWait bytes) (now (m .entry)) (p .0)) ⌝ }
 {
-    let a = p.place(4);
+    let a = p.place(map::OWN_QUEUE);
     all_deep(m, Deep::Owner(p), link_of(a), a, left_of(a))
 }
 
@@ -92,7 +93,7 @@ fn message_waits_from(m: &[u8], a: u16, left: u8) -> bool
         return true;
     }
     if message_wait(m, ControlPage(w)) {
-        return message_waits_from(m, ControlPage(w).place(1), left - 1);
+        return message_waits_from(m, ControlPage(w).place(map::LIST_LINK), left - 1);
     }
     false
 }
@@ -101,16 +102,16 @@ fn message_waits(m: &[u8]) -> bool
     requires { ⌜ length (now m) ≡ 8192 ⌝ }
     ensures { λ r. ⌜ r ≡ holds (rule (Judge.messageWaits bytes) (now (m .entry))) ⌝ }
 {
-    message_waits_from(m, 247, 21)
+    message_waits_from(m, map::PROCESSOR_LIST, map::ONE_MORE)
 }
 
 fn page_semaphore(m: &[u8]) -> bool
     requires { ⌜ length (now m) ≡ 8192 ⌝ }
     ensures { λ r. ⌜ r ≡ holds (rule (Judge.pageSemaphore bytes) (now (m .entry))) ⌝ }
 {
-    let s = at(m, 245);
-    let a = length_of(m, 244);
-    let b = length_of(m, 246);
+    let s = at(m, map::FREE_SEMAPHORE);
+    let a = length_of(m, map::FREE_LIST);
+    let b = length_of(m, map::PAGE_QUEUE);
     s == less(a, b)
 }
 
@@ -119,8 +120,11 @@ fn semaphores(m: &[u8]) -> bool
     ensures { λ r. ⌜ r ≡ holds (rule (Judge.semaphores bytes) (now (m .entry))) ⌝ }
 {
     both(
-        every(m, Test::InterruptSemaphore, 54),
-        both(all_of(m, Test::MessageSemaphore, 247), page_semaphore(m)),
+        every(m, Test::InterruptSemaphore, map::INTERRUPTS),
+        both(
+            all_of(m, Test::MessageSemaphore, map::PROCESSOR_LIST),
+            page_semaphore(m),
+        ),
     )
 }
 
@@ -128,21 +132,27 @@ fn page_waits(m: &[u8]) -> bool
     requires { ⌜ length (now m) ≡ 8192 ⌝ }
     ensures { λ r. ⌜ r ≡ holds (rule (Judge.pageWaits bytes) (now (m .entry))) ⌝ }
 {
-    all_of(m, Test::PageWait, 246)
+    all_of(m, Test::PageWait, map::PAGE_QUEUE)
 }
 
 fn granted(m: &[u8]) -> bool
     requires { ⌜ length (now m) ≡ 8192 ⌝ }
     ensures { λ r. ⌜ r ≡ holds (rule (Judge.granted bytes) (now (m .entry))) ⌝ }
 {
-    every(m, Test::Grant, 32)
+    every(m, Test::Grant, map::GRANT_WORDS)
 }
 
 fn messages(m: &[u8]) -> bool
     requires { ⌜ length (now m) ≡ 8192 ⌝ }
     ensures { λ r. ⌜ r ≡ holds (rule (Judge.messages bytes) (now (m .entry))) ⌝ }
 {
-    all_deep(m, Deep::Mail, 1, 247, 21)
+    all_deep(
+        m,
+        Deep::Mail,
+        map::LIST_LINK,
+        map::PROCESSOR_LIST,
+        map::ONE_MORE,
+    )
 }
 
 // The running one, of page p.
@@ -150,22 +160,28 @@ fn runner(m: &[u8], p: ControlPage) -> bool
     requires { ⌜ length (now m) ≡ 8192 ⌝ }
     ensures { λ r. ⌜ r ≡ holds (rule (Judge.runner bytes) (now (m .entry)) (p .0)) ⌝ }
 {
-    let n = listings(m, p.0, 247, 21);
-    let l = at(m, 249);
-    let w = p.word(m, 7);
-    let s = p.word(m, 12);
-    both(n == 1, both(l == w, s < 64))
+    let n = listings(m, p.0, map::PROCESSOR_LIST, map::ONE_MORE);
+    let l = at(m, map::RUNNING_LABEL);
+    let w = p.word(m, map::LABEL);
+    let s = p.word(m, map::STATE);
+    both(n == 1, both(l == w, s < map::WAIT_BIT))
 }
 
 fn running(m: &[u8]) -> bool
     requires { ⌜ length (now m) ≡ 8192 ⌝ }
     ensures { λ r. ⌜ r ≡ holds (rule (Judge.running bytes) (now (m .entry))) ⌝ }
 {
-    let p = at(m, 248);
+    let p = at(m, map::RUNNING_PAGE);
     if p == 0 {
-        return both(is_at(m, 249, 0), all_of(m, Test::NotHigher, 247));
+        return both(
+            is_at(m, map::RUNNING_LABEL, 0),
+            all_of(m, Test::NotHigher, map::PROCESSOR_LIST),
+        );
     }
-    both(runner(m, ControlPage(p)), all_of(m, Test::NotHigher, 247))
+    both(
+        runner(m, ControlPage(p)),
+        all_of(m, Test::NotHigher, map::PROCESSOR_LIST),
+    )
 }
 
 // "Well-formed", from messages on; from page waits on; from reasons on; from names on; all.

@@ -8,6 +8,8 @@ use model::Answer;
 use model::Held;
 use model::Registers;
 use model::Verdict;
+use model::map;
+use model::refusals;
 use processors::lr;
 use processors::running;
 use turn::who_runs;
@@ -22,27 +24,27 @@ ghost use Rattle.model.specs.Bytes as Model;
 pub fn fresh(m: &mut [u8], line: u16, divider: u16) -> Answer
     ensures { λ r. ⌜ gives r (now (m .exit)) ≡ Model.fresh (now (m .entry)) line divider ⌝ }
 {
-    if m.len() != 8192 {
-        return Answer::Refused(20);
+    if m.len() != map::MEMORY_WORDS {
+        return Answer::Refused(refusals::WRONG_LENGTH);
     }
     if startable(line, divider) {
         start(m, low(line), low(divider));
         return Answer::Done;
     }
-    Answer::Refused(26)
+    Answer::Refused(refusals::OUT_OF_RANGE)
 }
 
 // What refuses every other call before anything else is looked at; 0: nothing.
 fn refusal(m: &[u8]) -> u8
     ensures { λ r. ⌜ r ≡ Model.refusal (now (m .entry)) ⌝ }
 {
-    if m.len() != 8192 {
-        return 20;
+    if m.len() != map::MEMORY_WORDS {
+        return refusals::WRONG_LENGTH;
     }
     if judged(m) {
-        return 0;
+        return refusals::NONE;
     }
-    21
+    refusals::ILL_FORMED
 }
 
 fn instruction_judged(m: &mut [u8]) -> Answer
@@ -51,7 +53,7 @@ fn instruction_judged(m: &mut [u8]) -> Answer
 {
     let p = running(m);
     if p.0 == 0 {
-        return Answer::Refused(22);
+        return Answer::Refused(refusals::IDLE);
     }
     let n = lr(m);
     fetched(m, n)
@@ -62,7 +64,7 @@ pub fn instruction(m: &mut [u8]) -> Answer
     ensures { λ r. ⌜ gives r (now (m .exit)) ≡ Model.instruction (now (m .entry)) ⌝ }
 {
     let k = refusal(m);
-    if k == 0 {
+    if k == refusals::NONE {
         return instruction_judged(m);
     }
     Answer::Refused(k)
@@ -72,10 +74,10 @@ pub fn instruction(m: &mut [u8]) -> Answer
 fn is_outer(k: u16) -> bool
     ensures { λ r. ⌜ r ≡ Call.isOuter k ⌝ }
 {
-    if k < 16 {
+    if k < map::FIRST_OUTER_WIDE {
         return false;
     }
-    if 50 < k {
+    if map::LAST_OUTER_WIDE < k {
         return false;
     }
     true
@@ -84,10 +86,10 @@ fn is_outer(k: u16) -> bool
 fn is_class(k: u16, c: u16) -> bool
     ensures { λ r. ⌜ r ≡ Call.isClass k c ⌝ }
 {
-    if 31 < c {
+    if map::LAST_CLASS < c {
         return false;
     }
-    if k < 48 {
+    if k < map::FIRST_CLASSED_WIDE {
         return c == 0;
     }
     true
@@ -99,13 +101,13 @@ fn interrupt_judged(m: &mut [u8], k: u16, c: u16) -> Answer
 {
     if is_outer(k) {
         if is_class(k, c) {
-            deliver(m, low(k % 55), low(c));
+            deliver(m, low(k % map::INTERRUPT_NUMBERS), low(c));
             who_runs(m);
             return Answer::Done;
         }
-        return Answer::Refused(25);
+        return Answer::Refused(refusals::WRONG_CLASS);
     }
-    Answer::Refused(24)
+    Answer::Refused(refusals::NO_INTERRUPT)
 }
 
 // Delivery of interrupt k with class number c.
@@ -113,7 +115,7 @@ pub fn interrupt(m: &mut [u8], k: u16, c: u16) -> Answer
     ensures { λ r. ⌜ gives r (now (m .exit)) ≡ Model.interrupt (now (m .entry)) k c ⌝ }
 {
     let f = refusal(m);
-    if f == 0 {
+    if f == refusals::NONE {
         return interrupt_judged(m, k, c);
     }
     Answer::Refused(f)
@@ -125,7 +127,7 @@ fn read_judged(m: &[u8]) -> Held
 {
     let p = running(m);
     if p.0 == 0 {
-        return Held::Refused(22);
+        return Held::Refused(refusals::IDLE);
     }
     Held::Has(Registers::of(m, p))
 }
@@ -135,7 +137,7 @@ pub fn read_registers(m: &[u8]) -> Held
     ensures { λ r. ⌜ gives r (now (m .entry)) ≡ Model.readRegisters (now (m .entry)) ⌝ }
 {
     let k = refusal(m);
-    if k == 0 {
+    if k == refusals::NONE {
         return read_judged(m);
     }
     Held::Refused(k)
@@ -147,13 +149,13 @@ fn set_judged(m: &mut [u8], r: Registers) -> Answer
 {
     let p = running(m);
     if p.0 == 0 {
-        return Answer::Refused(22);
+        return Answer::Refused(refusals::IDLE);
     }
     if r.in_range() {
         r.set_on(m, p);
         return Answer::Done;
     }
-    Answer::Refused(26)
+    Answer::Refused(refusals::OUT_OF_RANGE)
 }
 
 // The running processor's registers become r.
@@ -161,7 +163,7 @@ pub fn set_registers(m: &mut [u8], r: Registers) -> Answer
     ensures { λ o. ⌜ gives o (now (m .exit)) ≡ Model.setRegisters (now (m .entry)) r ⌝ }
 {
     let k = refusal(m);
-    if k == 0 {
+    if k == refusals::NONE {
         return set_judged(m, r);
     }
     Answer::Refused(k)
@@ -172,7 +174,7 @@ pub fn judge(m: &[u8]) -> Verdict
     ensures { λ r. ⌜ gives r (now (m .entry)) ≡ Model.judge (now (m .entry)) ⌝ }
 {
     let k = refusal(m);
-    if k == 0 {
+    if k == refusals::NONE {
         return Verdict::WellFormed;
     }
     Verdict::Refused(k)

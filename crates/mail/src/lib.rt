@@ -1,6 +1,7 @@
 // Sending, and the moves of mail.
 use model::ControlPage;
 use model::Name;
+use model::map;
 use processors::name;
 use processors::running;
 use processors::wake;
@@ -24,7 +25,7 @@ pub fn in_q1(m: &[u8], n: Name, f: u8) -> ControlPage
     ensures { λ r. ⌜ r .0 ≡ Model.inQ1 (now (m .entry)) (n .0) f ⌝ }
 {
     let p = running(m);
-    find_message(m, n, f, p.place(5), 20)
+    find_message(m, n, f, p.place(map::Q1), map::CONTROL_PAGES)
 }
 
 pub fn in_q2(m: &[u8], n: Name, f: u8) -> ControlPage
@@ -32,7 +33,7 @@ pub fn in_q2(m: &[u8], n: Name, f: u8) -> ControlPage
     ensures { λ r. ⌜ r .0 ≡ Model.inQ2 (now (m .entry)) (n .0) f ⌝ }
 {
     let p = running(m);
-    find_message(m, n, f, p.place(6), 20)
+    find_message(m, n, f, p.place(map::Q2), map::CONTROL_PAGES)
 }
 
 // Whether the processor of page p waits for message q.
@@ -40,12 +41,12 @@ pub fn awaits(m: &[u8], p: ControlPage, q: ControlPage) -> bool
     requires { ⌜ length (now m) ≡ 8192 ⌝ }
     ensures { λ r. ⌜ r ≡ Model.awaits (now (m .entry)) (p .0) (q .0) ⌝ }
 {
-    let own = p.word(m, 4);
+    let own = p.word(m, map::OWN_QUEUE);
     if own == 0 {
         return false;
     }
-    let w = p.word(m, 2);
-    matches(m, Name(w / 16), w % 16, q)
+    let w = p.word(m, map::REASON);
+    matches(m, Name(w / map::FIELD), w % map::FIELD, q)
 }
 
 // The processor of page p wakes if it waits for message q.
@@ -54,7 +55,7 @@ fn heard(m: &mut [u8], p: ControlPage, q: ControlPage)
     ensures { λ _. ⌜ now (m .exit) ≡ Model.heard (now (m .entry)) (p .0) (q .0) ⌝ }
 {
     if awaits(m, p, q) {
-        wake(m, p.place(3), p);
+        wake(m, p.place(map::OWN_SEMAPHORE), p);
     }
 }
 
@@ -63,7 +64,7 @@ pub fn deliver(m: &mut [u8], p: ControlPage, q: ControlPage)
     requires { ⌜ length (now m) ≡ 8192 ⌝ }
     ensures { λ _. ⌜ now (m .exit) ≡ Model.deliver (now (m .entry)) (p .0) (q .0) ⌝ }
 {
-    join(m, p.place(5), 0, q);
+    join(m, p.place(map::Q1), map::LINK, q);
     heard(m, p, q);
 }
 
@@ -74,9 +75,9 @@ pub fn write_message(m: &mut [u8], q: ControlPage, f: u8, a: u16, l: u8)
 {
     let p = running(m);
     let n = name(m, p);
-    q.store(m, 1, n * 16 + f);
-    q.store(m, 2, l);
-    copy(m, a, q.place(3), l);
+    q.store(m, map::NOTE, n * map::FIELD + f);
+    q.store(m, map::SIZE, l);
+    copy(m, a, q.place(map::TEXT), l);
 }
 
 // Page q becomes a notice with sender n and flag f.
@@ -85,8 +86,8 @@ pub fn make_notice(m: &mut [u8], q: ControlPage, n: Name, f: u8)
     ensures { λ _. ⌜ now (m .exit) ≡ Model.makeNotice (now (m .entry)) (q .0) (n .0) f ⌝ }
 {
     let a = n.0;
-    q.store(m, 1, a * 16 + f);
-    q.store(m, 2, 128);
+    q.store(m, map::NOTE, a * map::FIELD + f);
+    q.store(m, map::SIZE, map::NOTICE);
 }
 
 // Message q goes from Q1 of the processor of page p to the end of its Q2.
@@ -94,8 +95,8 @@ pub fn move_message(m: &mut [u8], p: ControlPage, q: ControlPage)
     requires { ⌜ length (now m) ≡ 8192 ⌝ }
     ensures { λ _. ⌜ now (m .exit) ≡ Model.move (now (m .entry)) (p .0) (q .0) ⌝ }
 {
-    leave(m, p.place(5), 0, q);
-    join(m, p.place(6), 0, q);
+    leave(m, p.place(map::Q1), map::LINK, q);
+    join(m, p.place(map::Q2), map::LINK, q);
 }
 
 // The messages of Q1 are tested in order, and go to Q2, the first match too; whether there is one.
@@ -106,7 +107,7 @@ pub fn test_q1(m: &mut [u8], p: ControlPage, n: Name, f: u8, left: u8) -> bool
     if left == 0 {
         return false;
     }
-    let q = p.word(m, 5);
+    let q = p.word(m, map::Q1);
     if q == 0 {
         return false;
     }
@@ -123,11 +124,11 @@ fn copy_head(m: &mut [u8], q: ControlPage, a: u16)
     requires { ⌜ (length (now m) ≡ 8192) × (a < 8192) ⌝ }
     ensures { λ _. ⌜ now (m .exit) ≡ headOut (now (m .entry)) (q .0) a ⌝ }
 {
-    let w = q.word(m, 1);
-    let l = q.word(m, 2);
-    write(m, a, w / 16);
-    write(m, wrapped(a, 1), w % 16);
-    write(m, wrapped(a, 2), l % 128);
+    let w = q.word(m, map::NOTE);
+    let l = q.word(m, map::SIZE);
+    write(m, a, w / map::FIELD);
+    write(m, wrapped(a, 1), w % map::FIELD);
+    write(m, wrapped(a, 2), l % map::NOTICE);
 }
 
 // Sender, flag, length and text of message q go to a on.
@@ -135,7 +136,7 @@ pub fn copy_out(m: &mut [u8], q: ControlPage, a: u16)
     requires { ⌜ (length (now m) ≡ 8192) × (a < 8192) ⌝ }
     ensures { λ _. ⌜ now (m .exit) ≡ Model.copyOut (now (m .entry)) (q .0) a ⌝ }
 {
-    let l = q.word(m, 2) % 128;
+    let l = q.word(m, map::SIZE) % map::NOTICE;
     copy_head(m, q, a);
-    copy(m, q.place(3), wrapped(a, 3), l);
+    copy(m, q.place(map::TEXT), wrapped(a, map::HEAD_WORDS_WIDE), l);
 }

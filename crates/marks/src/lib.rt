@@ -3,6 +3,7 @@ use counts::both;
 use counts::left_of;
 use counts::link_of;
 use model::ControlPage;
+use model::map;
 use model::wide;
 use words::at;
 ghost use mathlib.Core.Path.{_≡_};
@@ -18,17 +19,17 @@ ghost use Rattle.counts.specs.Reach.{rule, headsOf};
 ghost use Rattle.marks.specs.Marks as Marks;
 ghost use Rattle.marks.specs.Marks.{marked, markedAll, markedLists, bits, onceBy, bitBy, waiterBy, marksIn};
 
-pub type Marks = [u8; 21];
+pub type Marks = [u8; map::MARKS];
 
 // Where page x has its mark; the last is for what is no control page.
 fn slot(x: u16) -> usize
     requires { ⌜ x < 256 ⌝ }
     ensures { λ r. ⌜ (r ≡ Marks.slot x) × (r < 21) ⌝ }
 {
-    if x < 236 {
-        return 20;
+    if x < map::FIRST_CONTROL_WIDE {
+        return map::NO_CONTROL;
     }
-    (x - 236) as usize
+    (x - map::FIRST_CONTROL_WIDE) as usize
 }
 
 fn more(v: u8) -> u8
@@ -44,7 +45,7 @@ fn more(v: u8) -> u8
 fn unmarked() -> Marks
     ensures { λ r. ⌜ r ≡ Marks.unmarked ⌝ }
 {
-    [0; 21]
+    [0; map::MARKS]
 }
 
 // Page x is marked once more.
@@ -115,7 +116,7 @@ fn mark_words(m: &[u8], t: Marks, n: u8, k: u16, a: u16, left: u8) -> Marks
         return t;
     }
     let u = mark_range(m, t, n, 1, ControlPage(w).place(k));
-    mark_words(m, u, n, k, ControlPage(w).place(1), left - 1)
+    mark_words(m, u, n, k, ControlPage(w).place(map::LIST_LINK), left - 1)
 }
 
 // The marks of all that is used, and of all that wait.
@@ -123,19 +124,19 @@ fn used_marks(m: &[u8]) -> Marks
     requires { ⌜ length (now m) ≡ 8192 ⌝ }
     ensures { λ r. ⌜ r ≡ marksIn (now (m .entry)) (uses (Model.lists (now (m .entry)) Map.processorList)) ⌝ }
 {
-    let t = mark_list(m, unmarked(), 247);
-    let u = mark_list(m, t, 244);
-    let v = mark_words(m, u, 2, 5, 247, 21);
-    mark_range(m, v, 32, 1, 320)
+    let t = mark_list(m, unmarked(), map::PROCESSOR_LIST);
+    let u = mark_list(m, t, map::FREE_LIST);
+    let v = mark_words(m, u, 2, map::Q1, map::PROCESSOR_LIST, map::ONE_MORE);
+    mark_range(m, v, map::GRANT_WORDS, 1, map::GRANTS)
 }
 
 fn queue_marks(m: &[u8]) -> Marks
     requires { ⌜ length (now m) ≡ 8192 ⌝ }
     ensures { λ r. ⌜ r ≡ marksIn (now (m .entry)) (queues (Model.lists (now (m .entry)) Map.processorList)) ⌝ }
 {
-    let t = mark_list(m, unmarked(), 246);
-    let u = mark_words(m, t, 1, 4, 247, 21);
-    mark_range(m, u, 54, 2, 132)
+    let t = mark_list(m, unmarked(), map::PAGE_QUEUE);
+    let u = mark_words(m, t, 1, map::OWN_QUEUE, map::PROCESSOR_LIST, map::ONE_MORE);
+    mark_range(m, u, map::INTERRUPTS, 2, map::HEADERS_AFTER)
 }
 
 // Whether page z is used once by the marks t, and each of the n pages from z on.
@@ -165,7 +166,7 @@ pub fn used_once(m: &[u8]) -> bool
     ensures { λ r. ⌜ r ≡ holds (rule (Judge.usedOnce bytes) (now (m .entry))) ⌝ }
 {
     let t = used_marks(m);
-    all_once(t, 20, 236)
+    all_once(t, map::CONTROL_PAGES_WIDE, map::FIRST_CONTROL_WIDE)
 }
 
 // Whether page p has its waiting bit by the marks t, and each processor from the cell at a on.
@@ -174,8 +175,8 @@ fn bit(m: &[u8], t: Marks, p: ControlPage) -> bool
     ensures { λ r. ⌜ r ≡ holds (bitBy (now (m .entry)) t (p .0)) ⌝ }
 {
     let n = times(t, wide(p.0));
-    let w = p.word(m, 12);
-    n == w % 128 / 64
+    let w = p.word(m, map::STATE);
+    n == w % map::STOP_BIT / map::WAIT_BIT
 }
 
 fn all_bits(m: &[u8], t: Marks, a: u16, left: u8) -> bool
@@ -190,7 +191,7 @@ fn all_bits(m: &[u8], t: Marks, a: u16, left: u8) -> bool
         return true;
     }
     if bit(m, t, ControlPage(w)) {
-        return all_bits(m, t, ControlPage(w).place(1), left - 1);
+        return all_bits(m, t, ControlPage(w).place(map::LIST_LINK), left - 1);
     }
     false
 }
@@ -224,6 +225,9 @@ pub fn waiting_bits(m: &[u8]) -> bool
     ensures { λ r. ⌜ r ≡ holds (bits (now (m .entry))) ⌝ }
 {
     let t = queue_marks(m);
-    let u = mark_list(m, unmarked(), 247);
-    both(all_bits(m, t, 247, 21), all_waiters(t, u, 20, 236))
+    let u = mark_list(m, unmarked(), map::PROCESSOR_LIST);
+    both(
+        all_bits(m, t, map::PROCESSOR_LIST, map::ONE_MORE),
+        all_waiters(t, u, map::CONTROL_PAGES_WIDE, map::FIRST_CONTROL_WIDE),
+    )
 }

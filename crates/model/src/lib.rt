@@ -1,4 +1,9 @@
 // The kernel's types, and the methods of the register record. What they mean is in specs/.
+pub mod faults;
+pub mod instructions;
+pub mod map;
+pub mod refusals;
+
 ghost use mathlib.Core.Path.{_≡_};
 ghost use Prim.Native.Nat.{_<_, _+_, _*_};
 ghost use lib.ListN.{length};
@@ -25,7 +30,7 @@ pub struct Registers {
 // What a processor has while another runs: its registers, and words 4-6 and 16-31 of page 0.
 pub struct Context {
     pub registers: Registers,
-    pub words: [u8; 19],
+    pub words: [u8; map::KEPT_WORDS],
 }
 
 // What an instruction is given, directly or by EXI: its field (a code, NI or I X XN), the number behind it (flag, priority, CODE1, or EXI's
@@ -67,7 +72,7 @@ impl ControlPage {
         ensures { λ r. ⌜ r ≡ Model.word (now (m .entry)) (self .0) k ⌝ }
     {
         let n = self.0;
-        let a = (n as usize) * 32 + (k as usize);
+        let a = (n as usize) * map::PAGE_WORDS + (k as usize);
         m[a]
     }
 
@@ -77,7 +82,7 @@ impl ControlPage {
         ensures { λ _. ⌜ now (m .exit) ≡ Model.store (now (m .entry)) (self .0) k v ⌝ }
     {
         let n = self.0;
-        let a = (n as usize) * 32 + (k as usize);
+        let a = (n as usize) * map::PAGE_WORDS + (k as usize);
         m[a] = v;
     }
 
@@ -86,7 +91,7 @@ impl ControlPage {
         requires { ⌜ k < 32 ⌝ }
         ensures { λ r. ⌜ (r ≡ self .0 * 32 + k) × (r < 8192) ⌝ }
     {
-        wide(self.0) * 32 + k
+        wide(self.0) * map::PAGE_SIZE + k
     }
 }
 
@@ -103,20 +108,20 @@ impl Registers {
         requires { ⌜ length (now m) ≡ 8192 ⌝ }
         ensures { λ r. ⌜ (r ≡ Model.registersOf (now (m .entry)) (p .0)) × (r .lr < 8192) ⌝ }
     {
-        let a = wide(p.word(m, 8));
-        let s = wide(p.word(m, 9));
-        let f = wide(p.word(m, 10));
-        let l = wide(p.word(m, 11));
-        let x = wide(p.word(m, 12));
+        let a = wide(p.word(m, map::WORD_A));
+        let s = wide(p.word(m, map::WORD_S));
+        let f = wide(p.word(m, map::HIGH_LR));
+        let l = wide(p.word(m, map::LOW_LR));
+        let x = wide(p.word(m, map::STATE));
         Self {
             a,
             s,
-            p: f / 128,
-            z: f % 128 / 64,
-            ci: f % 64 / 32,
-            lr: f % 32 * 256 + l,
-            w: x % 16,
-            stopped: x / 128,
+            p: f / map::P_BIT,
+            z: f % map::P_BIT / map::Z_BIT,
+            ci: f % map::Z_BIT / map::CI_BIT,
+            lr: f % map::HIGHS_WIDE * map::WORD_VALUES + l,
+            w: x % map::W_VALUES,
+            stopped: x / map::STOP_BIT_WIDE,
         }
     }
 
@@ -141,7 +146,7 @@ impl Registers {
         requires { ⌜ (self .lr < 8192) × (n < 8192) ⌝ }
         ensures { λ r. ⌜ (r ≡ Processor.advanced self n) × (r .lr < 8192) ⌝ }
     {
-        self.lr = (self.lr + n) % 8192;
+        self.lr = (self.lr + n) % map::MEMORY_SIZE;
         self
     }
 
@@ -155,7 +160,7 @@ impl Registers {
     pub fn set_stopped(mut self) -> Self
         ensures { λ r. ⌜ r ≡ Processor.stoppedOnce self ⌝ }
     {
-        self.stopped = 1;
+        self.stopped = map::ONE_BIT;
         self
     }
 
@@ -164,9 +169,12 @@ impl Registers {
         requires { ⌜ length (now m) ≡ 8192 ⌝ }
         ensures { λ _. ⌜ now (m .exit) ≡ Model.setFlagsLr (now (m .entry)) (p .0) self ⌝ }
     {
-        let h = self.p % 2 * 128 + self.z % 2 * 64 + self.ci % 2 * 32 + self.lr / 256 % 32;
-        p.store(m, 10, h as u8);
-        p.store(m, 11, (self.lr % 256) as u8);
+        let h = self.p % map::BITS * map::P_BIT
+            + self.z % map::BITS * map::Z_BIT
+            + self.ci % map::BITS * map::CI_BIT
+            + self.lr / map::WORD_VALUES % map::HIGHS_WIDE;
+        p.store(m, map::HIGH_LR, h as u8);
+        p.store(m, map::LOW_LR, (self.lr % map::WORD_VALUES) as u8);
     }
 
     // The seven registers go to page p: words 8-11 and the low four bits of word 12.
@@ -174,11 +182,15 @@ impl Registers {
         requires { ⌜ length (now m) ≡ 8192 ⌝ }
         ensures { λ _. ⌜ now (m .exit) ≡ Model.setRegistersOf (now (m .entry)) (p .0) self ⌝ }
     {
-        p.store(m, 8, (self.a % 256) as u8);
-        p.store(m, 9, (self.s % 256) as u8);
+        p.store(m, map::WORD_A, (self.a % map::WORD_VALUES) as u8);
+        p.store(m, map::WORD_S, (self.s % map::WORD_VALUES) as u8);
         self.set_flags_lr(m, p);
-        let x = p.word(m, 12);
-        p.store(m, 12, x / 16 * 16 + (self.w % 16) as u8);
+        let x = p.word(m, map::STATE);
+        p.store(
+            m,
+            map::STATE,
+            x / map::FIELD * map::FIELD + (self.w % map::W_VALUES) as u8,
+        );
     }
 
     // The record is handed back to page p whole, the stopped bit too.
@@ -187,32 +199,36 @@ impl Registers {
         ensures { λ _. ⌜ now (m .exit) ≡ Model.handBack (now (m .entry)) (p .0) self ⌝ }
     {
         self.set_on(m, p);
-        let x = p.word(m, 12);
-        p.store(m, 12, (self.stopped % 2) as u8 * 128 + x % 128);
+        let x = p.word(m, map::STATE);
+        p.store(
+            m,
+            map::STATE,
+            (self.stopped % map::BITS) as u8 * map::STOP_BIT + x % map::STOP_BIT,
+        );
     }
 
     // Whether each value fits its register.
     pub fn in_range(self) -> bool
         ensures { λ r. ⌜ r ≡ Processor.inRange self ⌝ }
     {
-        if 255 < self.a {
+        if map::A_WORD_WIDE < self.a {
             return false;
         }
-        if 255 < self.s {
+        if map::A_WORD_WIDE < self.s {
             return false;
         }
-        if 1 < self.p {
+        if map::ONE_BIT < self.p {
             return false;
         }
-        if 1 < self.z {
+        if map::ONE_BIT < self.z {
             return false;
         }
-        if 1 < self.ci {
+        if map::ONE_BIT < self.ci {
             return false;
         }
-        if 8191 < self.lr {
+        if map::LAST_ADDRESS < self.lr {
             return false;
         }
-        self.w <= 15
+        self.w <= map::FOUR_BITS_WIDE
     }
 }

@@ -1,5 +1,6 @@
 // Pages: a page taken, "SME and CRP use the page granted to them, else the first free one", and given back.
 use model::ControlPage;
+use model::map;
 use model::wide;
 use processors::name;
 use processors::wake;
@@ -19,9 +20,9 @@ fn take_free(m: &mut [u8], q: ControlPage)
     requires { ⌜ length (now m) ≡ 8192 ⌝ }
     ensures { λ _. ⌜ now (m .exit) ≡ Model.takeFree (now (m .entry)) (q .0) ⌝ }
 {
-    let v = at(m, 245);
-    write(m, 245, lowered(v));
-    leave(m, 244, 0, q);
+    let v = at(m, map::FREE_SEMAPHORE);
+    write(m, map::FREE_SEMAPHORE, lowered(v));
+    leave(m, map::FREE_LIST, map::LINK, q);
 }
 
 // The first free page is taken; page 0: there is none.
@@ -29,7 +30,7 @@ pub fn first_free(m: &mut [u8]) -> ControlPage
     requires { ⌜ length (now m) ≡ 8192 ⌝ }
     ensures { λ r. ⌜ took (r .0) (now (m .exit)) ≡ Model.firstFree (now (m .entry)) ⌝ }
 {
-    let q = at(m, 244);
+    let q = at(m, map::FREE_LIST);
     if q == 0 {
         return ControlPage(0);
     }
@@ -42,7 +43,7 @@ pub fn take_page(m: &mut [u8], p: ControlPage) -> ControlPage
     requires { ⌜ length (now m) ≡ 8192 ⌝ }
     ensures { λ r. ⌜ took (r .0) (now (m .exit)) ≡ Model.takePage (now (m .entry)) (p .0) ⌝ }
 {
-    let g = 320 + wide(name(m, p));
+    let g = map::GRANTS + wide(name(m, p));
     let q = at(m, g);
     if q == 0 {
         return first_free(m);
@@ -56,9 +57,9 @@ fn free_page(m: &mut [u8], q: ControlPage)
     requires { ⌜ length (now m) ≡ 8192 ⌝ }
     ensures { λ _. ⌜ now (m .exit) ≡ Model.freePage (now (m .entry)) (q .0) ⌝ }
 {
-    let v = at(m, 245);
-    write(m, 245, raised(v));
-    join(m, 244, 0, q);
+    let v = at(m, map::FREE_SEMAPHORE);
+    write(m, map::FREE_SEMAPHORE, raised(v));
+    join(m, map::FREE_LIST, map::LINK, q);
 }
 
 // Page q becomes the grant of the waiter of page p, which wakes.
@@ -66,9 +67,9 @@ fn grant_page(m: &mut [u8], p: ControlPage, q: ControlPage)
     requires { ⌜ length (now m) ≡ 8192 ⌝ }
     ensures { λ _. ⌜ now (m .exit) ≡ Model.grantPage (now (m .entry)) (p .0) (q .0) ⌝ }
 {
-    let g = 320 + wide(name(m, p));
+    let g = map::GRANTS + wide(name(m, p));
     write(m, g, q.0);
-    wake(m, 245, p);
+    wake(m, map::FREE_SEMAPHORE, p);
 }
 
 // Page q is given back: to the first waiter as its grant, else to the end of the free list.
@@ -76,7 +77,7 @@ pub fn give_back(m: &mut [u8], q: ControlPage)
     requires { ⌜ length (now m) ≡ 8192 ⌝ }
     ensures { λ _. ⌜ now (m .exit) ≡ Model.giveBack (now (m .entry)) (q .0) ⌝ }
 {
-    let p = at(m, 246);
+    let p = at(m, map::PAGE_QUEUE);
     if p == 0 {
         free_page(m, q);
         return;

@@ -2,6 +2,7 @@
 // next word.
 use model::ControlPage;
 use model::Registers;
+use model::map;
 use model::wide;
 use queues::find_page;
 use queues::join;
@@ -22,7 +23,7 @@ pub fn running(m: &[u8]) -> ControlPage
     requires { ⌜ length (now m) ≡ 8192 ⌝ }
     ensures { λ r. ⌜ r .0 ≡ Model.running (now (m .entry)) ⌝ }
 {
-    ControlPage(at(m, 248))
+    ControlPage(at(m, map::RUNNING_PAGE))
 }
 
 // The name of the processor of page p.
@@ -30,8 +31,8 @@ pub fn name(m: &[u8], p: ControlPage) -> u8
     requires { ⌜ length (now m) ≡ 8192 ⌝ }
     ensures { λ r. ⌜ (r ≡ Model.name (now (m .entry)) (p .0)) × (r < 16) ⌝ }
 {
-    let w = p.word(m, 7);
-    w % 16
+    let w = p.word(m, map::LABEL);
+    w % map::FIELD
 }
 
 // The stopped bit of page p is set, is cleared.
@@ -39,16 +40,16 @@ pub fn stop(m: &mut [u8], p: ControlPage)
     requires { ⌜ length (now m) ≡ 8192 ⌝ }
     ensures { λ _. ⌜ now (m .exit) ≡ Model.stop (now (m .entry)) (p .0) ⌝ }
 {
-    let x = p.word(m, 12);
-    p.store(m, 12, x % 128 + 128);
+    let x = p.word(m, map::STATE);
+    p.store(m, map::STATE, x % map::STOP_BIT + map::STOP_BIT);
 }
 
 pub fn start(m: &mut [u8], p: ControlPage)
     requires { ⌜ length (now m) ≡ 8192 ⌝ }
     ensures { λ _. ⌜ now (m .exit) ≡ Model.start (now (m .entry)) (p .0) ⌝ }
 {
-    let x = p.word(m, 12);
-    p.store(m, 12, x % 128);
+    let x = p.word(m, map::STATE);
+    p.store(m, map::STATE, x % map::STOP_BIT);
 }
 
 // LR of page p becomes a.
@@ -56,9 +57,9 @@ pub fn set_lr(m: &mut [u8], p: ControlPage, a: u16)
     requires { ⌜ length (now m) ≡ 8192 ⌝ }
     ensures { λ _. ⌜ now (m .exit) ≡ Model.setLr (now (m .entry)) (p .0) a ⌝ }
 {
-    let x = p.word(m, 10);
-    p.store(m, 10, x / 32 * 32 + high(a));
-    p.store(m, 11, low(a));
+    let x = p.word(m, map::HIGH_LR);
+    p.store(m, map::HIGH_LR, x / map::HIGHS * map::HIGHS + high(a));
+    p.store(m, map::LOW_LR, low(a));
 }
 
 // LR of the running processor, and LR grown by len.
@@ -88,7 +89,7 @@ pub fn enqueue(m: &mut [u8], s: u16, p: ControlPage)
 {
     let v = at(m, s);
     write(m, s, lowered(v));
-    join(m, s + 1, 0, p);
+    join(m, s + 1, map::LINK, p);
 }
 
 pub fn unqueue(m: &mut [u8], s: u16, p: ControlPage)
@@ -97,7 +98,7 @@ pub fn unqueue(m: &mut [u8], s: u16, p: ControlPage)
 {
     let v = at(m, s);
     write(m, s, raised(v));
-    leave(m, s + 1, 0, p);
+    leave(m, s + 1, map::LINK, p);
 }
 
 // p is put to wait in the queue at s, for a reason.
@@ -105,9 +106,13 @@ pub fn put_to_wait(m: &mut [u8], s: u16, p: ControlPage, reason: u8)
     requires { ⌜ (length (now m) ≡ 8192) × (s < 8191) ⌝ }
     ensures { λ _. ⌜ now (m .exit) ≡ Model.putToWait (now (m .entry)) s (p .0) reason ⌝ }
 {
-    let x = p.word(m, 12);
-    p.store(m, 12, x / 128 * 128 + 64 + x % 64);
-    p.store(m, 2, reason);
+    let x = p.word(m, map::STATE);
+    p.store(
+        m,
+        map::STATE,
+        x / map::STOP_BIT * map::STOP_BIT + map::WAIT_BIT + x % map::WAIT_BIT,
+    );
+    p.store(m, map::REASON, reason);
     enqueue(m, s, p);
 }
 
@@ -117,9 +122,13 @@ pub fn wake(m: &mut [u8], s: u16, p: ControlPage)
     ensures { λ _. ⌜ now (m .exit) ≡ Model.wake (now (m .entry)) s (p .0) ⌝ }
 {
     unqueue(m, s, p);
-    let x = p.word(m, 12);
-    p.store(m, 12, x / 128 * 128 + x % 64);
-    p.store(m, 2, 0);
+    let x = p.word(m, map::STATE);
+    p.store(
+        m,
+        map::STATE,
+        x / map::STOP_BIT * map::STOP_BIT + x % map::WAIT_BIT,
+    );
+    p.store(m, map::REASON, 0);
 }
 
 // Whether the wait queue at s holds page p.
@@ -127,7 +136,7 @@ pub fn queued(m: &[u8], s: u16, p: ControlPage) -> bool
     requires { ⌜ (length (now m) ≡ 8192) × (s < 8191) ⌝ }
     ensures { λ r. ⌜ r ≡ Model.queued (now (m .entry)) s (p .0) ⌝ }
 {
-    let q = find_page(m, p, s + 1, 20);
+    let q = find_page(m, p, s + 1, map::CONTROL_PAGES);
     q.0 == p.0
 }
 
@@ -137,12 +146,12 @@ pub fn seat(m: &[u8], p: ControlPage, n: u8) -> u16
     ensures { λ r. ⌜ (r ≡ Model.seat n (now (m .entry)) (p .0)) × (r < 8191) ⌝ }
 {
     if n == 0 {
-        if queued(m, 245, p) {
-            return 245;
+        if queued(m, map::FREE_SEMAPHORE, p) {
+            return map::FREE_SEMAPHORE;
         }
-        return p.place(3);
+        return p.place(map::OWN_SEMAPHORE);
     }
-    let s = 131 + 2 * wide(n - 1);
+    let s = map::SEMAPHORES_AFTER + 2 * wide(n - 1);
     if queued(m, s, p) {
         return s;
     }
@@ -154,7 +163,7 @@ pub fn leave_wait(m: &mut [u8], p: ControlPage)
     requires { ⌜ length (now m) ≡ 8192 ⌝ }
     ensures { λ _. ⌜ now (m .exit) ≡ Model.leaveWait (now (m .entry)) (p .0) ⌝ }
 {
-    let s = seat(m, p, 54);
+    let s = seat(m, p, map::INTERRUPTS);
     if queued(m, s, p) {
         unqueue(m, s, p);
     }
@@ -165,9 +174,9 @@ pub fn enter(m: &mut [u8], e: u8)
     requires { ⌜ length (now m) ≡ 8192 ⌝ }
     ensures { λ _. ⌜ now (m .exit) ≡ Model.entered (now (m .entry)) e ⌝ }
 {
-    let n = at(m, 288);
-    if n < 32 {
-        write(m, 288 + wide(n), e);
-        write(m, 288, n + 1);
+    let n = at(m, map::FIRST_UNUSED);
+    if n < map::ENTRIES_FULL {
+        write(m, map::FIRST_UNUSED + wide(n), e);
+        write(m, map::FIRST_UNUSED, n + 1);
     }
 }

@@ -2,6 +2,7 @@
 // link alike; a walk goes by recursion along links, with at most twenty pages left.
 use model::ControlPage;
 use model::Name;
+use model::map;
 use words::at;
 use words::write;
 ghost use mathlib.Core.Path.{_≡_};
@@ -34,7 +35,7 @@ pub fn join(m: &mut [u8], h: u16, k: u16, q: ControlPage)
     ensures { λ _. ⌜ now (m .exit) ≡ Model.join (now (m .entry)) h k (q .0) ⌝ }
 {
     q.store(m, k, 0);
-    let c = cell_of(m, k, h, 0, 20);
+    let c = cell_of(m, k, h, 0, map::CONTROL_PAGES);
     write(m, c, q.0);
 }
 
@@ -44,7 +45,7 @@ pub fn leave(m: &mut [u8], h: u16, k: u16, p: ControlPage)
     ensures { λ _. ⌜ now (m .exit) ≡ Model.leave (now (m .entry)) h k (p .0) ⌝ }
 {
     let next = p.word(m, k);
-    let c = cell_of(m, k, h, p.0, 20);
+    let c = cell_of(m, k, h, p.0, map::CONTROL_PAGES);
     write(m, c, next);
     p.store(m, k, 0);
 }
@@ -71,7 +72,7 @@ pub fn find_page(m: &[u8], p: ControlPage, a: u16, left: u8) -> ControlPage
     if is_page(p, ControlPage(w)) {
         return ControlPage(w);
     }
-    find_page(m, p, ControlPage(w).place(0), left - 1)
+    find_page(m, p, ControlPage(w).place(map::LINK), left - 1)
 }
 
 // Whether the processor of page p is named n.
@@ -79,8 +80,8 @@ pub fn is_named(m: &[u8], n: Name, p: ControlPage) -> bool
     requires { ⌜ length (now m) ≡ 8192 ⌝ }
     ensures { λ r. ⌜ r ≡ Model.isNamed (now (m .entry)) (n .0) (p .0) ⌝ }
 {
-    let w = p.word(m, 7);
-    w % 16 == n.0
+    let w = p.word(m, map::LABEL);
+    w % map::FIELD == n.0
 }
 
 // The first page named n of those that hang from the cell at a along the processor list; page 0: none.
@@ -98,7 +99,7 @@ pub fn find_name(m: &[u8], n: Name, a: u16, left: u8) -> ControlPage
     if is_named(m, n, ControlPage(w)) {
         return ControlPage(w);
     }
-    find_name(m, n, ControlPage(w).place(1), left - 1)
+    find_name(m, n, ControlPage(w).place(map::LIST_LINK), left - 1)
 }
 
 // The page of the processor named n; page 0: there is none.
@@ -106,7 +107,7 @@ pub fn page_of(m: &[u8], n: Name) -> ControlPage
     requires { ⌜ length (now m) ≡ 8192 ⌝ }
     ensures { λ r. ⌜ r .0 ≡ Model.pageOf (now (m .entry)) (n .0) ⌝ }
 {
-    find_name(m, n, 247, 20)
+    find_name(m, n, map::PROCESSOR_LIST, map::CONTROL_PAGES)
 }
 
 // Whether x is what n asks for; 0 asks for any.
@@ -123,8 +124,8 @@ pub fn asks(n: u8, x: u8) -> bool
 pub fn fits(n: u8, f: u8, w: u8) -> bool
     ensures { λ r. ⌜ r ≡ Mail.fits n f w ⌝ }
 {
-    if asks(n, w / 16) {
-        return asks(f, w % 16);
+    if asks(n, w / map::FIELD) {
+        return asks(f, w % map::FIELD);
     }
     false
 }
@@ -134,7 +135,7 @@ pub fn matches(m: &[u8], n: Name, f: u8, q: ControlPage) -> bool
     requires { ⌜ length (now m) ≡ 8192 ⌝ }
     ensures { λ r. ⌜ r ≡ Model.matches (now (m .entry)) (n .0) f (q .0) ⌝ }
 {
-    let w = q.word(m, 1);
+    let w = q.word(m, map::NOTE);
     fits(n.0, f, w)
 }
 
@@ -153,5 +154,5 @@ pub fn find_message(m: &[u8], n: Name, f: u8, a: u16, left: u8) -> ControlPage
     if matches(m, n, f, ControlPage(w)) {
         return ControlPage(w);
     }
-    find_message(m, n, f, ControlPage(w).place(0), left - 1)
+    find_message(m, n, f, ControlPage(w).place(map::LINK), left - 1)
 }

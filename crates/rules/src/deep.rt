@@ -6,6 +6,7 @@ use crate::tests::all_of;
 use counts::both;
 use counts::length_of;
 use model::ControlPage;
+use model::map;
 use words::at;
 ghost use mathlib.Core.Path.{_≡_};
 ghost use Prim.Native.Nat.{_<_, _≤_, _+_, _*_};
@@ -33,7 +34,7 @@ fn list(m: &[u8], a: u16) -> bool
     ensures { λ r. ⌜ r ≡ holds (rule (Judge.list bytes) (now (m .entry)) a) ⌝ }
 {
     let n = length_of(m, a);
-    both(n <= 20, all_of(m, Test::Page, a))
+    both(n <= map::CONTROL_PAGES, all_of(m, Test::Page, a))
 }
 
 // The lists of n heads from a on, by steps of d.
@@ -55,14 +56,14 @@ fn mail_lists(m: &[u8], p: ControlPage) -> bool
     requires { ⌜ length (now m) ≡ 8192 ⌝ }
     ensures { λ r. ⌜ r ≡ holds (mailLists (now (m .entry)) (p .0)) ⌝ }
 {
-    lists_from(m, 2, 1, p.place(5))
+    lists_from(m, 2, 1, p.place(map::Q1))
 }
 
 fn own_list(m: &[u8], p: ControlPage) -> bool
     requires { ⌜ length (now m) ≡ 8192 ⌝ }
     ensures { λ r. ⌜ r ≡ holds (ownList (now (m .entry)) (p .0)) ⌝ }
 {
-    lists_from(m, 1, 1, p.place(4))
+    lists_from(m, 1, 1, p.place(map::OWN_QUEUE))
 }
 
 fn mail(m: &[u8], p: ControlPage) -> bool
@@ -70,8 +71,8 @@ fn mail(m: &[u8], p: ControlPage) -> bool
     ensures { λ r. ⌜ r ≡ holds (rule (Judge.mail bytes) (now (m .entry)) (p .0)) ⌝ }
 {
     both(
-        all_in(m, Test::Message, p, 5),
-        all_in(m, Test::Message, p, 6),
+        all_in(m, Test::Message, p, map::Q1),
+        all_in(m, Test::Message, p, map::Q2),
     )
 }
 
@@ -80,10 +81,13 @@ fn owner(m: &[u8], p: ControlPage, x: u8) -> bool
     requires { ⌜ length (now m) ≡ 8192 ⌝ }
     ensures { λ r. ⌜ r ≡ holds (rule (Judge.owner bytes) (now (m .entry)) (p .0) x) ⌝ }
 {
-    let w = p.word(m, 2);
+    let w = p.word(m, map::REASON);
     both(
         x == p.0,
-        both(w % 16 <= 7, all_in(m, Test::Unasked(p), p, 5)),
+        both(
+            w % map::FIELD <= map::LAST_FLAG,
+            all_in(m, Test::Unasked(p), p, map::Q1),
+        ),
     )
 }
 
@@ -122,14 +126,26 @@ fn mails_listed(m: &[u8]) -> bool
     requires { ⌜ length (now m) ≡ 8192 ⌝ }
     ensures { λ r. ⌜ r ≡ holds (each (mails (Model.lists (now (m .entry)) Map.processorList)) (rule (Judge.list bytes) (now (m .entry)))) ⌝ }
 {
-    all_deep(m, Deep::MailLists, 1, 247, 21)
+    all_deep(
+        m,
+        Deep::MailLists,
+        map::LIST_LINK,
+        map::PROCESSOR_LIST,
+        map::ONE_MORE,
+    )
 }
 
 fn owns_listed(m: &[u8]) -> bool
     requires { ⌜ length (now m) ≡ 8192 ⌝ }
     ensures { λ r. ⌜ r ≡ holds (each (owns (Model.lists (now (m .entry)) Map.processorList)) (rule (Judge.list bytes) (now (m .entry)))) ⌝ }
 {
-    all_deep(m, Deep::OwnList, 1, 247, 21)
+    all_deep(
+        m,
+        Deep::OwnList,
+        map::LIST_LINK,
+        map::PROCESSOR_LIST,
+        map::ONE_MORE,
+    )
 }
 
 // The lists of all that is used, of all that wait, of both.
@@ -138,10 +154,13 @@ fn uses_listed(m: &[u8]) -> bool
     ensures { λ r. ⌜ r ≡ holds (each (uses (Model.lists (now (m .entry)) Map.processorList)) (rule (Judge.list bytes) (now (m .entry)))) ⌝ }
 {
     both(
-        list(m, 247),
+        list(m, map::PROCESSOR_LIST),
         both(
-            list(m, 244),
-            both(mails_listed(m), lists_from(m, 32, 1, 320)),
+            list(m, map::FREE_LIST),
+            both(
+                mails_listed(m),
+                lists_from(m, map::GRANT_WORDS, 1, map::GRANTS),
+            ),
         ),
     )
 }
@@ -151,8 +170,11 @@ fn queues_listed(m: &[u8]) -> bool
     ensures { λ r. ⌜ r ≡ holds (each (queues (Model.lists (now (m .entry)) Map.processorList)) (rule (Judge.list bytes) (now (m .entry)))) ⌝ }
 {
     both(
-        list(m, 246),
-        both(owns_listed(m), lists_from(m, 54, 2, 132)),
+        list(m, map::PAGE_QUEUE),
+        both(
+            owns_listed(m),
+            lists_from(m, map::INTERRUPTS, 2, map::HEADERS_AFTER),
+        ),
     )
 }
 

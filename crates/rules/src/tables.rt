@@ -4,6 +4,8 @@ use crate::tests::all_of;
 use crate::tests::every;
 use counts::both;
 use counts::lies;
+use model::instructions;
+use model::map;
 use words::at;
 ghost use mathlib.Core.Path.{_≡_};
 ghost use Prim.Native.Nat.{_<_, _+_, _*_};
@@ -47,16 +49,16 @@ fn built_in(m: &[u8], c: u16) -> bool
     requires { ⌜ (length (now m) ≡ 8192) × (c < 16) ⌝ }
     ensures { λ r. ⌜ r ≡ holds (same (Map.top (Model.at (now (m .entry)) (Map.codeWord c))) 1) ⌝ }
 {
-    let w = at(m, 256 + 2 * c);
-    w / 32 == 1
+    let w = at(m, map::CODE_WORDS + 2 * c);
+    w / map::HIGHS == instructions::BUILT_IN
 }
 
 fn last_foreign(m: &[u8]) -> bool
     requires { ⌜ length (now m) ≡ 8192 ⌝ }
     ensures { λ r. ⌜ r ≡ holds (never (eqb (Map.top (Model.at (now (m .entry)) (Map.codeWord 15))) 1)) ⌝ }
 {
-    let w = at(m, 286);
-    w / 32 != 1
+    let w = at(m, map::LAST_CODE_WORD);
+    w / map::HIGHS != instructions::BUILT_IN
 }
 
 fn codes(m: &[u8]) -> bool
@@ -64,7 +66,7 @@ fn codes(m: &[u8]) -> bool
     ensures { λ r. ⌜ r ≡ holds (rule (Judge.codes bytes) (now (m .entry))) ⌝ }
 {
     both(
-        every(m, Test::Kind, 16),
+        every(m, Test::Kind, map::ALL_CODES),
         both(built_in(m, 0), both(built_in(m, 1), last_foreign(m))),
     )
 }
@@ -73,8 +75,8 @@ fn c0_under(m: &[u8]) -> bool
     requires { ⌜ length (now m) ≡ 8192 ⌝ }
     ensures { λ r. ⌜ r ≡ holds (under (Model.at (now (m .entry)) Map.c0) (Model.at (now (m .entry)) Map.divider)) ⌝ }
 {
-    let d = at(m, 251);
-    under_at(m, 240, d)
+    let d = at(m, map::DIVIDER);
+    under_at(m, map::C0, d)
 }
 
 fn counters(m: &[u8]) -> bool
@@ -84,8 +86,11 @@ fn counters(m: &[u8]) -> bool
     both(
         c0_under(m),
         both(
-            under_at(m, 241, 10),
-            both(under_at(m, 242, 60), under_at(m, 243, 60)),
+            under_at(m, map::C1, map::C1_END),
+            both(
+                under_at(m, map::C2, map::C2_END),
+                under_at(m, map::C3, map::C3_END),
+            ),
         ),
     )
 }
@@ -96,7 +101,10 @@ fn clock(m: &[u8]) -> bool
 {
     both(
         counters(m),
-        both(lies_at(m, 251, 1, 255), lies_at(m, 239, 16, 47)),
+        both(
+            lies_at(m, map::DIVIDER, 1, map::A_WORD),
+            lies_at(m, map::CLOCK_LINE, map::FIRST_OUTER, map::LAST_LINE),
+        ),
     )
 }
 
@@ -104,14 +112,20 @@ fn faults(m: &[u8]) -> bool
     requires { ⌜ length (now m) ≡ 8192 ⌝ }
     ensures { λ r. ⌜ r ≡ holds (rule (Judge.faults bytes) (now (m .entry))) ⌝ }
 {
-    both(lies_at(m, 288, 1, 32), every(m, Test::Entry, 31))
+    both(
+        lies_at(m, map::FIRST_UNUSED, 1, map::ENTRIES_FULL),
+        every(m, Test::Entry, map::ENTRIES),
+    )
 }
 
 fn zeros(m: &[u8]) -> bool
     requires { ⌜ length (now m) ≡ 8192 ⌝ }
     ensures { λ r. ⌜ r ≡ holds (rule (Judge.zeros bytes) (now (m .entry))) ⌝ }
 {
-    both(all_of(m, Test::ZeroBits, 247), is_at(m, 250, 0))
+    both(
+        all_of(m, Test::ZeroBits, map::PROCESSOR_LIST),
+        is_at(m, map::ZERO_WORD, 0),
+    )
 }
 
 // "Well-formed", from codes on.

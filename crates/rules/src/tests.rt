@@ -7,6 +7,8 @@ use counts::less;
 use counts::lies;
 use counts::link_of;
 use model::ControlPage;
+use model::instructions;
+use model::map;
 use model::wide;
 use queues::fits;
 use words::at;
@@ -41,7 +43,7 @@ pub enum Test {
 fn page(m: &[u8], x: u8) -> bool
     ensures { λ r. ⌜ r ≡ holds (rule (Judge.page bytes) (now (m .entry)) x) ⌝ }
 {
-    lies(x, 236, 255)
+    lies(x, map::FIRST_CONTROL, map::LAST_CONTROL)
 }
 
 // Its name is its own, name and priority are 1-15.
@@ -49,24 +51,30 @@ fn label(m: &[u8], p: ControlPage) -> bool
     requires { ⌜ length (now m) ≡ 8192 ⌝ }
     ensures { λ r. ⌜ r ≡ holds (rule (Judge.label bytes) (now (m .entry)) (p .0)) ⌝ }
 {
-    let w = p.word(m, 7);
-    let n = bearers(m, w % 16, 247, 21);
-    both(n == 1, both(lies(w % 16, 1, 15), lies(w / 16, 1, 15)))
+    let w = p.word(m, map::LABEL);
+    let n = bearers(m, w % map::FIELD, map::PROCESSOR_LIST, map::ONE_MORE);
+    both(
+        n == 1,
+        both(
+            lies(w % map::FIELD, 1, map::LAST_NAME),
+            lies(w / map::FIELD, 1, map::LAST_PRIORITY),
+        ),
+    )
 }
 
 fn reasoned(m: &[u8], p: ControlPage) -> bool
     requires { ⌜ length (now m) ≡ 8192 ⌝ }
     ensures { λ r. ⌜ r ≡ holds (rule (Judge.reasoned bytes) (now (m .entry)) (p .0)) ⌝ }
 {
-    let w = p.word(m, 2);
-    lies(w, 1, 255)
+    let w = p.word(m, map::REASON);
+    lies(w, 1, map::A_WORD)
 }
 
 fn reasonless(m: &[u8], p: ControlPage) -> bool
     requires { ⌜ length (now m) ≡ 8192 ⌝ }
     ensures { λ r. ⌜ r ≡ holds (rule (Judge.reasonless bytes) (now (m .entry)) (p .0)) ⌝ }
 {
-    let w = p.word(m, 2);
+    let w = p.word(m, map::REASON);
     w == 0
 }
 
@@ -74,8 +82,8 @@ fn quiet(m: &[u8], p: ControlPage) -> bool
     requires { ⌜ length (now m) ≡ 8192 ⌝ }
     ensures { λ r. ⌜ r ≡ holds (rule (Judge.quiet bytes) (now (m .entry)) (p .0)) ⌝ }
 {
-    let w = p.word(m, 12);
-    if w % 128 / 64 == 0 {
+    let w = p.word(m, map::STATE);
+    if w % map::STOP_BIT / map::WAIT_BIT == 0 {
         return reasonless(m, p);
     }
     true
@@ -86,17 +94,17 @@ fn unasked(m: &[u8], p: ControlPage, q: ControlPage) -> bool
     requires { ⌜ length (now m) ≡ 8192 ⌝ }
     ensures { λ r. ⌜ r ≡ holds (rule (Judge.unasked bytes) (now (m .entry)) (p .0) (q .0)) ⌝ }
 {
-    let w = p.word(m, 2);
-    let x = q.word(m, 1);
-    !fits(w / 16, w % 16, x)
+    let w = p.word(m, map::REASON);
+    let x = q.word(m, map::NOTE);
+    !fits(w / map::FIELD, w % map::FIELD, x)
 }
 
 fn message_semaphore(m: &[u8], p: ControlPage) -> bool
     requires { ⌜ length (now m) ≡ 8192 ⌝ }
     ensures { λ r. ⌜ r ≡ holds (rule (Judge.messageSemaphore bytes) (now (m .entry)) (p .0)) ⌝ }
 {
-    let s = p.word(m, 3);
-    let n = length_of(m, p.place(4));
+    let s = p.word(m, map::OWN_SEMAPHORE);
+    let n = length_of(m, p.place(map::OWN_QUEUE));
     s == less(0, n)
 }
 
@@ -106,8 +114,8 @@ fn interrupt_semaphore(m: &[u8], k: u8) -> bool
     ensures { λ r. ⌜ r ≡ holds (rule (Judge.interruptSemaphore bytes) (now (m .entry)) k) ⌝ }
 {
     let j = wide(k);
-    let s = at(m, 131 + 2 * j);
-    let n = length_of(m, 132 + 2 * j);
+    let s = at(m, map::SEMAPHORES_AFTER + 2 * j);
+    let n = length_of(m, map::HEADERS_AFTER + 2 * j);
     s == less(0, n)
 }
 
@@ -115,30 +123,33 @@ fn sized(m: &[u8], q: ControlPage) -> bool
     requires { ⌜ length (now m) ≡ 8192 ⌝ }
     ensures { λ r. ⌜ r ≡ holds (rule (Judge.sized bytes) (now (m .entry)) (q .0)) ⌝ }
 {
-    let w = q.word(m, 2);
-    if w == 128 {
+    let w = q.word(m, map::SIZE);
+    if w == map::NOTICE {
         return true;
     }
-    w <= 29
+    w <= map::LONGEST
 }
 
 fn message(m: &[u8], q: ControlPage) -> bool
     requires { ⌜ length (now m) ≡ 8192 ⌝ }
     ensures { λ r. ⌜ r ≡ holds (rule (Judge.message bytes) (now (m .entry)) (q .0)) ⌝ }
 {
-    let w = q.word(m, 1);
-    both(lies(w / 16, 1, 15), both(lies(w % 16, 1, 7), sized(m, q)))
+    let w = q.word(m, map::NOTE);
+    both(
+        lies(w / map::FIELD, 1, map::LAST_NAME),
+        both(lies(w % map::FIELD, 1, map::LAST_FLAG), sized(m, q)),
+    )
 }
 
 fn not_higher(m: &[u8], p: ControlPage) -> bool
     requires { ⌜ length (now m) ≡ 8192 ⌝ }
     ensures { λ r. ⌜ r ≡ holds (rule (Judge.notHigher bytes) (now (m .entry)) (p .0)) ⌝ }
 {
-    let s = p.word(m, 12);
-    if s < 64 {
-        let w = p.word(m, 7);
-        let l = at(m, 249);
-        return w / 16 <= l / 16;
+    let s = p.word(m, map::STATE);
+    if s < map::WAIT_BIT {
+        let w = p.word(m, map::LABEL);
+        let l = at(m, map::RUNNING_LABEL);
+        return w / map::FIELD <= l / map::FIELD;
     }
     true
 }
@@ -147,8 +158,8 @@ fn zero_bits(m: &[u8], p: ControlPage) -> bool
     requires { ⌜ length (now m) ≡ 8192 ⌝ }
     ensures { λ r. ⌜ r ≡ holds (rule (Judge.zeroBits bytes) (now (m .entry)) (p .0)) ⌝ }
 {
-    let w = p.word(m, 12);
-    w % 64 / 16 == 0
+    let w = p.word(m, map::STATE);
+    w % map::WAIT_BIT / map::FIELD == 0
 }
 
 // Who waits for a page: none is free, and it holds no grant.
@@ -156,9 +167,9 @@ fn page_wait(m: &[u8], p: ControlPage) -> bool
     requires { ⌜ length (now m) ≡ 8192 ⌝ }
     ensures { λ r. ⌜ r ≡ holds (rule (Judge.pageWait bytes) (now (m .entry)) (p .0)) ⌝ }
 {
-    let n = length_of(m, 244);
-    let w = p.word(m, 7);
-    let g = length_of(m, 320 + wide(w % 16));
+    let n = length_of(m, map::FREE_LIST);
+    let w = p.word(m, map::LABEL);
+    let g = length_of(m, map::GRANTS + wide(w % map::FIELD));
     both(n == 0, g == 0)
 }
 
@@ -166,11 +177,11 @@ fn grant(m: &[u8], k: u8) -> bool
     requires { ⌜ length (now m) ≡ 8192 ⌝ }
     ensures { λ r. ⌜ r ≡ holds (rule (Judge.grant bytes) (now (m .entry)) k) ⌝ }
 {
-    let g = length_of(m, 320 + wide(k));
+    let g = length_of(m, map::GRANTS + wide(k));
     if g == 0 {
         return true;
     }
-    let n = bearers(m, k, 247, 21);
+    let n = bearers(m, k, map::PROCESSOR_LIST, map::ONE_MORE);
     n == 1
 }
 
@@ -178,8 +189,8 @@ fn kind(m: &[u8], c: u8) -> bool
     requires { ⌜ length (now m) ≡ 8192 ⌝ }
     ensures { λ r. ⌜ r ≡ holds (rule (Judge.kind bytes) (now (m .entry)) c) ⌝ }
 {
-    let w = at(m, 256 + 2 * wide(c));
-    w / 32 <= 2
+    let w = at(m, map::CODE_WORDS + 2 * wide(c));
+    w / map::HIGHS <= instructions::OWN
 }
 
 // Entry i + 1 of page 9, used; used or not.
@@ -187,19 +198,22 @@ fn used(m: &[u8], i: u8) -> bool
     requires { ⌜ length (now m) ≡ 8192 ⌝ }
     ensures { λ r. ⌜ r ≡ holds (rule (Judge.used bytes) (now (m .entry)) i) ⌝ }
 {
-    let w = at(m, 289 + wide(i));
-    both(lies(w / 16, 1, 15), lies(w % 16, 1, 12))
+    let w = at(m, map::ENTRIES_AFTER + wide(i));
+    both(
+        lies(w / map::FIELD, 1, map::LAST_NAME),
+        lies(w % map::FIELD, 1, map::LAST_FAULT),
+    )
 }
 
 fn entry(m: &[u8], i: u8) -> bool
     requires { ⌜ length (now m) ≡ 8192 ⌝ }
     ensures { λ r. ⌜ r ≡ holds (rule (Judge.entry bytes) (now (m .entry)) i) ⌝ }
 {
-    let f = at(m, 288);
+    let f = at(m, map::FIRST_UNUSED);
     if wide(i) + 2 <= wide(f) {
         return used(m, i);
     }
-    let w = at(m, 289 + wide(i));
+    let w = at(m, map::ENTRIES_AFTER + wide(i));
     w == 0
 }
 

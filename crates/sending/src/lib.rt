@@ -15,6 +15,8 @@ use mail::write_message;
 use model::Answer;
 use model::ControlPage;
 use model::Name;
+use model::faults;
+use model::map;
 use pages::give_back;
 use pages::take_page;
 use processors::running;
@@ -65,14 +67,14 @@ fn sme_text(m: &mut [u8], n: Name, f: u8, a: u16, len: u16) -> Answer
     ensures { λ r. ⌜ gives r (now (m .exit)) ≡ Model.smeText (now (m .entry)) (n .0) f a len ⌝ }
 {
     let l = at(m, a);
-    if 29 < l {
-        return fault(m, 12);
+    if map::LONGEST < l {
+        return fault(m, faults::BAD_ARGUMENT);
     }
     let b = wrapped(a, 1);
     if clear(l, b) {
         return send(m, n, f, a, l, len);
     }
-    fault(m, 11)
+    fault(m, faults::PROTECTED)
 }
 
 pub fn sme(m: &mut [u8], n: Name, f: u8, a: u16, len: u16) -> Answer
@@ -80,13 +82,13 @@ pub fn sme(m: &mut [u8], n: Name, f: u8, a: u16, len: u16) -> Answer
     ensures { λ r. ⌜ gives r (now (m .exit)) ≡ Model.sme (now (m .entry)) (n .0) f a len ⌝ }
 {
     if n.0 == 0 {
-        return fault(m, 12);
+        return fault(m, faults::BAD_ARGUMENT);
     }
     if f == 0 {
-        return fault(m, 12);
+        return fault(m, faults::BAD_ARGUMENT);
     }
     if guarded(a) {
-        return fault(m, 11);
+        return fault(m, faults::PROTECTED);
     }
     sme_text(m, n, f, a, len)
 }
@@ -99,7 +101,7 @@ pub fn wnm(m: &mut [u8], n: Name, f: u8, len: u16) -> Answer
     let q = in_q1(m, n, f);
     if q.0 == 0 {
         let a = n.0;
-        return wait(m, r.place(3), a * 16 + f);
+        return wait(m, r.place(map::OWN_SEMAPHORE), a * map::FIELD + f);
     }
     move_message(m, r, q);
     done(m, len)
@@ -112,7 +114,7 @@ fn receive(m: &mut [u8], q: ControlPage, a: u16)
 {
     let r = running(m);
     copy_out(m, q, a);
-    leave(m, r.place(6), 0, q);
+    leave(m, r.place(map::Q2), map::LINK, q);
     give_back(m, q);
 }
 
@@ -122,14 +124,14 @@ pub fn rme(m: &mut [u8], n: Name, f: u8, a: u16, len: u16) -> Answer
 {
     let q = in_q2(m, n, f);
     if q.0 == 0 {
-        return fault(m, 6);
+        return fault(m, faults::NO_MATCH);
     }
-    let l = q.word(m, 2);
-    if clear(3 + l % 128, a) {
+    let l = q.word(m, map::SIZE);
+    if clear(map::HEAD_WORDS + l % map::NOTICE, a) {
         receive(m, q, a);
         return done(m, len);
     }
-    fault(m, 11)
+    fault(m, faults::PROTECTED)
 }
 
 fn tme_q1(m: &mut [u8], n: Name, f: u8, a: u16, len: u16) -> Answer
@@ -137,7 +139,7 @@ fn tme_q1(m: &mut [u8], n: Name, f: u8, a: u16, len: u16) -> Answer
     ensures { λ r. ⌜ gives r (now (m .exit)) ≡ Model.tmeQ1 (now (m .entry)) (n .0) f a len ⌝ }
 {
     let r = running(m);
-    if test_q1(m, r, n, f, 20) {
+    if test_q1(m, r, n, f, map::CONTROL_PAGES) {
         return jump(m, a);
     }
     done(m, len)

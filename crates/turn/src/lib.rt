@@ -2,6 +2,7 @@
 use model::Context;
 use model::ControlPage;
 use model::Registers;
+use model::map;
 use processors::running;
 use words::at;
 use words::write;
@@ -18,14 +19,14 @@ fn priority(m: &[u8], p: ControlPage) -> u8
     requires { ⌜ length (now m) ≡ 8192 ⌝ }
     ensures { λ r. ⌜ r ≡ Model.priority (now (m .entry)) (p .0) ⌝ }
 {
-    p.word(m, 7) / 16
+    p.word(m, map::LABEL) / map::FIELD
 }
 
 fn ready(m: &[u8], p: ControlPage) -> bool
     requires { ⌜ length (now m) ≡ 8192 ⌝ }
     ensures { λ r. ⌜ r ≡ Model.ready (now (m .entry)) (p .0) ⌝ }
 {
-    p.word(m, 12) < 64
+    p.word(m, map::STATE) < map::WAIT_BIT
 }
 
 // The running one if it is ready, else page 0.
@@ -80,7 +81,7 @@ fn best(m: &[u8], b: ControlPage, a: u16, left: u8) -> ControlPage
         return b;
     }
     let c = better(m, b, ControlPage(w));
-    best(m, c, ControlPage(w).place(1), left - 1)
+    best(m, c, ControlPage(w).place(map::LIST_LINK), left - 1)
 }
 
 // Who is to run; page 0: nobody.
@@ -90,11 +91,11 @@ fn chosen(m: &[u8]) -> ControlPage
 {
     let r = running(m);
     let s = stays(m, r);
-    best(m, s, 247, 20)
+    best(m, s, map::PROCESSOR_LIST, map::CONTROL_PAGES)
 }
 
 // The nineteen words on page 0, and those that page p keeps.
-fn on_page0(m: &[u8]) -> [u8; 19]
+fn on_page0(m: &[u8]) -> [u8; map::KEPT_WORDS]
     requires { ⌜ length (now m) ≡ 8192 ⌝ }
     ensures { λ r. ⌜ r ≡ Model.onPage0 (now (m .entry)) ⌝ }
 {
@@ -121,12 +122,12 @@ fn on_page0(m: &[u8]) -> [u8; 19]
     ]
 }
 
-fn kept_on(m: &[u8], p: ControlPage) -> [u8; 19]
+fn kept_on(m: &[u8], p: ControlPage) -> [u8; map::KEPT_WORDS]
     requires { ⌜ length (now m) ≡ 8192 ⌝ }
     ensures { λ r. ⌜ r ≡ Model.keptOn (now (m .entry)) (p .0) ⌝ }
 {
     let n = p.0;
-    let b = (n as usize) * 32;
+    let b = (n as usize) * map::PAGE_WORDS;
     [
         m[b + 13],
         m[b + 14],
@@ -170,7 +171,7 @@ pub fn saved_of(m: &[u8], p: ControlPage) -> Context
 }
 
 // The first n of the words go to page p, to page 0.
-fn keep(m: &mut [u8], p: ControlPage, w: [u8; 19], n: u16)
+fn keep(m: &mut [u8], p: ControlPage, w: [u8; map::KEPT_WORDS], n: u16)
     requires { ⌜ (length (now m) ≡ 8192) × (n ≤ 19) ⌝ }
     ensures { λ _. ⌜ now (m .exit) ≡ Model.kept n (now (m .entry)) (p .0) w ⌝ }
 {
@@ -178,7 +179,7 @@ fn keep(m: &mut [u8], p: ControlPage, w: [u8; 19], n: u16)
         return;
     }
     let i = n - 1;
-    p.store(m, 13 + i, w[i as usize]);
+    p.store(m, map::KEEPS + i, w[i as usize]);
     keep(m, p, w, i);
 }
 
@@ -192,7 +193,7 @@ fn zero_place(i: u16) -> u16
     13 + i
 }
 
-fn restore(m: &mut [u8], w: [u8; 19], n: u16)
+fn restore(m: &mut [u8], w: [u8; map::KEPT_WORDS], n: u16)
     requires { ⌜ (length (now m) ≡ 8192) × (n ≤ 19) ⌝ }
     ensures { λ _. ⌜ now (m .exit) ≡ Model.restored n (now (m .entry)) w ⌝ }
 {
@@ -215,7 +216,7 @@ fn save(m: &mut [u8], p: ControlPage)
     }
     let c = context_of(m, p);
     let w = c.words;
-    keep(m, p, w, 19);
+    keep(m, p, w, map::KEPT_COUNT);
 }
 
 fn load(m: &mut [u8], p: ControlPage)
@@ -227,7 +228,7 @@ fn load(m: &mut [u8], p: ControlPage)
     }
     let c = saved_of(m, p);
     let w = c.words;
-    restore(m, w, 19);
+    restore(m, w, map::KEPT_COUNT);
 }
 
 // The priority and name of page p; of page 0, 0.
@@ -238,7 +239,7 @@ fn label(m: &[u8], p: ControlPage) -> u8
     if p.0 == 0 {
         return 0;
     }
-    p.word(m, 7)
+    p.word(m, map::LABEL)
 }
 
 // Page p runs; page 0: nobody.
@@ -247,8 +248,8 @@ pub fn runs(m: &mut [u8], p: ControlPage)
     ensures { λ _. ⌜ now (m .exit) ≡ Model.runs (now (m .entry)) (p .0) ⌝ }
 {
     let w = label(m, p);
-    write(m, 248, p.0);
-    write(m, 249, w);
+    write(m, map::RUNNING_PAGE, p.0);
+    write(m, map::RUNNING_LABEL, w);
 }
 
 fn switch(m: &mut [u8], old: ControlPage, new: ControlPage)

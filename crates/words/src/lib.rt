@@ -1,4 +1,5 @@
 // Memory map: words read and written, 13-bit addresses, protected words.
+use model::map;
 use model::wide;
 ghost use mathlib.Core.Path.{_≡_};
 ghost use Prim.Native.Nat.{_<_, _≤_, _+_, _%_};
@@ -30,7 +31,7 @@ pub fn wrapped(a: u16, b: u16) -> u16
     requires { ⌜ (a < 8192) × (b < 8192) ⌝ }
     ensures { λ r. ⌜ (r ≡ Address.wrapped a b) × (r < 8192) ⌝ }
 {
-    (a + b) % 8192
+    (a + b) % map::MEMORY_SIZE
 }
 
 // The address in two words at a: the low five bits of the first, and the second.
@@ -39,50 +40,50 @@ pub fn address_at(m: &[u8], a: u16) -> u16
     ensures { λ r. ⌜ (r ≡ Model.addressAt (now (m .entry)) a) × (r < 8192) ⌝ }
 {
     let i = a as usize;
-    let j = (i + 1) % 8192;
-    wide(m[i]) % 32 * 256 + wide(m[j])
+    let j = (i + 1) % map::MEMORY_WORDS;
+    wide(m[i]) % map::HIGHS_WIDE * map::WORD_VALUES + wide(m[j])
 }
 
 // The high five bits of an address, and the low eight.
 pub fn high(a: u16) -> u8
     ensures { λ r. ⌜ (r ≡ Map.high a) × (r < 32) ⌝ }
 {
-    (a / 256 % 32) as u8
+    (a / map::WORD_VALUES % map::HIGHS_WIDE) as u8
 }
 
 pub fn low(a: u16) -> u8
     ensures { λ r. ⌜ r ≡ Map.low a ⌝ }
 {
-    (a % 256) as u8
+    (a % map::WORD_VALUES) as u8
 }
 
 // A semaphore, a counter or a reason: one more, one less.
 pub fn raised(x: u8) -> u8
     ensures { λ r. ⌜ r ≡ Map.raised x ⌝ }
 {
-    ((wide(x) + 1) % 256) as u8
+    ((wide(x) + 1) % map::WORD_VALUES) as u8
 }
 
 pub fn lowered(x: u8) -> u8
     ensures { λ r. ⌜ r ≡ Map.lowered x ⌝ }
 {
-    ((wide(x) + 255) % 256) as u8
+    ((wide(x) + map::A_WORD_WIDE) % map::WORD_VALUES) as u8
 }
 
 // Whether an address is protected.
 pub fn guarded(a: u16) -> bool
     ensures { λ r. ⌜ r ≡ Address.guarded a ⌝ }
 {
-    if a < 16 {
+    if a < map::GUARDED_END {
         return true;
     }
-    if a < 128 {
+    if a < map::GUARDED_FROM {
         return false;
     }
-    if a < 352 {
+    if a < map::GUARDED_TO {
         return true;
     }
-    7552 <= a
+    map::GUARDED_LAST <= a
 }
 
 // Whether none of the n words from a on is protected.
