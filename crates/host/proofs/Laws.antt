@@ -4,14 +4,18 @@ use native.Mathlib.Omega.{arith}
 use mathlib.Core.Path.{_≡_, ap, _∙_}
 use Rattle.model.specs.declared.Registers.{Registers}
 use Rattle.model.specs.declared.Answer.{Answer}
+use Rattle.model.specs.declared.Answer.the-variants.{Done, Waits, HandedOut, Fault, Refused}
 use Rattle.model.specs.declared.Held.{Held}
+use Rattle.model.specs.declared.Held.the-variants as Held
 use Rattle.model.specs.declared.Verdict.{Verdict}
+use Rattle.model.specs.declared.Verdict.the-variants as Verdict
 use Rattle.model.specs.Answer as Answer
-use Rattle.model.specs.Answer.{Outcome, answerOf, memoryOf}
+use Rattle.model.specs.Answer.{Outcome, answerOf, memoryOf, doneNumber, waitsNumber, handedOutNumber}
 use Rattle.model.specs.Answer.Outcome.{gives}
 use Rattle.model.specs.Bytes.{Memory}
 use Rattle.host.specs.Encoded as Encoded
-use Rattle.host.specs.Encoded.{encoded, encodedHeld, encodedVerdict, lowPart, packed}
+use Rattle.host.specs.Encoded.{encoded, encodedHeld, encodedVerdict, lowPart, packed, handed-sum, fault-sum, refused-sum, held-sum, held-refused-sum}
+use Rattle.host.specs.Encoded.{verdict-refused-sum}
 
 module _ {A : Type 0} (code : A → ℕ) where
   answers : (o : Outcome A Memory) (a : A) (m : Memory) (r : ℕ) → gives a m ≡ o → r ≡ code a → r ≡ code (answerOf o)
@@ -43,9 +47,41 @@ pub low-below : (a s p z c : ℕ) → a < 65536 → s < 65536 → p < 65536 → 
     → a * 256 + s * 65536 + p * 16777216 + z * 33554432 + c * 67108864 < 8796093022208
 low-below a s p z c ha hs hp hz hc = omega arith
 
-pub packed-is : (r : Registers) (x l w t : ℕ) → x ≡ lowPart r → l ≡ r .lr → w ≡ r .w → t ≡ r .stopped
-    → x + l * 134217728 + w * 1099511627776 + t * 17592186044416 ≡ packed r
+pub packed-is : (r : Registers) (x l w : ℕ) → x ≡ lowPart r → l ≡ r .lr → w ≡ r .w → x + l * 134217728 + w * 1099511627776 ≡ packed r
 unfolding Encoded.packed
-packed-is r x l w t ex el ew et = rw (ex, el, ew, et)
+packed-is r x l w ex el ew = rw (ex, el, ew)
 
 pub ruleset packing = (low-is, low-below, packed-is)
+
+-- ---- an answer of each kind, from its values widened
+pub done-code : (a : Answer) → a ≡ Done → doneNumber ≡ encoded a
+unfolding Encoded.encoded Encoded.weighed Answer.numbers
+done-code a e = rw e
+
+pub waits-code : (a : Answer) → a ≡ Waits → waitsNumber ≡ encoded a
+unfolding Encoded.encoded Encoded.weighed Answer.numbers
+waits-code a e = rw e
+
+pub handed-code : (a : Answer) (p b x y : ℕ) → a ≡ HandedOut p b → x ≡ p → y ≡ b → handedOutNumber + x * 256 + y * 16777216 ≡ encoded a
+handed-code a p b x y e ex ey = rw (e, ex, ey, handed-sum p b)
+
+pub fault-code : (a : Answer) (f n x y : ℕ) → a ≡ Fault f n → x ≡ f → y ≡ n → x + y * 256 ≡ encoded a
+fault-code a f n x y e ex ey = rw (e, ex, ey, fault-sum f n)
+
+pub refused-code : (a : Answer) (k x : ℕ) → a ≡ Refused k → x ≡ k → x ≡ encoded a
+refused-code a k x e ex = rw (e, ex, refused-sum k)
+
+pub held-code : (h : Held) (r : Registers) (x : ℕ) → h ≡ Held.Has r → x ≡ packed r → x ≡ encodedHeld h
+held-code h r x e ex = rw (e, ex, held-sum r)
+
+pub held-refused-code : (h : Held) (k x : ℕ) → h ≡ Held.Refused k → x ≡ k → x ≡ encodedHeld h
+held-refused-code h k x e ex = rw (e, ex, held-refused-sum k)
+
+pub well-formed-code : (v : Verdict) → v ≡ Verdict.WellFormed → doneNumber ≡ encodedVerdict v
+unfolding Encoded.encodedVerdict Encoded.weighed Answer.verdictNumbers
+well-formed-code v e = rw e
+
+pub verdict-refused-code : (v : Verdict) (k x : ℕ) → v ≡ Verdict.Refused k → x ≡ k → x ≡ encodedVerdict v
+verdict-refused-code v k x e ex = rw (e, ex, verdict-refused-sum k)
+
+pub ruleset coding = (done-code, waits-code, handed-code, fault-code, refused-code, held-code, held-refused-code, well-formed-code, verdict-refused-code)

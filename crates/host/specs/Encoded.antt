@@ -1,7 +1,10 @@
--- An answer as one number of 64 bits: its number in the low eight bits, and each of its values in bits of its own. Then: each can be read off again.
+-- An answer as one number of 64 bits, from document 01's numbers of it (model/specs/Answer.antt): each number times the power of two at which its bits begin.
+-- Then: each can be read off again, of every answer that a call gives.
 use Prim.Native.Nat.{ℕ, _+_, _*_, _/_, _%_, _<_}
 use native.Mathlib.Omega.{arith}
 use mathlib.Core.Path.{_≡_}
+use mathlib.Core.List.{List, [], _∷_}
+use lib.ListN.{getD}
 use Rattle.model.specs.declared.Registers.{Registers}
 use Rattle.model.specs.declared.Answer.{Answer}
 use Rattle.model.specs.declared.Answer.the-variants.{Done, Waits, HandedOut, Fault, Refused}
@@ -9,46 +12,78 @@ use Rattle.model.specs.declared.Held.{Held}
 use Rattle.model.specs.declared.Held.the-variants as Held
 use Rattle.model.specs.declared.Verdict.{Verdict}
 use Rattle.model.specs.declared.Verdict.the-variants as Verdict
-use Rattle.model.specs.Answer.{doneNumber, waitsNumber, handedOutNumber}
+use Rattle.model.specs.Map.{place, wordA, wordS, highLr, lowLr}
+use Rattle.model.specs.Processor as Processor
+use Rattle.model.specs.Answer as Answer
+use Rattle.model.specs.Answer.{numbers, heldNumbers, verdictNumbers, doneNumber, handedOutNumber}
+use Rattle.model.specs.Bytes.{registersOf}
 
--- ---- the first value from bit 8 on, the second from bit 24 on
+unfoldable pub weighed : List ℕ → List ℕ → ℕ
+weighed [] xs = 0
+weighed (w ∷ ws) [] = 0
+weighed (w ∷ ws) (x ∷ xs) = x * w + weighed ws xs
+
+-- ---- the answer's number from bit 0 on, the first value from bit 8, the second from bit 24
+abbrev pub answerBits : List ℕ
+answerBits = 1 ∷ 256 ∷ 16777216 ∷ []
+
 unfoldable pub encoded : Answer → ℕ
-encoded Done = doneNumber
-encoded Waits = waitsNumber
-encoded (HandedOut p a) = handedOutNumber + p * 256 + a * 16777216
-encoded (Fault f n) = f + n * 256
-encoded (Refused k) = k
+encoded a = weighed answerBits (numbers a)
 
 unfoldable pub encodedVerdict : Verdict → ℕ
-encodedVerdict Verdict.WellFormed = doneNumber
-encodedVerdict (Verdict.Refused k) = k
+encodedVerdict v = weighed answerBits (verdictNumbers v)
 
--- ---- registers: A from bit 8 on, S 16, P 24, Z 25, CI 26, LR 27, W 40, the stopped bit 44
-unfoldable pub lowPart : Registers → ℕ
-lowPart r = r .a * 256 + r .s * 65536 + r .p * 16777216 + r .z * 33554432 + r .ci * 67108864
+-- ---- registers: A from bit 8 on, S 16, P 24, Z 25, CI 26, LR 27, W 40
+abbrev pub registerBits : List ℕ
+registerBits = 1 ∷ 256 ∷ 65536 ∷ 16777216 ∷ 33554432 ∷ 67108864 ∷ 134217728 ∷ 1099511627776 ∷ []
 
-unfoldable pub packed : Registers → ℕ
-packed r = lowPart r + r .lr * 134217728 + r .w * 1099511627776 + r .stopped * 17592186044416
+unfoldable pub encodedHeld : Held → ℕ
+encodedHeld h = weighed registerBits (heldNumbers h)
 
 -- those that a host sets: it does not name the stopped bit
 abbrev pub setTo : ℕ → ℕ → ℕ → ℕ → ℕ → ℕ → ℕ → Registers
 setTo a s p z ci lr w = record { a = a; s = s; p = p; z = z; ci = ci; lr = lr; w = w; stopped = 0 }
 
-unfoldable pub encodedHeld : Held → ℕ
-encodedHeld (Held.Has r) = packed r
-encodedHeld (Held.Refused k) = k
+-- ---- as sums
+pub handed-sum : (p a : ℕ) → encoded (HandedOut p a) ≡ handedOutNumber + p * 256 + a * 16777216
+unfolding encoded weighed Answer.numbers
+handed-sum p a = omega arith
 
--- ---- read off again
+pub fault-sum : (f n : ℕ) → encoded (Fault f n) ≡ f + n * 256
+unfolding encoded weighed Answer.numbers
+fault-sum f n = omega arith
+
+pub refused-sum : (k : ℕ) → encoded (Refused k) ≡ k
+unfolding encoded weighed Answer.numbers
+refused-sum k = omega arith
+
+unfoldable pub lowPart : Registers → ℕ
+lowPart r = r .a * 256 + r .s * 65536 + r .p * 16777216 + r .z * 33554432 + r .ci * 67108864
+
+unfoldable pub packed : Registers → ℕ
+packed r = lowPart r + r .lr * 134217728 + r .w * 1099511627776
+
+pub held-sum : (r : Registers) → encodedHeld (Held.Has r) ≡ packed r
+unfolding encodedHeld weighed lowPart packed Answer.heldNumbers
+held-sum r = omega arith
+
+pub held-refused-sum : (k : ℕ) → encodedHeld (Held.Refused k) ≡ k
+unfolding encodedHeld weighed Answer.heldNumbers
+held-refused-sum k = omega arith
+
+pub verdict-refused-sum : (k : ℕ) → encodedVerdict (Verdict.Refused k) ≡ k
+unfolding encodedVerdict weighed Answer.verdictNumbers
+verdict-refused-sum k = omega arith
+
+-- ---- read off again: the numbers of a fault, and of an own code
 pub fault-read : (f n : ℕ) → f < 256 → n < 65536 → (encoded (Fault f n) % 256 ≡ f) × (encoded (Fault f n) / 256 % 65536 ≡ n)
-unfolding encoded
-fault-read f n u v = (omega arith, omega arith)
+fault-read f n u v = rw (fault-sum f n) (omega arith, omega arith)
 
 pub handed-read : (p a : ℕ) → p < 65536 → a < 65536
     → (encoded (HandedOut p a) % 256 ≡ handedOutNumber) × (encoded (HandedOut p a) / 256 % 65536 ≡ p) × (encoded (HandedOut p a) / 16777216 % 65536 ≡ a)
-unfolding encoded
-handed-read p a u v = (omega arith, omega arith, omega arith)
+handed-read p a u v = rw (handed-sum p a) (omega arith, omega arith, omega arith)
 
--- what the registers of a processor are within
+-- registers that are within their bits
 pub record Fits (r : Registers) : Type 0 where
   pub a : r .a < 256
   pub s : r .s < 256
@@ -58,39 +93,50 @@ pub record Fits (r : Registers) : Type 0 where
   pub lr : r .lr < 8192
   pub w : r .w < 16
 
+pub record ReadOff (x : ℕ) (r : Registers) : Type 0 where
+  pub number : x % 256 ≡ doneNumber
+  pub a : x / 256 % 256 ≡ r .a
+  pub s : x / 65536 % 256 ≡ r .s
+  pub p : x / 16777216 % 2 ≡ r .p
+  pub z : x / 33554432 % 2 ≡ r .z
+  pub ci : x / 67108864 % 2 ≡ r .ci
+  pub lr : x / 134217728 % 8192 ≡ r .lr
+  pub w : x / 1099511627776 % 16 ≡ r .w
+
 module _ (r : Registers) (h : Fits r) where
   low-part : lowPart r < 134217728
   unfolding lowPart
   low-part = omega (arith, h .a, h .s, h .p, h .z, h .ci)
 
-  pub packed-a : packed r / 256 % 256 ≡ r .a
+  sum-off : ReadOff (packed r) r
   unfolding packed lowPart
-  packed-a = omega (arith, h .a)
+  sum-off = record {
+    number = omega arith;
+    a = omega (arith, h .a);
+    s = omega (arith, h .a, h .s);
+    p = omega (arith, h .a, h .s, h .p);
+    z = omega (arith, h .a, h .s, h .p, h .z);
+    ci = omega (arith, h .a, h .s, h .p, h .z, h .ci);
+    lr = high .0;
+    w = high .1;
+  }
+    where
+      high : (packed r / 134217728 % 8192 ≡ r .lr) × (packed r / 1099511627776 % 16 ≡ r .w)
+      high = (omega (arith, low-part, h .lr), omega (arith, low-part, h .lr, h .w))
 
-  pub packed-s : packed r / 65536 % 256 ≡ r .s
-  unfolding packed lowPart
-  packed-s = omega (arith, h .a, h .s)
+-- the registers of any page of any memory of bytes fit, so they can be read off the answer
+fits : (m : List ℕ) → ((a : ℕ) → getD m a 0 < 256) → (page : ℕ) → Fits (registersOf m page)
+unfolding Processor.registersOf
+fits m bytes page = record {
+  a = bytes (place page wordA);
+  s = bytes (place page wordS);
+  p = omega (arith, bytes (place page highLr));
+  z = omega arith;
+  ci = omega arith;
+  lr = omega (arith, bytes (place page lowLr));
+  w = omega arith;
+}
 
-  pub packed-p : packed r / 16777216 % 2 ≡ r .p
-  unfolding packed lowPart
-  packed-p = omega (arith, h .a, h .s, h .p)
-
-  pub packed-z : packed r / 33554432 % 2 ≡ r .z
-  unfolding packed lowPart
-  packed-z = omega (arith, h .a, h .s, h .p, h .z)
-
-  pub packed-ci : packed r / 67108864 % 2 ≡ r .ci
-  unfolding packed lowPart
-  packed-ci = omega (arith, h .a, h .s, h .p, h .z, h .ci)
-
-  pub packed-lr : packed r / 134217728 % 8192 ≡ r .lr
-  unfolding packed
-  packed-lr = omega (arith, low-part, h .lr)
-
-  pub packed-w : packed r / 1099511627776 % 16 ≡ r .w
-  unfolding packed
-  packed-w = omega (arith, low-part, h .lr, h .w)
-
-  pub packed-stopped : packed r / 17592186044416 ≡ r .stopped
-  unfolding packed
-  packed-stopped = omega (arith, low-part, h .lr, h .w)
+pub registers-read : (m : List ℕ) → ((a : ℕ) → getD m a 0 < 256) → (page : ℕ)
+    → ReadOff (encodedHeld (Held.Has (registersOf m page))) (registersOf m page)
+registers-read m bytes page = rw (held-sum (registersOf m page)) (sum-off (registersOf m page) (fits m bytes page))

@@ -50,14 +50,13 @@ fn low_part(r: Registers) -> u64
         + wide(r.ci) * 67108864
 }
 
-// With LR, W and the stopped bit.
+// With LR and W.
 fn pack(r: Registers) -> u64
     ensures { λ x. ⌜ x ≡ packed r ⌝ }
 {
     low_part(r)
         + wide(r.lr) * 134217728
         + wide(r.w) * 1099511627776
-        + wide(r.stopped) * 17592186044416
 }
 
 fn encode_held(h: Held) -> u64

@@ -12,7 +12,4 @@ pack-spec = tie.close (tie.spec
     (λ c κs. search needs)
     (λ c. search needs)
     (λ c. search needs)
-    (λ c κs. search needs)
-    (λ c. search needs)
-    (λ c. search needs)
     (λ c. search (needs, packing)))
