@@ -6,7 +6,7 @@ use mathlib.Core.List.{List, [], _∷_}
 use Prim.Native.Nat.{ℕ, _≤_}
 use native.Mathlib.Omega.{arith}
 use lib.ListN.{length}
-use Rattle.model.specs.Map.{firstControl, memorySize, processorList}
+use Rattle.model.specs.Map.{firstControl, memorySize, place, processorList, q1, q2}
 use Rattle.model.specs.Store.{Store, bytes, trees, tget, tput, tzero, getT, putT, sizeT}
 use Rattle.model.specs.Same.{trees-is-bytes}
 use Rattle.model.specs.Address as Address
@@ -19,7 +19,7 @@ use Rattle.model.specs.Answer.{memoryOf}
 use Rattle.model.specs.Bytes.{lists, started, fresh, processors}
 use Rattle.model.specs.Lists.{count}
 use Rattle.laws.specs.Count.{hit-other, hit-or}
-use Rattle.laws.specs.Inv.{view, Base}
+use Rattle.laws.specs.Inv.{Base, noOne, view}
 use Rattle.laws.specs.Judged.{invariant}
 use Rattle.laws.specs.Frames.{base-kept}
 use Rattle.laws.specs.Start.{Args, zeros-size, zeros-fresh, agree-started, agree-kept}
@@ -32,8 +32,8 @@ use Rattle.history.specs.Letter.{waitingFor}
 -- what is computed, from zeros, with the line and the divider open
 record Empty (line divider : ℕ) (S : Store) : Type 0 where
   procs : Queue.processors S (Fresh.started S (S .zeros) line divider) ≡ firstControl ∷ []
-  first : Queue.queue S (Fresh.started S (S .zeros) line divider) 7557 ≡ []
-  second : Queue.queue S (Fresh.started S (S .zeros) line divider) 7558 ≡ []
+  first : Queue.queue S (Fresh.started S (S .zeros) line divider) (place firstControl q1) ≡ []
+  second : Queue.queue S (Fresh.started S (S .zeros) line divider) (place firstControl q2) ≡ []
 
 at-trees : (line divider : ℕ) → Empty line divider trees
 unfolding trees tget tput tzero getT putT sizeT Queue.walk Address.zeroed Processor.setFlagsLr Processor.setRegistersOf Processor.handBack Turn.runs
@@ -47,10 +47,10 @@ module _ (m : List ℕ) (line d : ℕ) (l : length m ≡ memorySize) (a : Args l
   abbrev m0 : List ℕ
   m0 = started (bytes .zeros) line d
 
-  b0 : Base m0 (lists m0 processorList) (lists m0) (view m0) [] 32
+  b0 : Base m0 (lists m0 processorList) (lists m0) (view m0) [] noOne
   b0 = invariant (zeros-fresh line d a) .base
 
-  b1 : Base (started m line d) (lists m0 processorList) (lists m0) (view m0) [] 32
+  b1 : Base (started m line d) (lists m0 processorList) (lists m0) (view m0) [] noOne
   b1 = base-kept (agree-kept (agree-started (bytes .zeros) m line d zeros-size l)) b0
 
   one : lists m0 processorList ≡ firstControl ∷ []
@@ -68,9 +68,9 @@ module _ (m : List ℕ) (line d : ℕ) (l : length m ≡ memorySize) (a : Args l
   started-empty p h =
       let e = is-one p (rw (listed b1, one) at h) in
       let i : 1 ≤ count firstControl (lists m0 processorList) = rw (listed b1, e) at h in
-      let f5 = mail-queue b1 firstControl 5 i (omega arith) (omega arith) ∙ sym (mail-queue b0 firstControl 5 i (omega arith) (omega arith))
+      let f5 = mail-queue b1 firstControl q1 i (omega arith) (omega arith) ∙ sym (mail-queue b0 firstControl q1 i (omega arith) (omega arith))
       ∙ computed line d .first in
-      let f6 = mail-queue b1 firstControl 6 i (omega arith) (omega arith) ∙ sym (mail-queue b0 firstControl 6 i (omega arith) (omega arith))
+      let f6 = mail-queue b1 firstControl q2 i (omega arith) (omega arith) ∙ sym (mail-queue b0 firstControl q2 i (omega arith) (omega arith))
       ∙ computed line d .second in
       rw (e, f5, f6)
 

@@ -8,10 +8,11 @@ use native.Mathlib.Omega.{arith}
 use lib.ListN.{getD, set}
 use lib.Dec.{ltb}
 use borrow.Author.Tests.{ltb-true, ltb-false}
-use Rattle.model.specs.Map.{freeList, freeSemaphore, grantFor, guardedLast, highLr, link, memorySize, pageQueue, place, processorList, reason, runningLabel}
-use Rattle.model.specs.Map.{runningPage, state}
+use Rattle.model.specs.Map as Map
+use Rattle.model.specs.Map.{flagsKept, freeList, freeSemaphore, grantFor, guardedLast, high, highLr, keeps, keptCount, label, link, listLink, lowLr, lowered}
+use Rattle.model.specs.Map.{memorySize, ownQueue, ownSemaphore, pageQueue, pageSize, place, processorList, q1, q2, reason, runningLabel, runningPage}
+use Rattle.model.specs.Map.{state, waitSet, wordA, zeroPlace}
 use Rattle.model.specs.Bytes.{running, store, word}
-use Rattle.model.specs.Map.{zeroPlace}
 use Rattle.model.specs.Wait as Wait
 use Rattle.model.specs.Page as Page
 use Rattle.model.specs.Processor as Processor
@@ -45,14 +46,14 @@ module _ {ps : List ℕ} {L : Lists} (s : Sep ps L) {c : ℕ} where
   mine-high (page p w x j h u v i l e) = let g = q-free s p w x u v h i in (omega arith, omega arith)
 
   -- a processor's words but 5 and 6
-  pub mine-proc : Mine ps L c → (q j : ℕ) → 1 ≤ count q ps → j < 32 → j ≢ 5 → j ≢ 6 → c ≢ place q j
+  pub mine-proc : Mine ps L c → (q j : ℕ) → 1 ≤ count q ps → j < pageSize → j ≢ q1 → j ≢ q2 → c ≢ place q j
   mine-proc (head p w h u v e) q j i l n5 n6 = omega arith
   mine-proc (page p w x k h u v i l e) q j iq lj n5 n6 =
       let g = q-free s p w x u v h i in
       let d : x ≢ q = λ z. omega (arith, ap (λ (y : ℕ). count y ps) z, g .1) in
       omega arith
 
-  pub ours-proc : Ours ps L c → (q j : ℕ) → 1 ≤ count q ps → j < 32 → j ≢ 1 → j ≢ 5 → j ≢ 6 → j ≢ 7 → c ≢ place q j
+  pub ours-proc : Ours ps L c → (q j : ℕ) → 1 ≤ count q ps → j < pageSize → j ≢ listLink → j ≢ q1 → j ≢ q2 → j ≢ label → c ≢ place q j
   ours-proc (mail h) q j i l n1 n5 n6 n7 = mine-proc h q j i l n5 n6
   ours-proc (first e) q j i l n1 n5 n6 n7 = let t = proc-page s q i in omega arith
   ours-proc (next z h e) q j i l n1 n5 n6 n7 = omega arith
@@ -72,7 +73,7 @@ module _ {ps : List ℕ} {L : Lists} (s : Sep ps L) {c : ℕ} where
   ours-fits (named z h e) = let t = proc-page s z h in omega arith
 
   -- a page in hand
-  pub mine-hand : Mine ps L c → (q j : ℕ) → Aside ps L q → j < 32 → c ≢ place q j
+  pub mine-hand : Mine ps L c → (q j : ℕ) → Aside ps L q → j < pageSize → c ≢ place q j
   mine-hand (head p w h u v e) q j o l =
       let d : p ≢ q = λ z. omega (arith, ap (λ (y : ℕ). count y ps) z, o .out) in
       omega arith
@@ -80,7 +81,7 @@ module _ {ps : List ℕ} {L : Lists} (s : Sep ps L) {c : ℕ} where
       let d : x ≢ q = count-ne x q (L (place p w)) (o .free (place p w) (in-q ps p w u v h)) i in
       omega arith
 
-  pub ours-hand : Ours ps L c → (q j : ℕ) → Aside ps L q → j < 32 → c ≢ place q j
+  pub ours-hand : Ours ps L c → (q j : ℕ) → Aside ps L q → j < pageSize → c ≢ place q j
   ours-hand (mail h) q j o l = mine-hand h q j o l
   ours-hand (first e) q j o l = let t = o .page in omega arith
   ours-hand (next z h e) q j o l =
@@ -98,12 +99,12 @@ module _ {ps : List ℕ} {L : Lists} (s : Sep ps L) {c : ℕ} where
       go (line k u e) = (ours-low m a (omega arith) (omega arith), ours-low m (a + 1) (omega arith) (omega arith))
       go (page e) = (ours-low m a (omega arith) (omega arith), ours-low m (a + 1) (omega arith) (omega arith))
       go (own p u e) =
-          let d3 = ours-proc m p 3 u (omega arith) (omega arith) (omega arith) (omega arith) (omega arith) in
-          let d4 = ours-proc m p 4 u (omega arith) (omega arith) (omega arith) (omega arith) (omega arith) in
+          let d3 = ours-proc m p ownSemaphore u (omega arith) (omega arith) (omega arith) (omega arith) (omega arith) in
+          let d4 = ours-proc m p ownQueue u (omega arith) (omega arith) (omega arith) (omega arith) (omega arith) in
           (omega arith, omega arith)
 
   pub ours-wait : Ours ps L c → (a z : ℕ) → 1 ≤ count (a + 1) (queues ps) → 1 ≤ count z (L (a + 1)) → c ≢ place z link
-  ours-wait m a z h i = ours-proc m z 0 (wait-page s (a + 1) z h i) (omega arith) (omega arith) (omega arith) (omega arith) (omega arith)
+  ours-wait m a z h i = ours-proc m z link (wait-page s (a + 1) z h i) (omega arith) (omega arith) (omega arith) (omega arith) (omega arith)
 
   -- the links of the free pages
   mine-free : Mine ps L c → (z : ℕ) → 1 ≤ count z (L freeList) → c ≢ place z link
@@ -136,22 +137,22 @@ module _ {ps : List ℕ} {L : Lists} (s : Sep ps L) where
   pub calm-low : (m : List ℕ) (b v : ℕ) → b < guardedLast → b ≢ processorList → Same ps L m (set m b v)
   calm-low m b v l n = calm-set m b v (λ c h. ours-low s h b l n)
 
-  pub calm-proc : (m : List ℕ) (q j v : ℕ) → 1 ≤ count q ps → j < 32 → j ≢ 1 → j ≢ 5 → j ≢ 6 → j ≢ 7 → Same ps L m (store m q j v)
+  pub calm-proc : (m : List ℕ) (q j v : ℕ) → 1 ≤ count q ps → j < pageSize → j ≢ listLink → j ≢ q1 → j ≢ q2 → j ≢ label → Same ps L m (store m q j v)
   calm-proc m q j v i l n1 n5 n6 n7 = calm-set m (place q j) v (λ c h. ours-proc s h q j i l n1 n5 n6 n7)
 
   pub calm-only : (m m′ : List ℕ) (q : ℕ) → Aside ps L q → Only q m m′ → Same ps L m m′
-  calm-only m m′ q o t = record { at = λ c h. go c h (ltb c (q * 32)) refl (ltb c (q * 32 + 32)) refl }
+  calm-only m m′ q o t = record { at = λ c h. go c h (ltb c (q * pageSize)) refl (ltb c (q * pageSize + pageSize)) refl }
     where
-      go : (c : ℕ) → Ours ps L c → (x : Bool) → ltb c (q * 32) ≡ x → (y : Bool) → ltb c (q * 32 + 32) ≡ y → getD m′ c 0 ≡ getD m c 0
-      go c h true e y f = t .below c (ltb-true c (q * 32) e)
+      go : (c : ℕ) → Ours ps L c → (x : Bool) → ltb c (q * pageSize) ≡ x → (y : Bool) → ltb c (q * pageSize + pageSize) ≡ y → getD m′ c 0 ≡ getD m c 0
+      go c h true e y f = t .below c (ltb-true c (q * pageSize) e)
       go c h false e true f =
-          let a = ltb-false c (q * 32) e in
-          let b = ltb-true c (q * 32 + 32) f in
-          absurd (ours-hand s h q (c - q * 32) o (omega arith) (omega arith))
-      go c h false e false f = t .above c (ltb-false c (q * 32 + 32) f)
+          let a = ltb-false c (q * pageSize) e in
+          let b = ltb-true c (q * pageSize + pageSize) f in
+          absurd (ours-hand s h q (c - q * pageSize) o (omega arith) (omega arith))
+      go c h false e false f = t .above c (ltb-false c (q * pageSize + pageSize) f)
 
   -- words of the control page r or of page 0
-  pub calm-run : (m : List ℕ) (r j v : ℕ) → (r ≢ 0 → 1 ≤ count r ps) → 8 ≤ j → j < 32 → Same ps L m (store m r j v)
+  pub calm-run : (m : List ℕ) (r j v : ℕ) → (r ≢ 0 → 1 ≤ count r ps) → wordA ≤ j → j < pageSize → Same ps L m (store m r j v)
   calm-run m r j v g l u = go (hit-or r 0)
     where
       go : (r ≡ 0) ⊎ (r ≢ 0) → Same ps L m (store m r j v)
@@ -161,8 +162,8 @@ module _ {ps : List ℕ} {L : Lists} (s : Sep ps L) where
   pub calm-lr : (m : List ℕ) (r a : ℕ) → (r ≢ 0 → 1 ≤ count r ps) → Same ps L m (setLr m r a)
   unfolding Processor.setLr
   calm-lr m r a g =
-      let v = word m r highLr / 32 * 32 + a / 256 % 32 in
-      same-on (calm-run m r 10 v g (omega arith) (omega arith)) (calm-run (store m r highLr v) r 11 (a % 256) g (omega arith) (omega arith))
+      let v = flagsKept (word m r highLr) (high a) in
+      same-on (calm-run m r highLr v g (omega arith) (omega arith)) (calm-run (store m r highLr v) r lowLr (Map.low a) g (omega arith) (omega arith))
 
   -- who runs
   pub ours-unmoved : {c : ℕ} → Ours ps L c → (r : ℕ) → (r ≢ 0 → 1 ≤ count r ps) → Unmoved r c
@@ -173,9 +174,9 @@ module _ {ps : List ℕ} {L : Lists} (s : Sep ps L) where
     kept = λ i l. kept i l (hit-or r 0);
   }
     where
-      kept : (i : ℕ) → i < 19 → (r ≡ 0) ⊎ (r ≢ 0) → c ≢ r * 32 + (13 + i)
-      kept i l (inl e) = ours-low s h (r * 32 + (13 + i)) (omega arith) (omega arith)
-      kept i l (inr d) = ours-proc s h r (13 + i) (g d) (omega arith) (omega arith) (omega arith) (omega arith) (omega arith)
+      kept : (i : ℕ) → i < keptCount → (r ≡ 0) ⊎ (r ≢ 0) → c ≢ place r (keeps i)
+      kept i l (inl e) = ours-low s h (place r (keeps i)) (omega arith) (omega arith)
+      kept i l (inr d) = ours-proc s h r (keeps i) (g d) (omega arith) (omega arith) (omega arith) (omega arith) (omega arith)
 
   pub calm-turn : (m : List ℕ) → (running m ≢ 0 → 1 ≤ count (running m) ps) → Same ps L m (whoRuns m)
   calm-turn m g = record { at = λ c h. turn-frame m c (ours-unmoved h (running m) g) }
@@ -186,8 +187,8 @@ module _ {m : List ℕ} {ps : List ℕ} {L : Lists} {W : View} (s : Sep ps L) (x
   calm-wake a p xs ys h hp e = record {
     at = λ c i.
         wake-frame s x a p xs ys h e c (ours-seat s i a h .0) (ours-seat s i a h .1) (λ z j. ours-wait s i a z h j)
-        (ours-proc s i p 2 hp (omega arith) (omega arith) (omega arith) (omega arith) (omega arith))
-        (ours-proc s i p 12 hp (omega arith) (omega arith) (omega arith) (omega arith) (omega arith));
+        (ours-proc s i p reason hp (omega arith) (omega arith) (omega arith) (omega arith) (omega arith))
+        (ours-proc s i p state hp (omega arith) (omega arith) (omega arith) (omega arith) (omega arith));
   }
 
   pub calm-wait : (a p w : ℕ) → 1 ≤ count (a + 1) (queues ps) → 1 ≤ count p ps → ((c : ℕ) → Head ps c → c ≢ processorList → count p (L c) ≡ 0)
@@ -195,28 +196,28 @@ module _ {m : List ℕ} {ps : List ℕ} {L : Lists} {W : View} (s : Sep ps L) (x
   unfolding Wait.putToWait Wait.enqueue
   calm-wait a p w h hp new =
       let pg = proc-page s p hp in
-      let v1 = word m p state / 128 * 128 + 64 + word m p state % 64 in
+      let v1 = waitSet (word m p state) in
       let x1 = state-mem s x p v1 pg in
       let m1 = store m p state v1 in
       let x2 = reason-mem s x1 p w hp in
       let m2 = store m1 p reason w in
-      let v3 = (getD m2 a 0 + 255) % 256 in
+      let v3 = lowered (getD m2 a 0) in
       let x3 = sem-mem s x2 a v3 h in
       let m3 = set m2 a v3 in
-      let c1 : Same ps L m m1 = calm-proc s m p 12 v1 hp (omega arith) (omega arith) (omega arith) (omega arith) (omega arith) in
-      let c2 : Same ps L m1 m2 = calm-proc s m1 p 2 w hp (omega arith) (omega arith) (omega arith) (omega arith) (omega arith) in
+      let c1 : Same ps L m m1 = calm-proc s m p state v1 hp (omega arith) (omega arith) (omega arith) (omega arith) (omega arith) in
+      let c2 : Same ps L m1 m2 = calm-proc s m1 p reason w hp (omega arith) (omega arith) (omega arith) (omega arith) (omega arith) in
       let c3 : Same ps L m2 m3 = calm-set m2 a v3 (λ c i. ours-seat s i a h .0) in
       same-on (same-on (same-on c1 c2) c3) (record {
         at = λ c i.
             join-frame s x3 (a + 1) (seat-head s a h) (λ d. not-procs s a h (sym d)) p pg new c (ours-seat s i a h .1) (λ z j. ours-wait s i a z h j)
-            (ours-proc s i p 0 hp (omega arith) (omega arith) (omega arith) (omega arith) (omega arith));
+            (ours-proc s i p link hp (omega arith) (omega arith) (omega arith) (omega arith) (omega arith));
       })
 
   -- the first free page
   pub calm-take : (q : ℕ) (fs : List ℕ) → L freeList ≡ q ∷ fs → Same ps L m (takeFree m q)
   unfolding Page.takeFree
   calm-take q fs e =
-      let v = (getD m freeSemaphore 0 + 255) % 256 in
+      let v = lowered (getD m freeSemaphore 0) in
       let m1 = set m freeSemaphore v in
       let x1 = sem-mem s x freeSemaphore v (page-sem ps) in
       let c1 : Same ps L m m1 = calm-low s m freeSemaphore v (omega arith) (omega arith) in
@@ -234,13 +235,13 @@ calm-give {q = q} b = let s = b .facts .sep in record {
   at = λ c i. give-frame b c (record {
     low = λ a u v. ours-low s i a (omega arith) (omega arith);
     grant = λ k u. ours-low s i (grantFor k) (omega arith) (omega arith);
-    hand = ours-hand s i q 0 (aside-hand b q (in-hand b)) (omega arith);
+    hand = ours-hand s i q link (aside-hand b q (in-hand b)) (omega arith);
     free = λ z j. ours-free s i z j;
     waiter = λ p j.
         let hp = wait-page s pageQueue p (omega arith) j in (
-          ours-proc s i p 0 hp (omega arith) (omega arith) (omega arith) (omega arith) (omega arith),
-          ours-proc s i p 2 hp (omega arith) (omega arith) (omega arith) (omega arith) (omega arith),
-          ours-proc s i p 12 hp (omega arith) (omega arith) (omega arith) (omega arith) (omega arith),
+          ours-proc s i p link hp (omega arith) (omega arith) (omega arith) (omega arith) (omega arith),
+          ours-proc s i p reason hp (omega arith) (omega arith) (omega arith) (omega arith) (omega arith),
+          ours-proc s i p state hp (omega arith) (omega arith) (omega arith) (omega arith) (omega arith),
         );
   });
 }

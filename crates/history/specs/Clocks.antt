@@ -5,7 +5,7 @@ use Prim.Native.Nat.{ℕ, zero, suc, _+_, _-_, _*_, _%_, _≤_}
 use native.Mathlib.Omega.{arith}
 use lib.ListN.{length, getD, set}
 use lib.Dec.{eqb, ltb}
-use Rattle.model.specs.Map.{c0, c3, interrupts, place, reason, semaphoreOf}
+use Rattle.model.specs.Map.{c0, c3, controlPages, firstClassed, headerOf, interrupts, lastOuter, lowered, place, reason, semaphoreOf, wordA}
 use Rattle.model.specs.Bytes.{word}
 use Rattle.model.specs.Interrupt as Interrupt
 use Rattle.model.specs.Bytes as Model
@@ -37,9 +37,9 @@ module _ (k c : ℕ) (k1 : 1 ≤ k) (k2 : k ≤ interrupts) where
       let w : Same ps L m (Model.wake m a p) = calm-wake s (b .mem) a p xs ys (seat k c k1 k2 ps) hp e in
       let A = Model.wake m a p in
       either (Same ps L m) (eqb (word m p reason) 1)
-      (either (Same ps L m) (ltb k 48) w (either (Same ps L m) (ltb 50 k) w
-      (same-on w (calm-proc s (Model.wake m a p) p 8 c hp (omega arith) (omega arith) (omega arith) (omega arith) (omega arith)))))
-      (calm-proc s m p 2 ((word m p reason + 255) % 256) hp (omega arith) (omega arith) (omega arith) (omega arith) (omega arith))
+      (either (Same ps L m) (ltb k firstClassed) w (either (Same ps L m) (ltb lastOuter k) w
+      (same-on w (calm-proc s (Model.wake m a p) p wordA c hp (omega arith) (omega arith) (omega arith) (omega arith) (omega arith)))))
+      (calm-proc s m p reason (lowered (word m p reason)) hp (omega arith) (omega arith) (omega arith) (omega arith) (omega arith))
 
   abbrev Goal : List ℕ → ℕ → List ℕ → List ℕ → ℕ → Type 0
   Goal ys n ps hs g = (L : Lists) (W : View) (m : List ℕ) (xs : List ℕ) → Base m ps L W hs g → L (a + 1) ≡ xs ++ ys
@@ -61,8 +61,9 @@ module _ (k c : ℕ) (k1 : 1 ≤ k) (k2 : k ≤ interrupts) where
       let s = b .facts .sep in
       let st = seat k c k1 k2 ps in
       let ch = chain0 s (b .mem) (a + 1) (seat-head s a st) (λ d. not-procs s a st (sym d)) in
-      let at1 : semaphoreOf k + 1 ≡ 130 + 2 * k = omega arith in
-      rw (← at1, chain-head m (a + 1) (L (a + 1)) ch) (calm-from (L (a + 1)) 20 ps hs g (list-short s (a + 1) (in-queues ps (a + 1) st)) L W m [] b refl)
+      let at1 : semaphoreOf k + 1 ≡ headerOf k = omega arith in
+      rw (← at1, chain-head m (a + 1) (L (a + 1)) ch) (calm-from (L (a + 1)) controlPages ps hs g
+      (list-short s (a + 1) (in-queues ps (a + 1) st)) L W m [] b refl)
 
 -- from m on, Q1 and Q2 are as they were
 record Flows (m : List ℕ) (ps : List ℕ) (L : Lists) (m1 : List ℕ) (hs : List ℕ) (g : ℕ) : Type 0 where

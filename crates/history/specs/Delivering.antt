@@ -5,7 +5,7 @@ use mathlib.Core.Logic.{_≢_}
 use mathlib.Core.List.{List, [], _∷_, _++_, append-assoc, map}
 use Prim.Native.Nat.{ℕ, _+_, _-_, _*_, _/_, _%_, _≤_}
 use native.Mathlib.Omega.{arith}
-use Rattle.model.specs.Map.{place, q1}
+use Rattle.model.specs.Map.{lastFlag, lower, pair, place, q1, q2, upper}
 use Rattle.model.specs.Bytes.{deliver, queue, makeNotice}
 use Rattle.model.specs.Lists.{count, Lists}
 use Rattle.laws.specs.Inv.{View, Message, Base}
@@ -15,12 +15,12 @@ use Rattle.history.specs.Letter.{mailOf, map-append, waitingFor, held, w
 use Rattle.history.specs.Put.{noticeFrom}
 
 -- ---- the message of a notice in hand
-pub notice-mail : {m : List ℕ} {ps : List ℕ} {L : Lists} {W : View} {hs : List ℕ} {g q : ℕ} (b : Base m ps L W (q ∷ hs) g) (n f : ℕ) → f ≤ 7
+pub notice-mail : {m : List ℕ} {ps : List ℕ} {L : Lists} {W : View} {hs : List ℕ} {g q : ℕ} (b : Base m ps L W (q ∷ hs) g) (n f : ℕ) → f ≤ lastFlag
     → mailOf (makeNotice m q n f) q ≡ noticeFrom n f
 unfolding mailOf words
 notice-mail b n f l =
-    let e1 : (n * 16 + f) / 16 ≡ n = omega arith in
-    let e2 : (n * 16 + f) % 16 ≡ f = omega arith in
+    let e1 : upper (pair n f) ≡ n = omega arith in
+    let e2 : lower (pair n f) ≡ f = omega arith in
     rw (notice-words b n f .0, notice-words b n f .1, e1, e2)
 
 -- ---- the delivery
@@ -39,27 +39,27 @@ module _ {m : List ℕ} {ps : List ℕ} {L : Lists} {W : View} {hs : List ℕ} {
 
   pub delivered-last : map (mailOf (deliver m p q)) (queue (deliver m p q) (place p q1)) ≡ map (mailOf m) (queue m (place p q1)) ++ mailOf m q ∷ []
   delivered-last =
-      held-through (all .gave .base) delivered-texts p 5 hp (omega arith) (omega arith)
-      ∙ rw (all .here, mail-queue b p 5 hp (omega arith) (omega arith)) (map-append (mailOf m) (L (place p q1)) (q ∷ []))
+      held-through (all .gave .base) delivered-texts p q1 hp (omega arith) (omega arith)
+      ∙ rw (all .here, mail-queue b p q1 hp (omega arith) (omega arith)) (map-append (mailOf m) (L (place p q1)) (q ∷ []))
 
   -- every other list of messages stays
-  stays : (y w : ℕ) → 1 ≤ count y ps → 5 ≤ w → w ≤ 6 → place y w ≢ place p q1 → held (deliver m p q) y w ≡ held m y w
+  stays : (y w : ℕ) → 1 ≤ count y ps → q1 ≤ w → w ≤ q2 → place y w ≢ place p q1 → held (deliver m p q) y w ≡ held m y w
   stays y w h u v n =
       held-through (all .gave .base) delivered-texts y w h u v
       ∙ rw (all .others (place y w) n (omega arith), mail-queue b y w h u v)
 
   pub delivered-other : (y : ℕ) → 1 ≤ count y ps → y ≢ p
       → map (mailOf (deliver m p q)) (queue (deliver m p q) (place y q1)) ≡ map (mailOf m) (queue m (place y q1))
-  delivered-other y h n = stays y 5 h (omega arith) (omega arith) (omega arith)
+  delivered-other y h n = stays y q1 h (omega arith) (omega arith) (omega arith)
 
   pub delivered-here : waitingFor (deliver m p q) p ≡ waitingFor m p ++ mailOf m q ∷ []
   delivered-here =
-      let e5 : held (deliver m p q) p 5 ≡ held m p 5 ++ mailOf m q ∷ [] = delivered-last in
-      let e6 : held (deliver m p q) p 6 ≡ held m p 6 = stays p 6 hp (omega arith) (omega arith) (omega arith) in
-      rw (waits-held (deliver m p q) p, waits-held m p, e5, e6) (sym (append-assoc (held m p 6) (held m p 5) (mailOf m q ∷ [])))
+      let e5 : held (deliver m p q) p q1 ≡ held m p q1 ++ mailOf m q ∷ [] = delivered-last in
+      let e6 : held (deliver m p q) p q2 ≡ held m p q2 = stays p q2 hp (omega arith) (omega arith) (omega arith) in
+      rw (waits-held (deliver m p q) p, waits-held m p, e5, e6) (sym (append-assoc (held m p q2) (held m p q1) (mailOf m q ∷ [])))
 
   pub delivered-away : (y : ℕ) → 1 ≤ count y ps → y ≢ p → waitingFor (deliver m p q) y ≡ waitingFor m y
   delivered-away y h n =
-      let e5 : held (deliver m p q) y 5 ≡ held m y 5 = stays y 5 h (omega arith) (omega arith) (omega arith) in
-      let e6 : held (deliver m p q) y 6 ≡ held m y 6 = stays y 6 h (omega arith) (omega arith) (omega arith) in
+      let e5 : held (deliver m p q) y q1 ≡ held m y q1 = stays y q1 h (omega arith) (omega arith) (omega arith) in
+      let e6 : held (deliver m p q) y q2 ≡ held m y q2 = stays y q2 h (omega arith) (omega arith) (omega arith) in
       rw (waits-held (deliver m p q) y, waits-held m y, e5, e6)

@@ -10,7 +10,8 @@ use lib.ListN.{getD, length-append}
 use lib.Dec.{eqb}
 use borrow.Author.Tests.{eqb-true, eqb-false, ne-eqb}
 use Rattle.model.specs.Map as Map
-use Rattle.model.specs.Map.{interrupts, place, processorList, q1, q2, runningPage}
+use Rattle.model.specs.Map.{controlPages, interrupts, link, listLink, lower, note, pageSize, place, processorList, q1, q2, raised, runningPage, size}
+use Rattle.model.specs.Map.{upper}
 use Rattle.model.specs.Bytes as Memory
 use Rattle.model.specs.Bytes.{name}
 use Rattle.model.specs.Queue.{first}
@@ -24,7 +25,7 @@ use Rattle.laws.specs.Chain.{Page, walk-chain, split-at-page, Chain}
 use Rattle.laws.specs.Queues.{upd, upd-same, link-procs}
 use Rattle.laws.specs.Uses.{Sep, proc-page, list-short}
 use Rattle.laws.specs.Places.{in-procs, grant-low}
-use Rattle.laws.specs.Inv.{View, Mem, Base}
+use Rattle.laws.specs.Inv.{Base, Mem, View, noOne}
 use Rattle.laws.specs.Views.{put1, withWords}
 use Rattle.laws.specs.Stores.{sem-mem}
 use Rattle.laws.specs.Cells.{leave-mem}
@@ -67,7 +68,7 @@ wait-out {m} {ps} {L} {W} b p hp = go (queued m (seat interrupts m p) p) refl
         let a = seat interrupts m p in
         let h = seat-is b p hp in
         let r = split-at-page p (L (a + 1)) (queued-in b p hp a h e) in
-        let v = (getD m a 0 + 1) % 256 in
+        let v = raised (getD m a 0) in
         let x1 = sem-mem s (b .mem) a v h in
         rw e (record {
           lists = upd L (a + 1) (r .0 ++ r .1);
@@ -82,7 +83,7 @@ wait-out {m} {ps} {L} {W} b p hp = go (queued m (seat interrupts m p) p) refl
         })
 
 -- ---- out of the list
-module _ (xs : List ℕ) (p : ℕ) (ys : List ℕ) {m : List ℕ} {L : Lists} {W : View} (b : Base m (xs ++ p ∷ ys) L W [] 32) where
+module _ (xs : List ℕ) (p : ℕ) (ys : List ℕ) {m : List ℕ} {L : Lists} {W : View} (b : Base m (xs ++ p ∷ ys) L W [] noOne) where
   abbrev u : List ℕ
   u = unlisted m p
 
@@ -107,7 +108,7 @@ module _ (xs : List ℕ) (p : ℕ) (ys : List ℕ) {m : List ℕ} {L : Lists} {W
     at = λ c i.
         let t = mine-high s i in
         rw (left-is xs p ys (o .sep) (o .mem)) (Shrink.same xs p ys (o .sep) (o .mem) c (omega arith)
-        (λ z k. mine-proc s i z 1 k (omega arith) (omega arith) (omega arith)) ∙ o .same .at c (mail i));
+        (λ z k. mine-proc s i z listLink k (omega arith) (omega arith) (omega arith)) ∙ o .same .at c (mail i));
   }
 
   left-mem : (X : View) × ((y : ℕ) → X .label y ≡ W .label y) × Mem (unlisted m p) (xs ++ ys) (upd (o .lists) processorList (xs ++ ys)) X
@@ -124,7 +125,7 @@ module _ (xs : List ℕ) (p : ℕ) (ys : List ℕ) {m : List ℕ} {L : Lists} {W
       let l = rw (s .procs) at (list-short s processorList (in-procs (xs ++ p ∷ ys))) in
       let c = rw (link-procs, upd-same (o .lists) processorList (xs ++ ys)) at
       (left-mem .2 .holds .rep processorList (in-procs (xs ++ ys), grant-low processorList (omega arith))) in
-      walk-chain 20 u 1 processorList (xs ++ ys) c (omega (arith, l, length-append xs (p ∷ ys), length-append xs ys))
+      walk-chain controlPages u listLink processorList (xs ++ ys) c (omega (arith, l, length-append xs (p ∷ ys), length-append xs ys))
 
   pub left-grown : Grown (xs ++ ys) m (unlisted m p) []
   left-grown = grown-same b left-posts (xs ++ ys) stayed (λ y h. left-names y (proc-page s y (stayed y h)))
@@ -132,10 +133,10 @@ module _ (xs : List ℕ) (p : ℕ) (ys : List ℕ) {m : List ℕ} {L : Lists} {W
   -- ---- who has a name
   own-name : (y : ℕ) → 1 ≤ count y (xs ++ ys) → name m y ≢ name m p
   own-name y h e =
-      let d : W .label y % 16 ≡ W .label p % 16 = rw (label-at b y (stayed y h), label-at b p hp) at e in
+      let d : lower (W .label y) ≡ lower (W .label p) = rw (label-at b y (stayed y h), label-at b p hp) at e in
       omega (
         arith,
-        each-two (λ z. W .label z % 16) y p (xs ++ p ∷ ys) (not-gone y h) d (stayed y h) hp,
+        each-two (λ z. lower (W .label z)) y p (xs ++ p ∷ ys) (not-gone y h) d (stayed y h) hp,
         b .facts .names .differ p hp,
       )
 
@@ -170,19 +171,19 @@ module _ (xs : List ℕ) (p : ℕ) (ys : List ℕ) {m : List ℕ} {L : Lists} {W
           rw e (sym (drop (isNamed m n) xs (ne-eqb (name m p) n (λ z. d (sym z)))))
 
   -- ---- its messages
-  pub left-aims : (w : ℕ) → 5 ≤ w → w ≤ 6 → Aims m p (unlisted m p) (L (place p w))
+  pub left-aims : (w : ℕ) → q1 ≤ w → w ≤ q2 → Aims m p (unlisted m p) (L (place p w))
   unfolding returnsTo
-  left-aims w l k = record { to = λ x h. to x h; flag = λ x h. ap (λ (v : ℕ). v % 16) (word x 1 h (omega arith) (omega arith)) }
+  left-aims w l k = record { to = λ x h. to x h; flag = λ x h. ap (λ (v : ℕ). lower v) (word x note h (omega arith) (omega arith)) }
     where
-      word : (x j : ℕ) → 1 ≤ count x (L (place p w)) → 1 ≤ j → j < 32 → Memory.word (unlisted m p) x j ≡ Memory.word m x j
+      word : (x j : ℕ) → 1 ≤ count x (L (place p w)) → 1 ≤ j → j < pageSize → Memory.word (unlisted m p) x j ≡ Memory.word m x j
       word x j h i v = texts-same b left-posts p w x hp l k h .texts j i v
 
       to : (x : ℕ) → 1 ≤ count x (L (place p w)) → backTo (unlisted m p) x ≡ returnsTo m p x
       to x h =
-          let n = Memory.word m x 1 / 16 in
+          let n = upper (Memory.word m x note) in
           rw (
-            word x 1 h (omega arith) (omega arith),
-            word x 2 h (omega arith) (omega arith),
+            word x note h (omega arith) (omega arith),
+            word x size h (omega arith) (omega arith),
             left-procs,
             listed b,
             named-same m (unlisted m p) n (xs ++ ys) (λ y i. left-names y (proc-page s y (stayed y i))),
@@ -190,20 +191,20 @@ module _ (xs : List ℕ) (p : ℕ) (ys : List ℕ) {m : List ℕ} {L : Lists} {W
           )
 
   module _ (runs : W .low runningPage ≢ p) where
-    pub bag : Bag (unlisted m p) p (W .label p % 16)
+    pub bag : Bag (unlisted m p) p (lower (W .label p))
     bag = unlisted-bag p hp runs b
 
     pub bag-procs : bag .procs ≡ xs ++ ys
     bag-procs = sym (listed (bag .base)) ∙ left-procs
 
     -- its mail hangs there still
-    hangs : (w : ℕ) (zs : List ℕ) → 5 ≤ w → w ≤ 6 → Chain u 0 (place p w) zs → ((z : ℕ) → count z zs ≤ count z (bag .q2 ++ bag .q1)) → zs ≡ L (place p w)
+    hangs : (w : ℕ) (zs : List ℕ) → q1 ≤ w → w ≤ q2 → Chain u link (place p w) zs → ((z : ℕ) → count z zs ≤ count z (bag .q2 ++ bag .q1)) → zs ≡ L (place p w)
     hangs w zs l k c f =
-        sym (walk-chain 20 u 0 (place p w) zs c (tot-short (bag .base) zs (λ z. omega (arith, f z, count-append z (bag .q2 ++ bag .q1) (p ∷ [])))))
+        sym (walk-chain controlPages u link (place p w) zs c (tot-short (bag .base) zs (λ z. omega (arith, f z, count-append z (bag .q2 ++ bag .q1) (p ∷ [])))))
         ∙ queue-same b left-posts p w hp l k
 
     pub bag-q1 : bag .q1 ≡ L (place p q1)
-    bag-q1 = hangs 5 (bag .q1) (omega arith) (omega arith) (bag .chain1) (λ z. omega (arith, count-append z (bag .q2) (bag .q1)))
+    bag-q1 = hangs q1 (bag .q1) (omega arith) (omega arith) (bag .chain1) (λ z. omega (arith, count-append z (bag .q2) (bag .q1)))
 
     pub bag-q2 : bag .q2 ≡ L (place p q2)
-    bag-q2 = hangs 6 (bag .q2) (omega arith) (omega arith) (bag .chain2) (λ z. omega (arith, count-append z (bag .q2) (bag .q1)))
+    bag-q2 = hangs q2 (bag .q2) (omega arith) (omega arith) (bag .chain2) (λ z. omega (arith, count-append z (bag .q2) (bag .q1)))

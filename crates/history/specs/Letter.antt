@@ -1,5 +1,6 @@
--- A message as a value, read off its page: mail or a notice, sender, flag, length and text. It depends on words 1 to 31 of the page alone. What a processor's Q2 and Q1 hold,
--- and that a step which leaves their headers and pages alone leaves them; one that leaves only the texts shows them by its lists. Assumes nothing.
+-- A message as a value, read off its page: mail or a notice, sender, flag, length and text. It depends on words 1 to 31 of the page alone. What a
+-- processor's Q2 and Q1 hold, and that a step which leaves their headers and pages alone leaves them; one that leaves only the texts shows them by its
+-- lists. Assumes nothing.
 use mathlib.Core.Path.{_≡_, refl, sym, _∙_}
 use mathlib.Core.Logic.{_≢_, _⊎_, inl, inr}
 use mathlib.Core.Bool.{Bool, true, false, _&&_}

@@ -5,7 +5,7 @@ use mathlib.Core.List.{List, [], _∷_, _++_, append-nil}
 use Prim.Native.Nat.{ℕ, _+_, _-_, _*_, _≤_, _<_}
 use native.Mathlib.Omega.{arith}
 use lib.ListN.{length, getD, set}
-use Rattle.model.specs.Map.{label, listLink, place, processorList}
+use Rattle.model.specs.Map.{controlPages, label, lastName, lastPriority, link, listLink, place, processorList, q1, q2}
 use Rattle.model.specs.Bytes.{running, store, word}
 use Rattle.model.specs.Operate as Operate
 use Rattle.model.specs.Answer.{memoryOf}
@@ -18,7 +18,7 @@ use Rattle.laws.specs.Queues.{link-procs}
 use Rattle.laws.specs.Heads.{one-le, short}
 use Rattle.laws.specs.Uses.{Sep, proc-page, list-short}
 use Rattle.laws.specs.Places.{in-procs, grant-low}
-use Rattle.laws.specs.Inv.{View, view, Base}
+use Rattle.laws.specs.Inv.{Base, View, noOne, view}
 use Rattle.laws.specs.Judged.{WellFormed}
 use Rattle.laws.specs.Frames.{other}
 use Rattle.laws.specs.Hands.{in-hand, hand-base}
@@ -52,23 +52,24 @@ module _ {m : List ℕ} {ps : List ℕ} {L : Lists} {W : View} {hs : List ℕ} {
 
   open Aside aside using (page as pg, out)
 
-  chain-x : Chain x 1 processorList ps
+  chain-x : Chain x listLink processorList ps
   chain-x = rw (link-procs, sx .procs) at (bx .1 .mem .holds .rep processorList (in-procs ps, grant-low processorList (omega arith)))
 
-  short-x : length ps ≤ 20
+  short-x : length ps ≤ controlPages
   short-x = rw (sx .procs) at (list-short sx processorList (in-procs ps))
 
   abbrev m2 : List ℕ
   m2 = created m q n r v a
 
-  created-is : created m q n r v a ≡ set (store x q listLink 0) (last 1 processorList ps) q
+  created-is : created m q n r v a ≡ set (store x q listLink 0) (last listLink processorList ps) q
   unfolding Operate.created
   created-is = rw (headed-is b n r v a) (join-is x 1 processorList q ps chain-x short-x (omega (arith, pg)) (off-page q 1 1 ps (omega arith) (omega arith) out))
 
   -- a word that is neither 247, nor word 1 of q or of a processor
-  created-word : (c : ℕ) → c ≢ processorList → c ≢ place q listLink → ((z : ℕ) → 1 ≤ count z ps → c ≢ place z 1) → getD m2 c 0 ≡ getD x c 0
+  created-word : (c : ℕ) → c ≢ processorList → c ≢ place q listLink → ((z : ℕ) → 1 ≤ count z ps → c ≢ place z listLink) → getD m2 c 0 ≡ getD x c 0
   created-word c n7 n1 nz =
-      rw created-is (other (store x q listLink 0) (last 1 processorList ps) q c (last-not 1 processorList ps c n7 nz) ∙ other x (place q listLink) 0 c n1)
+      rw created-is (other (store x q listLink 0) (last listLink processorList ps) q c (last-not listLink processorList ps c n7 nz)
+      ∙ other x (place q listLink) 0 c n1)
 
   created-label : (p : ℕ) → 1 ≤ count p ps → word m2 p label ≡ word m p label
   created-label p h =
@@ -80,25 +81,26 @@ module _ {m : List ℕ} {ps : List ℕ} {L : Lists} {W : View} {hs : List ℕ} {
       posts-on (posts (calm-only sx m x q aside (only b n r v a))) (record {
         at = λ c h.
             let t = mine-high sx h in
-            created-word c (omega arith) (mine-hand sx h q 1 aside (omega arith))
-            (λ z i. mine-proc sx h z 1 i (omega arith) (omega arith) (omega arith));
+            created-word c (omega arith) (mine-hand sx h q listLink aside (omega arith))
+            (λ z i. mine-proc sx h z listLink i (omega arith) (omega arith) (omega arith));
       })
 
   created-procs : processors m2 ≡ ps ++ q ∷ []
   created-procs =
-      rw created-is (walk-chain 20 (set (store x q listLink 0) (last 1 processorList ps) q) 1 processorList (ps ++ q ∷ [])
+      rw created-is (walk-chain controlPages (set (store x q listLink 0) (last listLink processorList ps) q) listLink processorList (ps ++ q ∷ [])
       (chain-join x 1 processorList q ps (bx .1 .mem .size) (omega arith) (omega arith) pg (omega (arith, pg)) (λ z i. let t = proc-page sx z i in omega arith)
       (λ z. omega (arith, b .all z, one-le z, ap (count z) (sx .procs))) chain-x)
       (short (ps ++ q ∷ []) (λ z. omega (arith, b .all z, count-append z ps (q ∷ []), ap (count z) (sx .procs)))))
 
-  empty-queue : (k : ℕ) → 5 ≤ k → k ≤ 6 → queue m2 (place q k) ≡ []
+  empty-queue : (k : ℕ) → q1 ≤ k → k ≤ q2 → queue m2 (place q k) ≡ []
   empty-queue k l u =
-      walk-chain 20 m2 0 (place q k) [] (created-word (place q k) (omega (arith, pg)) (omega arith) (λ z i. omega arith) ∙ below b n r v a k (omega arith))
+      walk-chain controlPages m2 link (place q k) [] (created-word (place q k) (omega (arith, pg)) (omega arith) (λ z i. omega arith)
+      ∙ below b n r v a k (omega arith))
       (omega arith)
 
   created-empty : waitingFor m2 q ≡ []
   unfolding waitingFor
-  created-empty = rw (empty-queue 5 (omega arith) (omega arith), empty-queue 6 (omega arith) (omega arith))
+  created-empty = rw (empty-queue q1 (omega arith) (omega arith), empty-queue q2 (omega arith) (omega arith))
 
 module _ {m : List ℕ} (w : WellFormed m) (d : running m ≢ 0) where
   open Busy (busy w d) using (base as b, runs as hr)
@@ -109,10 +111,10 @@ module _ {m : List ℕ} (w : WellFormed m) (d : running m ≢ 0) where
   bad : Faults m Ends
   bad = record { all = λ f i j. fault-sent w d f .told }
 
-  crp-page : (n r v a len : ℕ) → 1 ≤ n → n ≤ 15 → 1 ≤ r → r ≤ 15 → pageOf m n ≡ 0 → Told m (memoryOf (Model.crpPage m n r v a len)) nothing
+  crp-page : (n r v a len : ℕ) → 1 ≤ n → n ≤ lastName → 1 ≤ r → r ≤ lastPriority → pageOf m n ≡ 0 → Told m (memoryOf (Model.crpPage m n r v a len)) nothing
   crp-page n r v a len n1 n2 r1 r2 free = go (take-page (running m) hr b)
     where
-      go : Takes m (running m) (lists m processorList) (lists m) (view m) [] 32 → Told m (memoryOf (Model.crpPage m n r v a len)) nothing
+      go : Takes m (running m) (lists m processorList) (lists m) (view m) [] noOne → Told m (memoryOf (Model.crpPage m n r v a len)) nothing
       go (lacks e f2 g2) =
           crp-page-each m Ends e n r v a len (λ y. told-same b (memoryOf (waitsForPage m)) (page-waits w d f2 g2)) (λ y. absurd (y refl))
       go (gets q m1 e z t k) =
@@ -122,9 +124,9 @@ module _ {m : List ℕ} (w : WellFormed m) (d : running m ≢ 0) where
           let m2 = created m1 q n r v a in
           let m3 = memoryOf (Model.done m2 len) in
           let d2 : Same (c .procs) (c .lists) m2 (memoryOf (Model.done m2 len)) = calm-done (c .base .facts .sep) m2 (runs-in (c .base)) len in
-          let pr : processors (memoryOf (Model.done m2 len)) ≡ lists m 247 ++ q ∷ [] =
+          let pr : processors (memoryOf (Model.done m2 len)) ≡ lists m processorList ++ q ∷ [] =
           procs-same (c .base) d2 ∙ sym (listed (c .base)) ∙ created-procs (t .base) n r v a in
-          let pc : c .procs ≡ lists m 247 ++ q ∷ [] = sym (listed (c .base)) ∙ created-procs (t .base) n r v a in
+          let pc : c .procs ≡ lists m processorList ++ q ∷ [] = sym (listed (c .base)) ∙ created-procs (t .base) n r v a in
           let lm : processors m ≡ lists m processorList = listed b in
           let ps1 : Posts (lists m processorList) (lists m) m m2 = posts-then ag (posts s1) (created-posts (t .base) n r v a) in
           let keep : (p : ℕ) → 1 ≤ count p (lists m processorList) → waitingFor (memoryOf (Model.done m2 len)) p ≡ waitingFor m p = λ p h.

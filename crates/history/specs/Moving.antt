@@ -6,7 +6,7 @@ use mathlib.Core.Bool.{true}
 use mathlib.Core.List.{List, [], _∷_, _++_, append-assoc, map}
 use Prim.Native.Nat.{ℕ, _+_, _-_, _*_, _≤_}
 use native.Mathlib.Omega.{arith}
-use Rattle.model.specs.Map.{place, q1, q2}
+use Rattle.model.specs.Map.{link, place, q1, q2}
 use Rattle.model.specs.Mail as Mail
 use Rattle.model.specs.Bytes.{leave, move}
 use Rattle.model.specs.Lists.{count, Lists}
@@ -25,7 +25,7 @@ use Rattle.history.specs.Letter.{Letter, mailOf, key, asked, one-key, ma
 
 -- a message that leaves Q1 or Q2 leaves all texts
 pub leave-texts : {m : List ℕ} {ps : List ℕ} {L : Lists} {W : View} {hs : List ℕ} {g : ℕ} → Base m ps L W hs g → (p w q : ℕ) (xs ys : List ℕ) → 1 ≤ count p ps
-    → 5 ≤ w → w ≤ 6 → L (place p w) ≡ xs ++ q ∷ ys → Texted ps m (leave m (place p w) 0 q)
+    → q1 ≤ w → w ≤ q2 → L (place p w) ≡ xs ++ q ∷ ys → Texted ps m (leave m (place p w) link q)
 leave-texts {ps = ps} b p w q xs ys h u v e = record {
   at = λ x px o j k l.
       let s = b .facts .sep in
@@ -47,10 +47,10 @@ module _ {m : List ℕ} {ps : List ℕ} {L : Lists} {W : View} {hs : List ℕ} {
   J = upd L (place p q1) (xs ++ ys)
 
   abbrev m1 : List ℕ
-  m1 = leave m (place p q1) 0 q
+  m1 = leave m (place p q1) link q
 
   b1 : Base m1 ps J W (q ∷ hs) g
-  b1 = take-mail b p 5 q xs ys h (omega arith) (omega arith) e
+  b1 = take-mail b p q1 q xs ys h (omega arith) (omega arith) e
 
   in5 : 1 ≤ count q (L (place p q1))
   in5 = rw e (count-mid q xs ys)
@@ -60,7 +60,7 @@ module _ {m : List ℕ} {ps : List ℕ} {L : Lists} {W : View} {hs : List ℕ} {
 
   pub move-lists : Base (move m p q) ps moved W hs g
   unfolding Mail.move moved
-  move-lists = give-mail b1 p 6 h (omega arith) (omega arith) (b .facts .mail p 5 h (omega arith) (omega arith) q in5) (λ x j k. absurd (omega arith))
+  move-lists = give-mail b1 p q2 h (omega arith) (omega arith) (b .facts .mail p q1 h (omega arith) (omega arith) q in5) (λ x j k. absurd (omega arith))
 
   pub moved-q1 : moved (place p q1) ≡ xs ++ ys
   unfolding moved
@@ -79,10 +79,10 @@ module _ {m : List ℕ} {ps : List ℕ} {L : Lists} {W : View} {hs : List ℕ} {
   unfolding Mail.move
   move-texts = record {
     at = λ x px o j k l.
-        let i6 = in-q ps p 6 (omega arith) (omega arith) h in
+        let i6 = in-q ps p q2 (omega arith) (omega arith) h in
         join-frame (b1 .facts .sep) (b1 .mem) (place p q2) (i6, grant-high (place p q2) (omega (arith, pg))) (omega (arith, pg)) q
         (hand-page b1 q (in-hand b1)) (hand-new b1) (place x j) (λ z. head-off s x j (place p q2) px l o i6 (sym z)) (λ z i. omega arith) (omega arith)
-        ∙ leave-texts b p 5 q xs ys h (omega arith) (omega arith) e .at x px o j k l;
+        ∙ leave-texts b p q1 q xs ys h (omega arith) (omega arith) e .at x px o j k l;
   }
 
   -- what waits for p, and for any other

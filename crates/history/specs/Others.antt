@@ -8,7 +8,7 @@ use native.Mathlib.Omega.{arith}
 use lib.ListN.{length, getD}
 use lib.Dec.{eqb}
 use borrow.Author.Tests.{eqb-false, eq-eqb}
-use Rattle.model.specs.Map.{memorySize, processorList}
+use Rattle.model.specs.Map.{memorySize, pageSize, processorList}
 use Rattle.model.specs.Bytes.{running}
 use Rattle.model.specs.declared.Registers.{Registers}
 use Rattle.model.specs.Address.{guarded}
@@ -20,7 +20,7 @@ use Rattle.model.specs.Call.{isOuter, isClass}
 use Rattle.model.specs.Processor.{inRange}
 use Rattle.model.specs.Bytes.{lists, fresh, interrupt, readRegisters, setRegisters, judge, whoRuns, delivered, setRegistersOf}
 use Rattle.laws.specs.Uses.{Sep, proc-page}
-use Rattle.laws.specs.Inv.{view, Base}
+use Rattle.laws.specs.Inv.{Base, noOne, view}
 use Rattle.laws.specs.Judged.{invariant}
 use Rattle.laws.specs.Calls.{Sound, well, Host, outer-of, guarded-low, guarded-high, unrefused, read-same, judge-same}
 use Rattle.history.specs.Letter.{Ours, Same}
@@ -32,7 +32,7 @@ use Rattle.history.specs.Clocks.{calm-interrupt}
 use Rattle.history.specs.Quiet.{registers-calm}
 
 module _ {m : List ℕ} (h : Sound m) where
-  b : Base m (lists m processorList) (lists m) (view m) [] 32
+  b : Base m (lists m processorList) (lists m) (view m) [] noOne
   b = invariant (well h) .base
 
   size-is : eqb (length m) memorySize ≡ true
@@ -82,7 +82,7 @@ module _ {m : List ℕ} (h : Sound m) where
       s : Sep (lists m processorList) (lists m)
       s = b .facts .sep
 
-      high : (c : ℕ) → Ours (lists m processorList) (lists m) c → 32 ≤ c
+      high : (c : ℕ) → Ours (lists m processorList) (lists m) c → pageSize ≤ c
       high c (mail o) = let t = mine-high s o in omega arith
       high c (first e) = omega arith
       high c (next z o e) = let t = proc-page s z o in omega arith

@@ -7,11 +7,13 @@ use mathlib.Core.List.{List, [], _∷_}
 use Prim.Native.Nat.{ℕ, _+_, _-_, _*_, _/_, _%_, _≤_, _<_}
 use native.Mathlib.Omega.{arith}
 use lib.ListN.{getD, set}
-use Rattle.model.specs.Map.{codeLow, codeWord, guardedLast, highLr, label, lowLr, memorySize, place, processorList, runningPage, semaphoreOf, state}
+use Rattle.model.specs.Map.{aWord, allCodes, codeLow, codeWord, flagsKept, guardedLast, high, highLr, label, low, lowLr, memorySize, place}
+use Rattle.model.specs.Map.{processorList, returnHigh, returnLow, runningPage, semaphoreOf, state, stopCleared, topped, wordA, wordS}
 use Rattle.model.specs.Bytes.{name, running, store, word}
 use Rattle.model.specs.declared.Registers.{Registers}
 use Rattle.model.specs.Address.{guarded}
 use Rattle.model.specs.Instruction as Instruction
+use Rattle.model.specs.Instruction.{own, st1Code, stpCode}
 use Rattle.model.specs.Processor as Processor
 use Rattle.model.specs.Operate as Operate
 use Rattle.model.specs.Answer.{memoryOf}
@@ -68,23 +70,23 @@ module _ {m : List ℕ} (w : WellFormed m) (d : running m ≢ 0) where
   pub then-jumps : (x : List ℕ) (a : ℕ) → Calm x → running x ≡ running m → Calm (memoryOf (Model.jumps x a))
   then-jumps x a f e = same-on f (calm-jumps s x (rw e (runs-in b)) a)
 
-  calm-code : (c k a : ℕ) → c < 16 → Calm (setCode m c k a)
+  calm-code : (c k a : ℕ) → c < allCodes → Calm (setCode m c k a)
   unfolding Instruction.setCode
   calm-code c k a l =
-      let v = k * 32 + a / 256 % 32 in
+      let v = topped k (high a) in
       let c1 : Calm (set m (codeWord c) v) = calm-low s m (codeWord c) v (omega arith) (omega arith) in
-      same-on c1 (calm-low s (set m (codeWord c) v) (codeLow c) (a % 256) (omega arith) (omega arith))
+      same-on c1 (calm-low s (set m (codeWord c) v) (codeLow c) (low a) (omega arith) (omega arith))
 
   code-run : (c k a : ℕ) → running (setCode m c k a) ≡ running m
   unfolding Instruction.setCode
   code-run c k a =
-      let v = k * 32 + a / 256 % 32 in
-      other (set m (codeWord c) v) (codeLow c) (a % 256) runningPage (omega arith) ∙ other m (codeWord c) v runningPage (omega arith)
+      let v = topped k (high a) in
+      other (set m (codeWord c) v) (codeLow c) (low a) runningPage (omega arith) ∙ other m (codeWord c) v runningPage (omega arith)
 
-  pub cvi-calm : (c a n : ℕ) → c < 16 → Calm (memoryOf (Model.cvi m c a n))
-  cvi-calm c a n l = cvi-each bad c a n (λ z. then-done (setCode m c 2 a) n (calm-code c 2 a l) (code-run c 2 a))
+  pub cvi-calm : (c a n : ℕ) → c < allCodes → Calm (memoryOf (Model.cvi m c a n))
+  cvi-calm c a n l = cvi-each bad c a n (λ z. then-done (setCode m c own a) n (calm-code c own a l) (code-run c own a))
 
-  pub dvi-calm : (c n : ℕ) → c < 16 → Calm (memoryOf (Model.dvi m c n))
+  pub dvi-calm : (c n : ℕ) → c < allCodes → Calm (memoryOf (Model.dvi m c n))
   dvi-calm c n l = dvi-each bad c n (λ z. then-done (setCode m c 0 0) n (calm-code c 0 0 l) (code-run c 0 0))
 
   pub gin-calm : (len : ℕ) → Calm (memoryOf (Model.gin m len))
@@ -95,7 +97,7 @@ module _ {m : List ℕ} (w : WellFormed m) (d : running m ≢ 0) where
       let t = serve-base k 0 (n .name) (omega arith) b in
       then-done (serve m k 0) len (calm-serve k 0 (n .name) (omega arith) b) (running-at (t .base) ∙ ap (λ (z : ℕ → ℕ). z runningPage) (t .low))
 
-  pub win-calm : (k c len : ℕ) → c ≤ 255 → Calm (memoryOf (Model.win m k c len))
+  pub win-calm : (k c len : ℕ) → c ≤ aWord → Calm (memoryOf (Model.win m k c len))
   unfolding Processor.advance
   win-calm k c len u = win-each bad k c len (λ g.
       same-on (calm-lr s m r ((Model.lr m + len) % memorySize) (runs-in b))
@@ -105,11 +107,11 @@ module _ {m : List ℕ} (w : WellFormed m) (d : running m ≢ 0) where
   state-calm : (p v len : ℕ) → 1 ≤ count p (lists m processorList) → Calm (memoryOf (Model.done (store m p state v) len))
   state-calm p v len h =
       let g = proc-page s p h in
-      then-done (store m p state v) len (calm-proc s m p 12 v h (omega arith) (omega arith) (omega arith) (omega arith) (omega arith))
+      then-done (store m p state v) len (calm-proc s m p state v h (omega arith) (omega arith) (omega arith) (omega arith) (omega arith))
       (other m (place p state) v runningPage (omega arith))
 
   -- ST1 and STP; DEP is not among them
-  pub named-calm : (c n len : ℕ) → (c ≡ 8) ⊎ (c ≡ 9) → Calm (memoryOf (Model.named m c n len))
+  pub named-calm : (c n len : ℕ) → (c ≡ st1Code) ⊎ (c ≡ stpCode) → Calm (memoryOf (Model.named m c n len))
   unfolding Processor.start Processor.stop
   named-calm c n len (inl e) = rw e (st1-each bad n len (λ z. state-calm (pageOf m n) _ len (named-in b n z)))
   named-calm c n len (inr e) = rw e (stp-each bad n len (λ z. state-calm (pageOf m n) _ len (named-in b n z)))
@@ -118,15 +120,15 @@ module _ {m : List ℕ} (w : WellFormed m) (d : running m ≢ 0) where
   unfolding Processor.start Processor.setLr
   started-calm p a len h =
       let g = proc-page s p h in
-      let v = word m p highLr / 32 * 32 + a / 256 % 32 in
+      let v = flagsKept (word m p highLr) (high a) in
       let m1 = store m p highLr v in
-      let m2 = store m1 p lowLr (a % 256) in
-      let t = word m2 p state % 128 in
-      let c1 : Calm m1 = calm-proc s m p 10 v h (omega arith) (omega arith) (omega arith) (omega arith) (omega arith) in
-      let c2 : Calm m2 = same-on c1 (calm-proc s m1 p 11 (a % 256) h (omega arith) (omega arith) (omega arith) (omega arith) (omega arith)) in
-      let c3 : Calm (store m2 p state t) = same-on c2 (calm-proc s m2 p 12 t h (omega arith) (omega arith) (omega arith) (omega arith) (omega arith)) in
+      let m2 = store m1 p lowLr (low a) in
+      let t = stopCleared (word m2 p state) in
+      let c1 : Calm m1 = calm-proc s m p highLr v h (omega arith) (omega arith) (omega arith) (omega arith) (omega arith) in
+      let c2 : Calm m2 = same-on c1 (calm-proc s m1 p lowLr (low a) h (omega arith) (omega arith) (omega arith) (omega arith) (omega arith)) in
+      let c3 : Calm (store m2 p state t) = same-on c2 (calm-proc s m2 p state t h (omega arith) (omega arith) (omega arith) (omega arith) (omega arith)) in
       let e : running (store m2 p state t) ≡ running m = other m2 (place p state) t runningPage (omega arith)
-      ∙ other m1 (place p lowLr) (a % 256) runningPage (omega arith) ∙ other m (place p highLr) v runningPage (omega arith) in
+      ∙ other m1 (place p lowLr) (low a) runningPage (omega arith) ∙ other m (place p highLr) v runningPage (omega arith) in
       then-done (store m2 p state t) len c3 e
 
   pub st2-calm : (n a len : ℕ) → Calm (memoryOf (Model.st2 m n a len))
@@ -136,7 +138,7 @@ module _ {m : List ℕ} (w : WellFormed m) (d : running m ≢ 0) where
   abbrev Both : List ℕ → Type 0
   Both x = Calm x × (running x ≡ running m)
 
-  reg : (k v : ℕ) (x : List ℕ) → 8 ≤ k → k < 13 → Both x → Both (store x r k v)
+  reg : (k v : ℕ) (x : List ℕ) → wordA ≤ k → k ≤ state → Both x → Both (store x r k v)
   reg k v x l u h = (same-on (h .0) (calm-run s x r k v (runs-in b) l (omega arith)), other x (place r k) v runningPage (omega arith) ∙ h .1)
 
   free : (a v : ℕ) (x : List ℕ) → guarded a ≡ false → a ≢ runningPage → Both x → Both (set x a v)
@@ -151,21 +153,21 @@ module _ {m : List ℕ} (w : WellFormed m) (d : running m ≢ 0) where
       let n = not-running a h in
       let k : Both m = (calm-refl m, refl) in
       pick Both (Model.adds m a ∷ Model.storesA m a ∷ Model.ands m a ∷ Model.increments m a ∷ []) m o o 0 (omega arith) (
-        (λ e. reg 10 _ _ (omega arith) (omega arith) (reg 8 _ m (omega arith) (omega arith) k)),
+        (λ e. reg highLr _ _ (omega arith) (omega arith) (reg wordA _ m (omega arith) (omega arith) k)),
         (
-          (λ e. reg 8 0 _ (omega arith) (omega arith) (free a _ m h n k)),
-          ((λ e. reg 8 _ m (omega arith) (omega arith) k), ((λ e. free a _ m h n k), tt)),
+          (λ e. reg wordA 0 _ (omega arith) (omega arith) (free a _ m h n k)),
+          ((λ e. reg wordA _ m (omega arith) (omega arith) k), ((λ e. free a _ m h n k), tt)),
         ),
       ) k
 
   returns-both : (n : ℕ) → Both (Model.returnTo m n)
   unfolding Operate.returnTo
   returns-both n =
-      let m1 = set m 5 (n / 256 % 32) in
-      let c1 : Calm m1 = calm-low s m 5 (n / 256 % 32) (omega arith) (omega arith) in (
-        same-on c1 (calm-low s m1 6 (n % 256) (omega arith) (omega arith)),
-        other m1 6 (n % 256) runningPage (omega arith)
-            ∙ other m 5 (n / 256 % 32) runningPage (omega arith),
+      let m1 = set m returnHigh (high n) in
+      let c1 : Calm m1 = calm-low s m returnHigh (high n) (omega arith) (omega arith) in (
+        same-on c1 (calm-low s m1 returnLow (low n) (omega arith) (omega arith)),
+        other m1 returnLow (low n) runningPage (omega arith)
+            ∙ other m returnHigh (high n) runningPage (omega arith),
       )
 
   pub thirteen-calm : (x o a len : ℕ) → Calm (memoryOf (Model.thirteen m x o a len))
@@ -178,5 +180,5 @@ module _ {m : List ℕ} (w : WellFormed m) (d : running m ≢ 0) where
   unfolding Processor.setRegistersOf Processor.setFlagsLr
   registers-calm x =
       let k : Both m = (calm-refl m, refl) in
-      reg 12 _ _ (omega arith) (omega arith) (reg 11 _ _ (omega arith) (omega arith) (reg 10 _ _ (omega arith) (omega arith)
-      (reg 9 _ _ (omega arith) (omega arith) (reg 8 _ m (omega arith) (omega arith) k)))) .0
+      reg state _ _ (omega arith) (omega arith) (reg lowLr _ _ (omega arith) (omega arith) (reg highLr _ _ (omega arith) (omega arith)
+      (reg wordS _ _ (omega arith) (omega arith) (reg wordA _ m (omega arith) (omega arith) k)))) .0

@@ -95,11 +95,13 @@ same-is x y e =
     let b = and-true (eqb (x .sender) (y .sender)) (eqb (x .flag) (y .flag)) (a .0) in
     let k = and-true (alike (x .notice) (y .notice)) rest (a .1) in
     let c = and-true (eqb (x .size) (y .size)) (sameText (x .text) (y .text)) (k .1) in
-    letter-is x y (alike-is (x .notice) (y .notice) (k .0)) (eqb-true _ _ (b .0)) (eqb-true _ _ (b .1)) (eqb-true _ _ (c .0)) (text-is (x .text) (y .text) (c .1))
+    letter-is x y (alike-is (x .notice) (y .notice) (k .0)) (eqb-true _ _ (b .0)) (eqb-true _ _ (b .1)) (eqb-true _ _ (c .0))
+    (text-is (x .text) (y .text) (c .1))
 
 pub is-same : (x y : Letter) → x ≡ y → same x y ≡ true
 unfolding same key
-is-same x y e = rw (← e, eq-eqb (x .sender) (x .sender) refl, eq-eqb (x .flag) (x .flag) refl, is-alike (x .notice), eq-eqb (x .size) (x .size) refl) (is-text (x .text))
+is-same x y e =
+    rw (← e, eq-eqb (x .sender) (x .sender) refl, eq-eqb (x .flag) (x .flag) refl, is-alike (x .notice), eq-eqb (x .size) (x .size) refl) (is-text (x .text))
 
 -- ---- what passes a test t that implies k: among what passes k
 within : {A : Type 0} (t k : A → Bool) → ((y : A) → t y ≡ true → k y ≡ true) → (l : List A) → only t (only k l) ≡ only t l
@@ -176,7 +178,8 @@ module _ (P : Mailed → Type 0) (none : P nothing) (m : List ℕ) where
 
   -- the call: of the code that is run, direct or by EXI
   mailed-parts : ((x : Arguments) → codeRun m ≡ smeCode → P (smeMail m (x .field) (x .second) (x .address)))
-      → ((x : Arguments) → codeRun m ≡ rmeCode → P (rmeMail m (x .field) (x .second) (x .address))) → ((x : Arguments) → codeRun m ≡ depCode → P (depMail m (x .field)))
+      → ((x : Arguments) → codeRun m ≡ rmeCode → P (rmeMail m (x .field) (x .second) (x .address)))
+      → ((x : Arguments) → codeRun m ≡ depCode → P (depMail m (x .field)))
       → P (mailed m)
   unfolding mailed fetchedMail exiMail arguedMail
   mailed-parts sme rme dep =

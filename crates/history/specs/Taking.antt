@@ -9,7 +9,7 @@ use native.Mathlib.Omega.{arith}
 use lib.ListN.{length, getD}
 use lib.Dec.{eqb}
 use borrow.Author.Tests.{ne-eqb}
-use Rattle.model.specs.Map.{freeList, freeSemaphore, grantFor, label, place, processorList}
+use Rattle.model.specs.Map.{freeList, freeSemaphore, grantFor, label, link, lowered, place, processorList}
 use Rattle.model.specs.Bytes.{name, running, word}
 use Rattle.model.specs.Page as Page
 use Rattle.model.specs.Page.{Taken}
@@ -50,7 +50,7 @@ module _ {m : List ℕ} {ps : List ℕ} {L : Lists} {W : View} {hs : List ℕ} {
   calm-taken =
       go (eqb (getD m (grantFor n) 0) 0) refl (L freeList) refl (chain0 s (b .mem) freeList (in-free ps, grant-low freeList (omega arith)) (omega arith))
     where
-      go : (c : Bool) → eqb (getD m (grantFor n) 0) 0 ≡ c → (xs : List ℕ) → L freeList ≡ xs → Chain m 0 freeList (L freeList)
+      go : (c : Bool) → eqb (getD m (grantFor n) 0) 0 ≡ c → (xs : List ℕ) → L freeList ≡ xs → Chain m link freeList (L freeList)
           → Same ps L m (left (takePage m p))
       go false e xs f c = rw e (calm-low s m (grantFor n) 0 (omega arith) (omega arith))
       go true e [] f c = let z : getD m freeList 0 ≡ 0 = rw f at c in rw (e, z) (calm-refl m)
@@ -62,7 +62,7 @@ module _ {m : List ℕ} {ps : List ℕ} {L : Lists} {W : View} {hs : List ℕ} {
   free-word : (q : ℕ) (fs : List ℕ) → L freeList ≡ q ∷ fs → (c : ℕ) → Open c → getD (takeFree m q) c 0 ≡ getD m c 0
   unfolding Page.takeFree
   free-word q fs e c o =
-      let v = (getD m freeSemaphore 0 + 255) % 256 in
+      let v = lowered (getD m freeSemaphore 0) in
       let u = o .below in
       leave-frame s (sem-mem s (b .mem) freeSemaphore v (page-sem ps)) freeList (in-free ps, grant-low freeList (omega arith)) (omega arith) q [] fs e c
       (o .between freeList (omega arith) (omega arith)) (λ y j. let t = all-pages s freeList y (in-free ps) j in omega arith)
@@ -73,7 +73,7 @@ module _ {m : List ℕ} {ps : List ℕ} {L : Lists} {W : View} {hs : List ℕ} {
   taken-word c o =
       go (eqb (getD m (grantFor n) 0) 0) refl (L freeList) refl (chain0 s (b .mem) freeList (in-free ps, grant-low freeList (omega arith)) (omega arith))
     where
-      go : (x : Bool) → eqb (getD m (grantFor n) 0) 0 ≡ x → (xs : List ℕ) → L freeList ≡ xs → Chain m 0 freeList (L freeList)
+      go : (x : Bool) → eqb (getD m (grantFor n) 0) 0 ≡ x → (xs : List ℕ) → L freeList ≡ xs → Chain m link freeList (L freeList)
           → getD (left (takePage m p)) c 0 ≡ getD m c 0
       go false e xs f k = rw e (other m (grantFor n) 0 c (o .between (grantFor n) (omega arith) (omega arith)))
       go true e [] f k = let z : getD m freeList 0 ≡ 0 = rw f at k in rw (e, z)
@@ -94,7 +94,7 @@ module _ {m : List ℕ} (w : WellFormed m) (d : running m ≢ 0) where
   open Busy (busy w d) using (base as b, ready)
 
   -- "with none, they wait in the page queue, LR staying"
-  pub page-waits : lists m freeList ≡ [] → length (lists m (320 + name m (running m))) ≡ 0
+  pub page-waits : lists m freeList ≡ [] → length (lists m (grantFor (name m (running m)))) ≡ 0
       → Same (lists m processorList) (lists m) m (memoryOf (waitsForPage m))
   unfolding Operate.waitsForPage
   page-waits f g = calm-waits b freeSemaphore 0 d (page-sem (lists m processorList)) (omega (arith, ready)) (page-fit (b .facts .sep) f g)

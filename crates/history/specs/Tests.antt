@@ -6,7 +6,7 @@ use mathlib.Core.List.{List, [], _∷_, _++_, append-nil, map}
 use Prim.Native.Nat.{ℕ, _+_, _-_, _*_, _≤_, _<_}
 use native.Mathlib.Omega.{arith}
 use lib.ListN.{getD}
-use Rattle.model.specs.Map.{ownSemaphore, place, processorList, q1}
+use Rattle.model.specs.Map.{controlPages, ownSemaphore, pair, place, processorList, q1}
 use Rattle.model.specs.Bytes.{running, word}
 use Rattle.model.specs.Queue as Queue
 use Rattle.model.specs.Queue.{first}
@@ -16,7 +16,7 @@ use Rattle.model.specs.Bytes as Model
 use Rattle.model.specs.Bytes.{lists, queue, move, matches, testQ1}
 use Rattle.model.specs.Lists.{count, Lists}
 use Rattle.laws.specs.Count.{hit-or}
-use Rattle.laws.specs.Inv.{View, Base}
+use Rattle.laws.specs.Inv.{Base, View, noOne}
 use Rattle.laws.specs.Judged.{WellFormed}
 use Rattle.laws.specs.Changes.{own-sem}
 use Rattle.laws.specs.Who.{label-at, listed, Busy, busy}
@@ -63,7 +63,7 @@ found m n f (z ∷ zs) d = go (matches m n f z) refl (found m n f zs)
         })
 
 -- ---- messages that only changed places, then a step that leaves them
-pub told-order : {m m1 : List ℕ} {ps : List ℕ} {L K : Lists} {W : View} → Base m ps L W [] 32 → Base m1 ps K W [] 32 → (m2 : List ℕ) → Same ps K m1 m2
+pub told-order : {m m1 : List ℕ} {ps : List ℕ} {L K : Lists} {W : View} → Base m ps L W [] noOne → Base m1 ps K W [] noOne → (m2 : List ℕ) → Same ps K m1 m2
     → ((p : ℕ) → 1 ≤ count p ps → (k l : ℕ) → only (key k l) (waitingFor m1 p) ≡ only (key k l) (waitingFor m p)) → Told m m2 nothing
 told-order {m} b b1 m2 s f =
     let e = procs-same b1 s ∙ sym (listed b) in
@@ -77,9 +77,10 @@ told-order {m} b b1 m2 s f =
 
 -- ---- TME: every tested message goes to the end of Q2, the first of Q1 first: what waits stays, word for word
 abbrev Waiting : List ℕ → List ℕ → View → List ℕ → Type 0
-Waiting m ps W x = (K : Lists) × Base x ps K W [] 32 × ((y : ℕ) → 1 ≤ count y ps → waitingFor x y ≡ waitingFor m y)
+Waiting m ps W x = (K : Lists) × Base x ps K W [] noOne × ((y : ℕ) → 1 ≤ count y ps → waitingFor x y ≡ waitingFor m y)
 
-test-keeps : {m : List ℕ} {ps : List ℕ} {L : Lists} {W : View} (p n f : ℕ) → 1 ≤ count p ps → Base m ps L W [] 32 → Tried (Waiting m ps W) (testQ1 20 m p n f)
+test-keeps : {m : List ℕ} {ps : List ℕ} {L : Lists} {W : View} (p n f : ℕ) → 1 ≤ count p ps → Base m ps L W [] noOne
+    → Tried (Waiting m ps W) (testQ1 controlPages m p n f)
 test-keeps {m} {ps} {L} {W} p n f h b = test-kept (Waiting m ps W) p (λ x t d.
     let q = word x p q1 in
     let r = first-mail (t .1) p h d in
@@ -96,8 +97,8 @@ module _ {m : List ℕ} (w : WellFormed m) (d : running m ≢ 0) where
   unfolding Mail.matches
   wnm-told n f len hf =
       wnm-each m (λ o. Told m (memoryOf o) nothing) n f len
-      (λ z. told-same b (memoryOf (Model.waits m (place r ownSemaphore) (n * 16 + f)))
-      (calm-waits b (place r ownSemaphore) (n * 16 + f) d (own-sem (b .facts .sep) r hr) (omega (arith, ready)) (wnm-fit w d n f hf z)))
+      (λ z. told-same b (memoryOf (Model.waits m (place r ownSemaphore) (pair n f)))
+      (calm-waits b (place r ownSemaphore) (pair n f) d (own-sem (b .facts .sep) r hr) (omega (arith, ready)) (wnm-fit w d n f hf z)))
       (λ z.
       let q = Model.inQ1 m n f in
       let t : Found m n f q (queue m (place r q1)) = found m n f (queue m (place r q1)) z in
@@ -107,7 +108,7 @@ module _ {m : List ℕ} (w : WellFormed m) (d : running m ≢ 0) where
       told-order b b1 (memoryOf (Model.done m1 len)) (calm-done (b1 .facts .sep) m1 (runs-in b1) len) (λ p h k l. cases t i p h k l (hit-or p r)))
     where
       q5 : queue m (place r q1) ≡ lists m (place r q1)
-      q5 = mail-queue b r 5 hr (omega arith) (omega arith)
+      q5 = mail-queue b r q1 hr (omega arith) (omega arith)
 
       cases : (t : Found m n f (Model.inQ1 m n f) (queue m (place r q1))) → lists m (place r q1) ≡ t .before ++ Model.inQ1 m n f ∷ t .behind → (p : ℕ)
           → 1 ≤ count p (lists m processorList) → (k l : ℕ) → (p ≡ r) ⊎ (p ≢ r)

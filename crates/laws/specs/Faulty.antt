@@ -15,14 +15,14 @@ use Rattle.model.specs.Map.{memorySize, place, pair, state, stopSet, firstUnuse
 use Rattle.model.specs.Processor as Processor
 use Rattle.model.specs.Fault as Faults
 use Rattle.model.specs.Answer as Answer
-use Rattle.model.specs.Answer.{answerOf, memoryOf, numbers}
+use Rattle.model.specs.Answer.{answerOf, idle, memoryOf, numbers}
 use Rattle.model.specs.Answer.Outcome.{gives}
 use Rattle.model.specs.Call as Call
 use Rattle.model.specs.Bytes as Model
 use Rattle.model.specs.Bytes.{lists, instruction, refusal, running, name, at, word, write, store, whoRuns, chosen}
 use Rattle.laws.specs.Chain.{Page}
 use Rattle.laws.specs.Uses.{proc-page}
-use Rattle.laws.specs.Inv.{View, view, Base}
+use Rattle.laws.specs.Inv.{Base, View, noOne, view}
 use Rattle.laws.specs.Frames.{other}
 use Rattle.laws.specs.Words.{either}
 use Rattle.laws.specs.Judged.{WellFormed, invariant}
@@ -76,7 +76,7 @@ fault-open m f n = go (eqb (refusal m) 0) (eqb (running m) 0) refl refl
   where
     go : (x y : Bool) → eqb (refusal m) 0 ≡ x → eqb (running m) 0 ≡ y → answerOf (instruction m) ≡ Fault f n → (refusal m ≡ 0) × (running m ≢ 0)
     go false y e g h = absurd (not-refused (refusal m) f n (rw e at h))
-    go true true e g h = absurd (not-refused 22 f n (rw (e, g) at h))
+    go true true e g h = absurd (not-refused idle f n (rw (e, g) at h))
     go true false e g h = (eqb-true (refusal m) 0 e, eqb-false (running m) 0 g)
 
 name-of : (m : List ℕ) (f n : ℕ) → answerOf (Model.fault m f) ≡ Fault f n → n ≡ name m (running m)
@@ -100,7 +100,7 @@ module _ (m : List ℕ) (f n : ℕ) (e : numbers (answerOf (instruction m)) ≡ 
   by : n ≡ name m (running m)
   by = name-of m f n (sym (ap (λ (o : Model.Step). answerOf o) step) ∙ is)
 
-  b : Base m (lists m processorList) (lists m) (view m) [] 32
+  b : Base m (lists m processorList) (lists m) (view m) [] noOne
   b = invariant w .base
 
   runs : running m ≢ 0
@@ -120,7 +120,7 @@ module _ (m : List ℕ) (f n : ℕ) (e : numbers (answerOf (instruction m)) ≡ 
   unfolding Faults.fault Answer.memoryOf
   memory-is = ap (λ (o : Model.Step). memoryOf o) step ∙ ap whoRuns recorded-is
 
-  after : (X : View) × Base (recorded m f n) (lists m processorList) (lists m) X [] 32
+  after : (X : View) × Base (recorded m f n) (lists m processorList) (lists m) X [] noOne
   after = rw recorded-is at (fault-base b f runs (range .0) (range .1))
 
   run-same : running (recorded m f n) ≡ running m

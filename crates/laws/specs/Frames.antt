@@ -89,7 +89,7 @@ module _ {m m′ : List ℕ} (k : Kept m m′) where
       let p = x .reads .words in
       record {
         size = k .size ∙ x .size;
-        holds = holds-kept m m′ ps L s (kept-heads s) (λ a y h n c. k .words y 0 (all-pages s a y h c) (omega arith))
+        holds = holds-kept m m′ ps L s (kept-heads s) (λ a y h n c. k .words y link (all-pages s a y h c) (omega arith))
             (λ y h. k .words y listLink (proc-page s y h) (omega arith)) (x .holds);
         reads = record {
           words = record {

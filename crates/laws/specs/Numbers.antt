@@ -22,7 +22,8 @@ use Rattle.model.specs.Processor.{inRange}
 use Rattle.model.specs.Fault as Faults
 use Rattle.model.specs.Fresh.{startable}
 use Rattle.model.specs.Answer as Answer
-use Rattle.model.specs.Answer.{Outcome, answerOf, memoryOf, numbers, heldNumbers, verdictNumbers, doneNumber, waitsNumber, handedOutNumber, wrongLength, illFormed, outOfRange}
+use Rattle.model.specs.Answer.{Outcome, answerOf, doneNumber, handedOutNumber, heldNumbers, idle, illFormed, memoryOf, noInterrupt, numbers}
+use Rattle.model.specs.Answer.{outOfRange, verdictNumbers, waitsNumber, wrongClass, wrongLength}
 use Rattle.model.specs.Answer.Outcome.{gives}
 use Rattle.model.specs.Call as Call
 use Rattle.model.specs.Call.{isOuter, isClass}
@@ -140,26 +141,26 @@ kind-proper m o (Kinds.Kind.refused k l u e) = rw e (refused k (omega arith) u)
 pub instruction-proper : (m : List ℕ) → Proper (answerOf (instruction m))
 unfolding Call.instruction Call.instructionJudged
 instruction-proper m =
-    head-told P m Refused _ (a-refusal m) (either P (eqb (running m) 0) (a-refusal m 22 (omega arith) (omega arith))
+    head-told P m Refused _ (a-refusal m) (either P (eqb (running m) 0) (a-refusal m idle (omega arith) (omega arith))
     (kind-proper m (Model.fetched m (lr m)) (fetched-kind m (lr m))))
 
 pub fresh-proper : (m : List ℕ) (line d : ℕ) → Proper (answerOf (fresh m line d))
 unfolding Call.fresh
 fresh-proper m line d =
-    either P (eqb (length m) memorySize) (either P (startable line d) (a-done (Model.started m line d)) (a-refusal m 26 (omega arith) (omega arith)))
-    (a-refusal m 20 (omega arith) (omega arith))
+    either P (eqb (length m) memorySize) (either P (startable line d) (a-done (Model.started m line d)) (a-refusal m outOfRange (omega arith) (omega arith)))
+    (a-refusal m wrongLength (omega arith) (omega arith))
 
 pub interrupt-proper : (m : List ℕ) (k c : ℕ) → Proper (answerOf (interrupt m k c))
 unfolding Call.interrupt Call.interruptJudged
 interrupt-proper m k c =
     head-told P m Refused _ (a-refusal m) (either P (isOuter k) (either P (isClass k c) (a-done (Model.whoRuns (Model.delivered m k c)))
-    (a-refusal m 25 (omega arith) (omega arith))) (a-refusal m 24 (omega arith) (omega arith)))
+    (a-refusal m wrongClass (omega arith) (omega arith))) (a-refusal m noInterrupt (omega arith) (omega arith)))
 
 pub set-proper : (m : List ℕ) (r : Registers) → Proper (answerOf (setRegisters m r))
 unfolding Call.setRegisters Call.setJudged
 set-proper m r =
-    head-told P m Refused _ (a-refusal m) (either P (eqb (running m) 0) (a-refusal m 22 (omega arith) (omega arith))
-    (either P (inRange r) (a-done (Model.setRegistersOf m (running m) r)) (a-refusal m 26 (omega arith) (omega arith))))
+    head-told P m Refused _ (a-refusal m) (either P (eqb (running m) 0) (a-refusal m idle (omega arith) (omega arith))
+    (either P (inRange r) (a-done (Model.setRegistersOf m (running m) r)) (a-refusal m outOfRange (omega arith) (omega arith))))
 
 pub judge-told : (m : List ℕ) → toldVerdict (verdictNumbers (answerOf (judge m))) ≡ answerOf (judge m)
 unfolding Call.judge Answer.answerOf Answer.verdictNumbers toldVerdict

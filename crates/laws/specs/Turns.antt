@@ -10,7 +10,7 @@ use lib.Seq.{getD-set-same}
 use lib.Dec.{eqb, ltb}
 use borrow.Author.Tests.{eqb-true, eqb-false, eq-eqb, ne-eqb, ltb-true, ltb-false}
 use Rattle.model.specs.Map as Map
-use Rattle.model.specs.Map.{memorySize, place, runningPage, runningLabel, zeroPlace, keeps, keptCount}
+use Rattle.model.specs.Map.{keeps, keptCount, memorySize, pageSize, place, runningLabel, runningPage, wordValues, zeroPlace}
 use Rattle.model.specs.Turn as Turn
 use Rattle.model.specs.Turn.{nineteen}
 use Rattle.model.specs.Bytes.{at, word, running, chosen, switch, whoRuns, save, load, onPage0, keptOn, kept, restored}
@@ -34,7 +34,7 @@ pub record Turned (m m′ : List ℕ) (r t : ℕ) : Type 0 where
       → (t ≢ 0 → (i : ℕ) → i < keptCount → a ≢ zeroPlace i) → at m′ a ≡ at m a
 
 -- ---- nineteen words, each where it is said
-pub kept-at : (n : ℕ) (m : List ℕ) (p : ℕ) (w : List ℕ) → length m ≡ memorySize → p < 256 → n ≤ keptCount → (i : ℕ) → i < n
+pub kept-at : (n : ℕ) (m : List ℕ) (p : ℕ) (w : List ℕ) → length m ≡ memorySize → p < wordValues → n ≤ keptCount → (i : ℕ) → i < n
     → word (kept n m p w) p (keeps i) ≡ getD w i 0
 unfolding Turn.kept
 kept-at zero m p w z l u i h = absurd (omega arith)
@@ -128,7 +128,7 @@ module _ (m : List ℕ) (z : length m ≡ memorySize) (r t : ℕ) (old : r ≢ 0
       go false e = rw e (restored-frame keptCount (save m r) (keptOn (save m r) t) a (f (eqb-false t 0 e)))
 
   -- a word of the new page
-  new-word : t ≢ 0 → (k : ℕ) → k < 32 → word m1 t k ≡ word m t k
+  new-word : t ≢ 0 → (k : ℕ) → k < pageSize → word m1 t k ≡ word m t k
   new-word d k l = save-else (place t k) (λ c i h. omega (arith, new d))
 
   turned-page : at m3 runningPage ≡ t
