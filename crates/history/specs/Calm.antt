@@ -26,14 +26,14 @@ use Rattle.laws.specs.Uses.{Head, Sep, proc-page}
 use Rattle.laws.specs.Places.{in-free, in-q, q-free, q-once, free-once, grant-low, wait-page}
 use Rattle.laws.specs.Inv.{View, Mem, Base}
 use Rattle.laws.specs.Frames.{other, Only}
-use Rattle.laws.specs.Frame.{turn-frame, Unmoved}
+use Rattle.laws.specs.Unmoved.{turn-frame, Unmoved}
 use Rattle.laws.specs.Stores.{sem-mem, state-mem, reason-mem}
-use Rattle.laws.specs.Cells.{join-frame, leave-frame}
+use Rattle.laws.specs.JoinLeave.{join-frame, leave-frame}
 use Rattle.laws.specs.Changes.{page-sem}
 use Rattle.laws.specs.Wake.{seat-head, not-procs, wake-frame}
 use Rattle.laws.specs.Hands.{in-hand}
 use Rattle.laws.specs.Grants.{give-frame}
-use Rattle.laws.specs.Still.{Aside, aside-hand}
+use Rattle.laws.specs.Aside.{Aside, aside-hand}
 use Rattle.laws.specs.Who.{zero-low}
 use Rattle.history.specs.Letter.{Mine, Ours, Same, same-on}
 use Rattle.history.specs.Letter.Mine.{head, page}

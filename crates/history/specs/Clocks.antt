@@ -16,7 +16,7 @@ use Rattle.laws.specs.Uses.{list-short}
 use Rattle.laws.specs.Places.{in-queues, wait-page}
 use Rattle.laws.specs.Inv.{View, Clock, Base}
 use Rattle.laws.specs.Views.{put1}
-use Rattle.laws.specs.Cells.{chain0}
+use Rattle.laws.specs.JoinLeave.{chain0}
 use Rattle.laws.specs.Wake.{seat-head, not-procs}
 use Rattle.laws.specs.Words.{either}
 use Rattle.laws.specs.Interrupts.{head, chain-head, struck-base, from-end, next, seat, counter-base, serve-base, Some, some-of, delivered-kept}

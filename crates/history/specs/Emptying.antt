@@ -19,7 +19,7 @@ use Rattle.laws.specs.Uses.{Sep}
 use Rattle.laws.specs.Inv.{View, Message, Base}
 use Rattle.laws.specs.Frames.{other}
 use Rattle.laws.specs.Changes.{hand-out}
-use Rattle.laws.specs.Still.{aside-hand}
+use Rattle.laws.specs.Aside.{aside-hand}
 use Rattle.laws.specs.Simple.{named-in, named-same}
 use Rattle.laws.specs.Who.{listed}
 use Rattle.laws.specs.Delete.{Queue, emptied-end, emptied-next, base1, letter1, back, next, left, nonzero}

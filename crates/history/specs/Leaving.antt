@@ -28,7 +28,7 @@ use Rattle.laws.specs.Places.{in-procs, grant-low}
 use Rattle.laws.specs.Inv.{Base, Mem, View, noOne}
 use Rattle.laws.specs.Views.{put1, withWords}
 use Rattle.laws.specs.Stores.{sem-mem}
-use Rattle.laws.specs.Cells.{leave-mem}
+use Rattle.laws.specs.JoinLeave.{leave-mem}
 use Rattle.laws.specs.Wake.{seat-head, not-procs, facts-wake, unqueue-frame}
 use Rattle.laws.specs.Grants.{each-two}
 use Rattle.laws.specs.Members.{count-more}

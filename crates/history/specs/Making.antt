@@ -25,7 +25,7 @@ use Rattle.laws.specs.Hands.{in-hand, hand-base}
 use Rattle.laws.specs.Grants.{Takes, take-page}
 use Rattle.laws.specs.Grants.Takes.{gets, lacks}
 use Rattle.laws.specs.Ways.{Faults, crp-each, crp-page-each}
-use Rattle.laws.specs.Still.{aside-hand, Aside}
+use Rattle.laws.specs.Aside.{aside-hand, Aside}
 use Rattle.laws.specs.Who.{listed, Busy, busy}
 use Rattle.laws.specs.Create.{made, z, headed-is, only, below, created-base, nobody}
 use Rattle.history.specs.Letter.{Same, Posts, posts, posts-on, posts-then, agrees, waitingFor, label-same, waits-same, procs-same}

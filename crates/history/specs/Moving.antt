@@ -17,7 +17,7 @@ use Rattle.laws.specs.Uses.{Sep, proc-page}
 use Rattle.laws.specs.Places.{in-q, grant-high}
 use Rattle.laws.specs.Members.{head-off}
 use Rattle.laws.specs.Inv.{View, Base}
-use Rattle.laws.specs.Cells.{join-frame, leave-frame}
+use Rattle.laws.specs.JoinLeave.{join-frame, leave-frame}
 use Rattle.laws.specs.Changes.{hand-page}
 use Rattle.laws.specs.Hands.{in-hand, hand-new, take-mail, give-mail}
 use Rattle.history.specs.Order.{only, only-append, Fails, overtakes-none}

@@ -20,7 +20,7 @@ use Rattle.laws.specs.Changes.{hand-out}
 use Rattle.laws.specs.Hands.{in-hand, hand-base}
 use Rattle.laws.specs.Grants.{give-frame}
 use Rattle.laws.specs.Post.{retold-letter, notice-only, notice-letter, deliver-frame}
-use Rattle.laws.specs.Still.{aside-hand}
+use Rattle.laws.specs.Aside.{aside-hand}
 use Rattle.laws.specs.Stores.{only-word}
 use Rattle.history.specs.Letter.{Letter, mailOf, waitingFor, Posts, posts, waits-same, held, held-same}
 use Rattle.history.specs.Put.{Log, of, noticeFrom, returnsTo, notices}

@@ -31,7 +31,7 @@ use Rattle.laws.specs.Changes.{hand-page}
 use Rattle.laws.specs.Hands.{in-hand, hand-base}
 use Rattle.laws.specs.Grants.{Gave, Takes, take-page}
 use Rattle.laws.specs.Grants.Takes.{gets, lacks}
-use Rattle.laws.specs.Still.{aside-hand}
+use Rattle.laws.specs.Aside.{aside-hand}
 use Rattle.laws.specs.Post.{deliver-all, deliver-frame, retold-letter, two, notice-only, notice-letter, message-only, message-words, message-letter}
 use Rattle.laws.specs.Who.{listed, label-at, Busy, busy, running-same, label-in}
 use Rattle.laws.specs.Mails.{clear-at}

@@ -24,7 +24,7 @@ use Rattle.laws.specs.Places.{in-free, grant-low, all-pages}
 use Rattle.laws.specs.Inv.{View, Base}
 use Rattle.laws.specs.Judged.{WellFormed}
 use Rattle.laws.specs.Frames.{other}
-use Rattle.laws.specs.Cells.{chain0, leave-frame}
+use Rattle.laws.specs.JoinLeave.{chain0, leave-frame}
 use Rattle.laws.specs.Changes.{page-sem}
 use Rattle.laws.specs.Stores.{sem-mem}
 use Rattle.laws.specs.Who.{Busy, busy}

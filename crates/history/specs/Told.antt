@@ -22,7 +22,7 @@ use Rattle.laws.specs.Inv.{View, Base}
 use Rattle.laws.specs.Frames.{other}
 use Rattle.laws.specs.Who.{running-at, running-in, listed}
 use Rattle.laws.specs.Waits.{Fit, wait-base, waits-not}
-use Rattle.laws.specs.Frame.{fault-frame}
+use Rattle.laws.specs.Unmoved.{fault-frame}
 use Rattle.history.specs.Order.{only}
 use Rattle.history.specs.Letter.{Letter, mailOf, key, waitingFor, Same, same-on, posts, label-same, waits-same, procs-same}
 use Rattle.history.specs.Put.{of, Mailed, nothing, Log}

@@ -25,7 +25,7 @@ use Rattle.laws.specs.Chain.{Page}
 use Rattle.laws.specs.Frames.{other}
 use Rattle.laws.specs.Words.{either}
 use Rattle.laws.specs.Who.{zero-low, kept-size, restored-size, kept-frame, restored-frame}
-use Rattle.laws.specs.Frame.{turn-frame}
+use Rattle.laws.specs.Unmoved.{turn-frame}
 
 -- where the word of address c stands for the processor of page r while another runs: one of the first n of the nineteen words of page 0 is kept on page r,
 -- every other stays in place

@@ -28,7 +28,7 @@ use Rattle.laws.specs.Inv.{View, view, Base}
 use Rattle.laws.specs.Judged.{WellFormed}
 use Rattle.laws.specs.Frames.{other, base-kept, copy-far}
 use Rattle.laws.specs.Words.{Small}
-use Rattle.laws.specs.Cells.{leave-frame}
+use Rattle.laws.specs.JoinLeave.{leave-frame}
 use Rattle.laws.specs.Changes.{hand-page}
 use Rattle.laws.specs.Hands.{in-hand, take-mail}
 use Rattle.laws.specs.Grants.{give-back, give-frame}

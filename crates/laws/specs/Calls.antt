@@ -32,7 +32,7 @@ use Rattle.laws.specs.Words.{either, Small, small-started, small-deliver
 use Rattle.laws.specs.Simple.{registers-well}
 use Rattle.laws.specs.Interrupts.{delivered-well}
 use Rattle.laws.specs.Run.{fetched-fine}
-use Rattle.laws.specs.Eight.{fetched-tiny}
+use Rattle.laws.specs.InstructionWords.{fetched-tiny}
 
 -- a well-formed memory: 8,192 words of 8 bits that the judge accepts
 pub record Sound (m : List ℕ) : Type 0 where

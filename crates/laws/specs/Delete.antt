@@ -30,7 +30,7 @@ use Rattle.laws.specs.Hands.{hand-base, in-hand, take-grant}
 use Rattle.laws.specs.Who.{Busy, busy}
 use Rattle.laws.specs.Grants.{Any, any-of, give-back, some-is}
 use Rattle.laws.specs.Post.{retold-letter, notice-only, notice-letter, notice-base}
-use Rattle.laws.specs.Still.{give-still, deliver-still}
+use Rattle.laws.specs.Aside.{give-still, deliver-still}
 use Rattle.laws.specs.Leave.{Letters, Bag, unlisted-bag}
 use Rattle.laws.specs.Ends.{Fine, start-base, stop-base, done-fine}
 use Rattle.laws.specs.Ways.{named-each}

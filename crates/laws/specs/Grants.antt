@@ -25,7 +25,7 @@ use Rattle.laws.specs.Inv.{View, Facts, Base}
 use Rattle.laws.specs.Frames.{other}
 use Rattle.laws.specs.Views.{put1, withSem}
 use Rattle.laws.specs.Stores.{sem-mem}
-use Rattle.laws.specs.Cells.{chain0, join-frame, grant-mem}
+use Rattle.laws.specs.JoinLeave.{chain0, join-frame, grant-mem}
 use Rattle.laws.specs.Changes.{uses-upd, queue-same, uses-sep, facts-uses, stock-same, hand-page, page-sem}
 use Rattle.laws.specs.Wake.{woken, woken-proc, facts-wake, wake-mem, wake-frame}
 use Rattle.laws.specs.Hands.{in-hand, hand-new, take-free, give-free, take-grant}

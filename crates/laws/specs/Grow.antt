@@ -25,7 +25,7 @@ use Rattle.laws.specs.Views.{put1, put1-same, put1-other, withSem}
 use Rattle.laws.specs.Changes.{stock-same}
 use Rattle.laws.specs.Hands.{in-hand}
 use Rattle.laws.specs.Members.{names-more, uses-more, queues-more, uses-sum, queues-sum, head-off, procs-once}
-use Rattle.laws.specs.Still.{Aside, aside-hand}
+use Rattle.laws.specs.Aside.{Aside, aside-hand}
 
 -- ---- the new page q: its words, and that nobody bears its name
 pub record New (m : List ℕ) (ps : List ℕ) (W : View) (q : ℕ) : Type 0 where

@@ -27,7 +27,7 @@ use Rattle.laws.specs.Inv.{View, Message, stock, stock-page, stock-else,
 use Rattle.laws.specs.Frames.{Only}
 use Rattle.laws.specs.Views.{put1, put1-same, put1-other, withSem, retold}
 use Rattle.laws.specs.Stores.{sem-mem, hand-mem}
-use Rattle.laws.specs.Cells.{join-mem, leave-mem, grant-mem}
+use Rattle.laws.specs.JoinLeave.{join-mem, leave-mem, grant-mem}
 use Rattle.laws.specs.Changes.{uses-upd, queue-same, uses-sep, facts-uses, facts-less, stock-same, hand-page, hand-out, hand-free, facts-off, page-sem}
 
 -- ---- words of a page in hand

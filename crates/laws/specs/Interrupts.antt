@@ -30,7 +30,7 @@ use Rattle.laws.specs.Judged.{WellFormed, well-formed, invariant}
 use Rattle.laws.specs.Frames.{Kept, kept-refl, kept-set, quiet-word, base-kept}
 use Rattle.laws.specs.Views.{put1, put1-same, put1-other, withReason, withLow}
 use Rattle.laws.specs.Stores.{reason-mem, clock-mem}
-use Rattle.laws.specs.Cells.{chain0}
+use Rattle.laws.specs.JoinLeave.{chain0}
 use Rattle.laws.specs.Changes.{facts-low}
 use Rattle.laws.specs.Wake.{wake-base, woken, woken-proc, seat-head, not-procs}
 use Rattle.laws.specs.Grants.{Gave}

@@ -29,7 +29,7 @@ use Rattle.laws.specs.Places.{in-queues, q-free, queues-pos}
 use Rattle.laws.specs.Inv.{Base, Facts, Mem, Message, View, noOne}
 use Rattle.laws.specs.Views.{put1, put1-other, withWords}
 use Rattle.laws.specs.Stores.{sem-mem}
-use Rattle.laws.specs.Cells.{chain0, leave-mem}
+use Rattle.laws.specs.JoinLeave.{chain0, leave-mem}
 use Rattle.laws.specs.Changes.{int-sem, own-sem, page-sem, Off, facts-off, queue-once}
 use Rattle.laws.specs.Wake.{seat-head, not-procs, facts-wake, woken-idle}
 use Rattle.laws.specs.Simple.{first-in}

@@ -22,7 +22,7 @@ pub mod Judged
 pub mod Frames
 pub mod Views
 pub mod Stores
-pub mod Cells
+pub mod JoinLeave
 pub mod Changes
 -- The steps: wake, wait, take and give pages, deliver, create, delete, who runs
 pub mod Wake
@@ -30,7 +30,7 @@ pub mod Waits
 pub mod Hands
 pub mod Grants
 pub mod Post
-pub mod Still
+pub mod Aside
 pub mod Grow
 pub mod Shrink
 pub mod Leave
@@ -46,15 +46,15 @@ pub mod Delete
 -- Any instruction; the calls
 pub mod Each
 pub mod Run
-pub mod Eight
+pub mod InstructionWords
 pub mod Kinds
 pub mod Calls
 -- What the promises cite
 pub mod Refusals
 pub mod Numbers
 pub mod Faulty
-pub mod Frame
+pub mod Unmoved
 pub mod Turns
-pub mod Four
-pub mod Meaning
+pub mod UsedOnce
+pub mod ListSteps
 pub mod Witness

@@ -30,7 +30,7 @@ use Rattle.laws.specs.Places.{in-q, grant-high, all-pages}
 use Rattle.laws.specs.Inv.{Base, Label, View, Waits, noOne, view}
 use Rattle.laws.specs.Judged.{WellFormed}
 use Rattle.laws.specs.Frames.{Kept, base-kept, other, copy-far}
-use Rattle.laws.specs.Cells.{chain0}
+use Rattle.laws.specs.JoinLeave.{chain0}
 use Rattle.laws.specs.Changes.{own-sem, page-sem}
 use Rattle.laws.specs.Hands.{take-mail, give-mail}
 use Rattle.laws.specs.Grants.{Gave, give-back, Takes, take-page}

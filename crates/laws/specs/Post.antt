@@ -26,7 +26,7 @@ use Rattle.laws.specs.Places.{in-q, in-own, own-once, grant-high}
 use Rattle.laws.specs.Inv.{View, Label, Message, Facts, Mem, Base}
 use Rattle.laws.specs.Frames.{other, Only, only-refl, only-set, only-copy, copy-far}
 use Rattle.laws.specs.Views.{put1, put1-same, put1-other, retold}
-use Rattle.laws.specs.Cells.{chain0, join-frame}
+use Rattle.laws.specs.JoinLeave.{chain0, join-frame}
 use Rattle.laws.specs.Changes.{own-sem, hand-page, hand-out}
 use Rattle.laws.specs.Wake.{woken, facts-wake, wake-mem, wake-frame}
 use Rattle.laws.specs.Hands.{hand-base, in-hand, hand-new, room, facts-mail, more-mail, mail-sep, mail-mem, give-mail}

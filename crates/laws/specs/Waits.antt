@@ -21,7 +21,7 @@ use Rattle.laws.specs.Places.{in-queues, int-queue, own-once, q-free}
 use Rattle.laws.specs.Inv.{View, Waits, stock, Facts, Base}
 use Rattle.laws.specs.Views.{put1, put1-same, put1-other, withWords, withSem}
 use Rattle.laws.specs.Stores.{sem-mem, state-mem, reason-mem}
-use Rattle.laws.specs.Cells.{join-mem}
+use Rattle.laws.specs.JoinLeave.{join-mem}
 use Rattle.laws.specs.Changes.{queue-once, stock-same}
 use Rattle.laws.specs.Wake.{seat-head, not-procs, not-free, not-mail, not-given, stock-le}
 

@@ -25,7 +25,7 @@ use Rattle.laws.specs.Inv.{View, stock, stock-page, stock-else, Facts, M
 use Rattle.laws.specs.Frames.{other}
 use Rattle.laws.specs.Views.{put1, put1-same, put1-other, withWords, withSem}
 use Rattle.laws.specs.Stores.{sem-mem, state-mem, reason-mem}
-use Rattle.laws.specs.Cells.{leave-mem, leave-frame}
+use Rattle.laws.specs.JoinLeave.{leave-mem, leave-frame}
 use Rattle.laws.specs.Changes.{queue-once, stock-same}
 
 pub wake-bits : (w : ℕ) → (waitIn (waitCleared w) ≡ 0) × (zerosIn (waitCleared w) ≡ zerosIn w)

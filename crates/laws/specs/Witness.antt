@@ -26,7 +26,7 @@ use Rattle.laws.specs.Places.{in-free, in-asking, grant-low}
 use Rattle.laws.specs.Inv.{Base, Message, View, noOne, view}
 use Rattle.laws.specs.Judged.{invariant, walked}
 use Rattle.laws.specs.Views.{retold}
-use Rattle.laws.specs.Cells.{chain0}
+use Rattle.laws.specs.JoinLeave.{chain0}
 use Rattle.laws.specs.Changes.{page-sem}
 use Rattle.laws.specs.Waits.{waiting, wait-base}
 use Rattle.laws.specs.Hands.{in-hand, hand-base, take-free}

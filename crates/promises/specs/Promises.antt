@@ -20,7 +20,7 @@ use Rattle.laws.specs.Numbers.{told, toldHeld, toldVerdict, proper-told, instru
 use Rattle.laws.specs.Numbers.{Refuses, RefuseAll, refused-of, handed-of}
 use Rattle.laws.specs.Refusals.{instruction-kept, fresh-kept, interrupt-kept, set-kept, read-kept, judge-kept, instruction-hands}
 use Rattle.laws.specs.Faulty.{Faulted, faulted}
-use Rattle.laws.specs.Four.{asProcessor, asFree, asMessage, asGrant, used-once, used-never}
+use Rattle.laws.specs.UsedOnce.{asProcessor, asFree, asMessage, asGrant, used-once, used-never}
 use Rattle.laws.specs.Witness.{example, example-reached, example-runs}
 
 -- ---- the numbers tell the answer: from them it can be had again, of every call, on any memory

@@ -17,7 +17,7 @@ use Rattle.laws.specs.Accepted.{judge-inv}
 use Rattle.laws.specs.Judged.{inv-judge}
 use Rattle.laws.specs.Waits.{Fit}
 use Rattle.laws.specs.Witness.{InHand, InHandMessage, InHandAsked, example-hand, example-message, example-asked}
-use Rattle.laws.specs.Meaning.{Becomes, join-appends, leave-takes, give-frees, Grants, give-grants, deliver-appends, wait-appends, wake-takes}
+use Rattle.laws.specs.ListSteps.{Becomes, join-appends, leave-takes, give-frees, Grants, give-grants, deliver-appends, wait-appends, wake-takes}
 
 -- ---- the judge accepts a memory exactly where the lists fit together
 pub judge-says : (m : List ℕ) → length m ≡ memorySize → judged m ≡ true → Inv m (lists m processorList) (lists m) (view m)

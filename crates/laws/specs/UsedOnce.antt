@@ -17,7 +17,7 @@ use Rattle.laws.specs.Uses.{list-short}
 use Rattle.laws.specs.Places.{in-free, grant-low}
 use Rattle.laws.specs.Inv.{View, Base}
 use Rattle.laws.specs.Judged.{invariant}
-use Rattle.laws.specs.Cells.{chain0}
+use Rattle.laws.specs.JoinLeave.{chain0}
 use Rattle.laws.specs.Who.{listed}
 use Rattle.laws.specs.Mails.{mail-queue}
 use Rattle.laws.specs.Calls.{Sound, well}

@@ -18,7 +18,7 @@ use Rattle.laws.specs.Inv.{View, Message, Base}
 use Rattle.laws.specs.Wake.{wake-base}
 use Rattle.laws.specs.Waits.{Fit, wait-base}
 use Rattle.laws.specs.Judged.{walked, walked-short}
-use Rattle.laws.specs.Cells.{join-mem, leave-mem}
+use Rattle.laws.specs.JoinLeave.{join-mem, leave-mem}
 use Rattle.laws.specs.Changes.{uses-upd, uses-sep, hand-page}
 use Rattle.laws.specs.Hands.{in-hand, hand-new, give-free}
 use Rattle.laws.specs.Grants.{waiter-proc, give-grant, some-is, give-is-free, give-is-grant}
