@@ -1,11 +1,11 @@
 -- Interrupts leave Q1 and Q2 of every processor alone: each waiter front to back, the clock chain, then who runs. Assumes nothing.
 use mathlib.Core.Path.{_≡_, refl, sym, _∙_}
 use mathlib.Core.List.{List, [], _∷_, _++_}
-use Prim.Native.Nat.{ℕ, zero, suc, _+_, _-_, _*_, _%_, _≤_}
+use Prim.Native.Nat.{ℕ, zero, suc, _+_, _≤_}
 use native.Mathlib.Omega.{arith}
-use lib.ListN.{length, getD, set}
+use lib.ListN.{length, set}
 use lib.Dec.{eqb, ltb}
-use Rattle.model.specs.Map.{c0, c3, controlPages, firstClassed, headerOf, interrupts, lastOuter, lowered, place, reason, semaphoreOf, wordA}
+use Rattle.model.specs.Map.{c0, c3, controlPages, firstClassed, headerOf, interrupts, lastOuter, lowered, reason, semaphoreOf, wordA}
 use Rattle.model.specs.Bytes.{word}
 use Rattle.model.specs.Interrupt as Interrupt
 use Rattle.model.specs.Bytes as Model

@@ -4,10 +4,10 @@ use mathlib.Core.Path.{_≡_, refl, sym, ap, _∙_}
 use mathlib.Core.Logic.{_≢_, _⊎_, inl, inr}
 use mathlib.Core.Bool.{false}
 use mathlib.Core.List.{List, [], _∷_}
-use Prim.Native.Nat.{ℕ, _+_, _-_, _*_, _/_, _%_, _≤_, _<_}
+use Prim.Native.Nat.{ℕ, _+_, _%_, _≤_, _<_}
 use native.Mathlib.Omega.{arith}
-use lib.ListN.{getD, set}
-use Rattle.model.specs.Map.{aWord, allCodes, codeLow, codeWord, flagsKept, guardedLast, high, highLr, label, low, lowLr, memorySize, place}
+use lib.ListN.{set}
+use Rattle.model.specs.Map.{aWord, allCodes, codeLow, codeWord, flagsKept, guardedLast, high, highLr, low, lowLr, memorySize, place}
 use Rattle.model.specs.Map.{processorList, returnHigh, returnLow, runningPage, semaphoreOf, state, stopCleared, topped, wordA, wordS}
 use Rattle.model.specs.Bytes.{name, running, store, word}
 use Rattle.model.specs.declared.Registers.{Registers}

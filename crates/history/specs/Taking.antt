@@ -4,13 +4,13 @@ use mathlib.Core.Path.{_≡_, refl, _∙_}
 use mathlib.Core.Logic.{_≢_}
 use mathlib.Core.Bool.{Bool, true, false}
 use mathlib.Core.List.{List, [], _∷_}
-use Prim.Native.Nat.{ℕ, _+_, _-_, _*_, _%_, _≤_}
+use Prim.Native.Nat.{ℕ, _≤_}
 use native.Mathlib.Omega.{arith}
 use lib.ListN.{length, getD}
 use lib.Dec.{eqb}
 use borrow.Author.Tests.{ne-eqb}
-use Rattle.model.specs.Map.{freeList, freeSemaphore, grantFor, label, link, lowered, place, processorList}
-use Rattle.model.specs.Bytes.{name, running, word}
+use Rattle.model.specs.Map.{freeList, freeSemaphore, grantFor, link, lowered, processorList}
+use Rattle.model.specs.Bytes.{name, running}
 use Rattle.model.specs.Page as Page
 use Rattle.model.specs.Page.{Taken}
 use Rattle.model.specs.Page.Taken.{took}

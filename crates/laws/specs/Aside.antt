@@ -2,9 +2,8 @@
 use mathlib.Core.Path.{_≡_, ap}
 use mathlib.Core.Logic.{_≢_}
 use mathlib.Core.List.{List, _∷_}
-use Prim.Native.Nat.{ℕ, _+_, _-_, _*_, _≤_, _<_}
+use Prim.Native.Nat.{ℕ, _≤_, _<_}
 use native.Mathlib.Omega.{arith}
-use lib.ListN.{getD}
 use Rattle.model.specs.Map.{freeList, link, pageQueue, pageSize, place, q1}
 use Rattle.model.specs.Bytes.{word}
 use Rattle.model.specs.Bytes.{giveBack, deliver}

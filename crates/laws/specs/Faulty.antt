@@ -4,19 +4,18 @@ use mathlib.Core.Path.{_≡_, refl, sym, ap, _∙_}
 use mathlib.Core.Logic.{_≢_}
 use mathlib.Core.Bool.{Bool, true, false, cond}
 use mathlib.Core.List.{List, [], _∷_}
-use Prim.Native.Nat.{ℕ, _+_, _-_, _*_, _/_, _%_, _≤_, _<_}
+use Prim.Native.Nat.{ℕ, _+_, _≤_}
 use native.Mathlib.Omega.{arith}
-use lib.ListN.{length, getD, set}
+use lib.ListN.{set}
 use lib.Dec.{eqb, ltb}
 use borrow.Author.Tests.{eqb-true, eqb-false}
 use Rattle.model.specs.declared.Answer.{Answer}
-use Rattle.model.specs.declared.Answer.the-variants.{Done, Waits, HandedOut, Fault, Refused}
-use Rattle.model.specs.Map.{memorySize, place, pair, state, stopSet, firstUnused, entryAt, entriesFull, lastFault, processorList, runningPage}
+use Rattle.model.specs.declared.Answer.the-variants.{Fault, Refused}
+use Rattle.model.specs.Map.{place, pair, state, stopSet, firstUnused, entryAt, entriesFull, lastFault, processorList, runningPage}
 use Rattle.model.specs.Processor as Processor
 use Rattle.model.specs.Fault as Faults
 use Rattle.model.specs.Answer as Answer
 use Rattle.model.specs.Answer.{answerOf, idle, memoryOf, numbers}
-use Rattle.model.specs.Answer.Outcome.{gives}
 use Rattle.model.specs.Call as Call
 use Rattle.model.specs.Bytes as Model
 use Rattle.model.specs.Bytes.{lists, instruction, refusal, running, name, at, word, write, store, whoRuns, chosen}
@@ -26,11 +25,10 @@ use Rattle.laws.specs.Inv.{Base, View, noOne, view}
 use Rattle.laws.specs.Frames.{other}
 use Rattle.laws.specs.Words.{either}
 use Rattle.laws.specs.Judged.{WellFormed, invariant}
-use Rattle.laws.specs.Who.{running-at, running-in, chosen-in}
+use Rattle.laws.specs.Who.{chosen-in}
 use Rattle.laws.specs.Ends.{run-page, fault-base}
 use Rattle.laws.specs.Turns.{Turned, who-turns}
 use Rattle.laws.specs.Refusals.{instruction-faults}
-use Rattle.laws.specs.Numbers as Numbers
 use Rattle.laws.specs.Numbers.{Proper, told, proper-told, instruction-proper, accepted}
 
 -- ---- the memory with the processor that runs stopped, and with fault f of name n entered while page 9 has room

@@ -4,14 +4,14 @@ use mathlib.Core.Path.{_≡_, refl, sym, ap, _∙_}
 use mathlib.Core.Logic.{_≢_, _⊎_, inl, inr}
 use mathlib.Core.Bool.{Bool, true, false, cond}
 use mathlib.Core.List.{List, [], _∷_, _++_, append-assoc}
-use Prim.Native.Nat.{ℕ, zero, suc, _+_, _-_, _*_, _/_, _%_, _≤_, _<_}
+use Prim.Native.Nat.{ℕ, zero, suc, _+_, _-_, _≤_, _<_}
 use native.Mathlib.Omega.{arith}
 use lib.ListN.{length, getD, set}
 use lib.Dec.{eqb, ltb}
 use borrow.Author.Tests.{eqb-false, ne-eqb}
 use Rattle.model.specs.Map as Map
 use Rattle.model.specs.Map.{aWord, c0Interrupt, c1End, c1Interrupt, c2End, c2Interrupt, c3End, c3Interrupt, clockLine, controlPages, firstClassed}
-use Rattle.model.specs.Map.{headerAfter, headerOf, interrupts, label, lastOuter, link, lowered, ownQueue, pageQueue, place, processorList, raised}
+use Rattle.model.specs.Map.{headerAfter, headerOf, interrupts, lastOuter, link, lowered, ownQueue, pageQueue, place, processorList, raised}
 use Rattle.model.specs.Map.{runningLabel, runningPage, semaphoreOf, waitIn, wordA}
 use Rattle.model.specs.Bytes.{name, running, word}
 use Rattle.model.specs.Interrupt as Interrupt
@@ -24,7 +24,7 @@ use Rattle.laws.specs.Chain.{Page, Chain}
 use Rattle.laws.specs.Queues.{upd, upd-same}
 use Rattle.laws.specs.Heads.{sum-one, sum-two}
 use Rattle.laws.specs.Uses.{Sep, proc-page, proc-once, list-short}
-use Rattle.laws.specs.Places.{in-queues, int-queue, own-once, q-free, wait-page}
+use Rattle.laws.specs.Places.{in-queues, int-queue, own-once, wait-page}
 use Rattle.laws.specs.Inv.{View, view, Clock, Facts, Base}
 use Rattle.laws.specs.Judged.{WellFormed, well-formed, invariant}
 use Rattle.laws.specs.Frames.{Kept, kept-refl, kept-set, quiet-word, base-kept}

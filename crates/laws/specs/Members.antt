@@ -2,11 +2,11 @@
 use mathlib.Core.Path.{_≡_, refl, ap}
 use mathlib.Core.Logic.{_≢_}
 use mathlib.Core.List.{List, [], _∷_, _++_, append-nil}
-use Prim.Native.Nat.{ℕ, _+_, _-_, _*_, _<_}
+use Prim.Native.Nat.{ℕ, _+_, _<_}
 use native.Mathlib.Omega.{arith}
 use lib.Dec.{eqb}
 use Rattle.model.specs.Map.{grants, headerAfter, interrupts, ownQueue, pageSize, place, processorList, q1, q2}
-use Rattle.model.specs.Lists.{hit, count, Lists, sum, each-of, range, mails, owns, uses, queues}
+use Rattle.model.specs.Lists.{hit, count, Lists, sum, each-of, mails, owns, uses, queues}
 use Rattle.laws.specs.Count.{count-append}
 use Rattle.laws.specs.Chain.{Page}
 use Rattle.laws.specs.Heads.{sum-append, range-low, range-none2, Place, grantWords, lineHeads}

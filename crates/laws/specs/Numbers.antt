@@ -4,7 +4,7 @@ use mathlib.Core.Path.{_≡_, refl, sym, ap, _∙_}
 use mathlib.Core.Logic.{_≢_}
 use mathlib.Core.Bool.{Bool, true, false, cond}
 use mathlib.Core.List.{List, [], _∷_}
-use Prim.Native.Nat.{ℕ, _+_, _-_, _*_, _/_, _%_, _≤_, _<_}
+use Prim.Native.Nat.{ℕ, _≤_}
 use native.Mathlib.Omega.{arith}
 use lib.ListN.{length, getD}
 use lib.Dec.{eqb}
@@ -16,7 +16,7 @@ use Rattle.model.specs.declared.Held.{Held}
 use Rattle.model.specs.declared.Held.the-variants as Held
 use Rattle.model.specs.declared.Verdict.{Verdict}
 use Rattle.model.specs.declared.Verdict.the-variants as Verdict
-use Rattle.model.specs.Map.{memorySize, lastFault, fiveBits}
+use Rattle.model.specs.Map.{memorySize, lastFault}
 use Rattle.model.specs.Processor as Processor
 use Rattle.model.specs.Processor.{inRange}
 use Rattle.model.specs.Fault as Faults
@@ -31,7 +31,7 @@ use Rattle.model.specs.Bytes as Model
 use Rattle.model.specs.Bytes.{Step, fresh, instruction, interrupt, readRegisters, setRegisters, judge, judged, refusal, running, lr, registersOf}
 use Rattle.laws.specs.Words.{either}
 use Rattle.laws.specs.Judged.{WellFormed, invariant}
-use Rattle.laws.specs.Who.{running-at, running-in, state-at}
+use Rattle.laws.specs.Who.{running-at}
 use Rattle.laws.specs.Kinds.{Kind, fetched-kind}
 use Rattle.laws.specs.Kinds as Kinds
 use Rattle.laws.specs.Calls.{Sound}

@@ -3,14 +3,14 @@ use mathlib.Core.Path.{_≡_, refl, ap}
 use mathlib.Core.Logic.{_⊎_, inl, inr}
 use mathlib.Core.Bool.{Bool, true, false, _&&_}
 use mathlib.Core.List.{List}
-use Prim.Native.Nat.{ℕ, _+_, _-_, _*_, _≤_, _<_}
+use Prim.Native.Nat.{ℕ, _≤_, _<_}
 use native.Mathlib.Omega.{arith}
 use lib.Dec.{leb, ltb}
 use borrow.Author.Tests.{leb-true, ltb-true, le-leb, lt-ltb, le-ltb, lt-leb}
 use Rattle.model.specs.Map.{freeList, grantFor, grants, grantsEnd, guardedLast, headerAfter, interrupts, ownQueue, pageQueue, pageSize, place}
 use Rattle.model.specs.Map.{processorList, q1, q2}
 use Rattle.model.specs.Lists as Model
-use Rattle.model.specs.Lists.{count, Lists, range, mails, owns, uses, queues, isGrant}
+use Rattle.model.specs.Lists.{count, Lists, mails, owns, uses, queues, isGrant}
 use Rattle.laws.specs.Count.{hit-other, count-append, zero-or}
 use Rattle.laws.specs.Chain.{Page}
 use Rattle.laws.specs.Heads.{one-le, one-page, sum-one, range1-at, range2-at, range-low, range-none1, range-none2, mails-at, owns-at, mails-of}

@@ -4,9 +4,9 @@ use mathlib.Core.Path.{_≡_, refl, ap, _∙_}
 use mathlib.Core.Logic.{_≢_}
 use mathlib.Core.Bool.{Bool, true, false}
 use mathlib.Core.List.{List, [], _∷_, _++_}
-use Prim.Native.Nat.{ℕ, _+_, _-_, _*_, _/_, _%_, _≤_}
+use Prim.Native.Nat.{ℕ, _+_, _≤_}
 use native.Mathlib.Omega.{arith}
-use lib.ListN.{length, getD, set, length-set}
+use lib.ListN.{length, getD, length-set}
 use lib.Seq.{getD-set-same}
 use lib.Dec.{eqb}
 use borrow.Author.Tests.{ne-eqb}
@@ -25,7 +25,7 @@ use Rattle.laws.specs.Uses.{Sep, proc-page, single}
 use Rattle.laws.specs.Places.{in-q, in-own, own-once, grant-high}
 use Rattle.laws.specs.Inv.{View, Label, Message, Facts, Mem, Base}
 use Rattle.laws.specs.Frames.{other, Only, only-refl, only-set, only-copy, copy-far}
-use Rattle.laws.specs.Views.{put1, put1-same, put1-other, retold}
+use Rattle.laws.specs.Views.{put1-same, retold}
 use Rattle.laws.specs.JoinLeave.{chain0, join-frame}
 use Rattle.laws.specs.Changes.{own-sem, hand-page, hand-out}
 use Rattle.laws.specs.Wake.{woken, facts-wake, wake-mem, wake-frame}

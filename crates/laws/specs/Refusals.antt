@@ -6,7 +6,7 @@ use mathlib.Core.Bool.{true}
 use mathlib.Core.List.{List}
 use Prim.Native.Nat.{ℕ, _≤_}
 use native.Mathlib.Omega.{arith}
-use lib.ListN.{length, getD}
+use lib.ListN.{length}
 use lib.Dec.{eqb}
 use borrow.Author.Tests.{eq-eqb}
 use Rattle.model.specs.Map.{memorySize}
@@ -27,7 +27,7 @@ use Rattle.model.specs.Fresh.{startable}
 use Rattle.model.specs.Call as Call
 use Rattle.model.specs.Call.{isOuter, isClass}
 use Rattle.model.specs.Bytes as Model
-use Rattle.model.specs.Bytes.{Step, fresh, instruction, interrupt, readRegisters, setRegisters, judge, judged, lr}
+use Rattle.model.specs.Bytes.{Step, fresh, instruction, interrupt, readRegisters, setRegisters, judge, lr}
 use Rattle.laws.specs.Words.{either}
 use Rattle.laws.specs.Kinds.{Kind, fetched-kind}
 use Rattle.laws.specs.Kinds.Kind.{done, waits, handed, faulted, refused}

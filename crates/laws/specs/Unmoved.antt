@@ -3,13 +3,12 @@
 use mathlib.Core.Path.{_≡_, refl, ap, _∙_}
 use mathlib.Core.Logic.{_≢_}
 use mathlib.Core.List.{List}
-use Prim.Native.Nat.{ℕ, zero, _+_, _-_, _*_, _%_, _≤_, _<_}
+use Prim.Native.Nat.{ℕ, zero, _+_, _≤_, _<_}
 use native.Mathlib.Omega.{arith}
 use lib.ListN.{length, getD, set, length-set}
 use lib.Seq.{getD-set-same}
 use lib.Dec.{eqb, ltb}
 use borrow.Author.Tests.{lt-ltb, le-ltb}
-use Rattle.model.specs.Map as Map
 use Rattle.model.specs.Map.{entriesFull, entryAt, firstControl, firstUnused, keeps, keptCount, lastControl, memorySize, pageSize, pair, place}
 use Rattle.model.specs.Map.{runningLabel, runningPage, state, stopSet, zeroPlace}
 use Rattle.model.specs.Bytes.{store, word}

@@ -4,11 +4,11 @@ use mathlib.Core.Path.{_≡_, ap}
 use mathlib.Core.Logic.{_≢_, _⊎_, inl, inr}
 use mathlib.Core.Bool.{false}
 use mathlib.Core.List.{List, _∷_, _++_}
-use Prim.Native.Nat.{ℕ, _+_, _-_, _≤_}
+use Prim.Native.Nat.{ℕ, _+_, _≤_}
 use native.Mathlib.Omega.{arith}
 use lib.ListN.{length}
-use Rattle.model.specs.Map.{controlPages, freeList, grants, pageSize, processorList}
-use Rattle.model.specs.Lists.{count, Lists, sum, range, linkOf, mails, uses, queues, isGrant}
+use Rattle.model.specs.Map.{controlPages, freeList, processorList}
+use Rattle.model.specs.Lists.{count, Lists, sum, linkOf, mails, uses, queues, isGrant}
 use Rattle.laws.specs.Count.{hit-other, hit-or, count-append, zero-or}
 use Rattle.laws.specs.Chain.{Page}
 use Rattle.laws.specs.Queues.{link-procs, link-other, Header, Good, Apart, Single}

@@ -3,7 +3,7 @@
 use mathlib.Core.Path.{_≡_, refl, sym, ap, _∙_}
 use mathlib.Core.Logic.{_≢_, _⊎_, inl, inr}
 use mathlib.Core.List.{List, [], _∷_, _++_}
-use Prim.Native.Nat.{ℕ, _+_, _-_, _*_, _/_, _%_, _≤_, _<_}
+use Prim.Native.Nat.{ℕ, _+_, _%_, _≤_, _<_}
 use native.Mathlib.Omega.{arith}
 use lib.ListN.{length, length-append}
 use lib.Dec.{eqb}
@@ -17,7 +17,7 @@ use Rattle.laws.specs.Count.{hit-self, hit-other, hit-or, count-append, 
 use Rattle.laws.specs.Queues.{upd, upd-same, upd-other}
 use Rattle.laws.specs.Heads.{one-le, sum-one, sum-two, sum-skip, sum-upd}
 use Rattle.laws.specs.Uses.{Head, Sep, proc-page, list-short}
-use Rattle.laws.specs.Places.{in-queues, int-queue, own-once, q-free}
+use Rattle.laws.specs.Places.{in-queues, int-queue, own-once}
 use Rattle.laws.specs.Inv.{View, Waits, stock, Facts, Base}
 use Rattle.laws.specs.Views.{put1, put1-same, put1-other, withWords, withSem}
 use Rattle.laws.specs.Stores.{sem-mem, state-mem, reason-mem}

@@ -4,9 +4,9 @@ use mathlib.Core.Path.{_≡_, sym, ap, _∙_}
 use mathlib.Core.Logic.{_≢_, _⊎_, inl, inr}
 use mathlib.Core.Bool.{false}
 use mathlib.Core.List.{List, _∷_, _++_}
-use Prim.Native.Nat.{ℕ, _+_, _-_, _*_, _/_, _%_, _≤_, _<_}
+use Prim.Native.Nat.{ℕ, _+_, _%_, _≤_, _<_}
 use native.Mathlib.Omega.{arith}
-use lib.ListN.{length, getD, set, length-append}
+use lib.ListN.{length, getD, length-append}
 use lib.Dec.{eqb}
 use Rattle.model.specs.Map.{controlPages, freeList, freeSemaphore, grantFor, headerAfter, less, link, lower, ownQueue, pageQueue, pageSize, place}
 use Rattle.model.specs.Map.{processorList, q1, q2, raised, reason, state, stopCleared, waitBit, waitCleared, waitIn, zerosIn}
@@ -20,7 +20,7 @@ use Rattle.laws.specs.Queues.{upd, upd-same, upd-other}
 use Rattle.laws.specs.Heads.{sum-one, sum-skip, sum-upd, Seat, seat-of}
 use Rattle.laws.specs.Heads.Seat.{line, page, own}
 use Rattle.laws.specs.Uses.{Head, Sep, proc-page, proc-once, list-short}
-use Rattle.laws.specs.Places.{in-queues, in-free, int-queue, own-once, q-once, free-once, grant-once, grant-low, grant-high, q-free, wait-page}
+use Rattle.laws.specs.Places.{in-queues, in-free, int-queue, own-once, q-once, free-once, grant-once, grant-low, grant-high, wait-page}
 use Rattle.laws.specs.Inv.{View, stock, stock-page, stock-else, Facts, Mem, Base}
 use Rattle.laws.specs.Frames.{other}
 use Rattle.laws.specs.Views.{put1, put1-same, put1-other, withWords, withSem}
