@@ -118,7 +118,7 @@ bool do_message(unsigned code, unsigned name, unsigned flag);
 bool do_wait(unsigned interrupt, unsigned count);
 bool others_ready(void);
 
-/* scenes.c, deep.c, broken.c, lines.c: short plays of some orders each */
+/* scenes.c, crowd.c, broken.c, lines.c: short plays of some orders each */
 void scene_single(void);
 void scene_calls(void);
 void scene_interrupts(void);

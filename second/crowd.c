@@ -1,4 +1,4 @@
-/* Plays that lead to deep states: many processors, no page left, grants, and deletions of all kinds. */
+/* Plays of a crowd: many processors, mail and waits among them, no page left, grants, and deletions of all kinds. */
 #include "generate.h"
 
 /* Creates processors up to a number, many of them in one put, and starts most of them. */
