@@ -1,10 +1,12 @@
 #!/usr/bin/env python3
 """Writes crates/model/specs/Bytes.antt: every definition of the model by a short name at the memory that the code has.
-With --unfolding it prints the line that a statement about computed cases must carry instead. Run at the root of the repository."""
+With --unfolding it prints the line that a statement about computed cases must carry instead; with --check it changes nothing, and fails if that file or
+that line is not what it writes. Run at the root of the repository."""
 import re
 import sys
 
 SPECS = 'crates/model/specs/'
+SCRIPT = 'crates/table/specs/Script.antt'
 FILES = [line.split()[-1] for line in open(SPECS + 'Lib.antt') if line.startswith('pub mod')]
 TYPES = {
     'Registers': 'declared.Registers', 'Arguments': 'declared.Arguments', 'Held': 'declared.Held', 'Verdict': 'declared.Verdict',
@@ -55,7 +57,22 @@ def short_names():
     return '\n'.join(head + memory) + '\n' + text
 
 
+def check():
+    ok = True
+    if open(SPECS + 'Bytes.antt').read() != short_names():
+        print(SPECS + 'Bytes.antt is older than the model: run python3 tools/short_names.py')
+        ok = False
+    words = set(open(SCRIPT).read().split())
+    missing = [x for x in unfolding() if x not in words]
+    if missing:
+        print('%s does not unfold %s: python3 tools/short_names.py --unfolding prints the line' % (SCRIPT, ' '.join(missing)))
+        ok = False
+    return ok
+
+
 if '--unfolding' in sys.argv:
     print('unfolding ' + ' '.join(unfolding()))
+elif '--check' in sys.argv:
+    sys.exit(0 if check() else 1)
 else:
     open(SPECS + 'Bytes.antt', 'w').write(short_names())
