@@ -39,7 +39,7 @@ build_slip() { # SLIP FOLDER
 }
 
 differs() { # PROGRAM SCRIPT EXPECTED
-    timeout 20 "$1" "$2" >"$1.out" 2>/dev/null
+    timeout --foreground 20 "$1" "$2" >"$1.out" 2>/dev/null
     ! cmp -s "$1.out" "$3"
 }
 
