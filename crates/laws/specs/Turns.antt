@@ -88,8 +88,8 @@ nineteen-at f i h =
     (refl, (refl, (refl, (refl, (refl, (refl, (refl, (refl, (refl, (refl, (refl, (refl, (refl, (refl, (refl, (refl, (refl, (refl, (refl, tt)))))))))))))))))))
     i h)
 
--- ---- another runs
-module _ (m : List ℕ) (z : length m ≡ memorySize) (r t : ℕ) (old : r ≢ 0 → Page r) (new : t ≢ 0 → Page t) (apart : r ≢ t) where
+-- ---- another runs, in the place of the processor of page r
+module _ (m : List ℕ) (z : length m ≡ memorySize) (r t : ℕ) (old : r ≢ 0 → Page r) where
   abbrev m1 : List ℕ
   m1 = save m r
 
@@ -99,8 +99,8 @@ module _ (m : List ℕ) (z : length m ≡ memorySize) (r t : ℕ) (old : r ≢ 0
   abbrev tagged : ℕ
   tagged = cond (eqb t 0) 0 (word m2 t Map.label)
 
-  abbrev m3 : List ℕ
-  m3 = set (set m2 runningPage t) runningLabel tagged
+  abbrev pub turnedTo : List ℕ
+  turnedTo = set (set m2 runningPage t) runningLabel tagged
 
   size1 : length m1 ≡ memorySize
   unfolding Turn.save
@@ -127,24 +127,10 @@ module _ (m : List ℕ) (z : length m ≡ memorySize) (r t : ℕ) (old : r ≢ 0
       go true e = rw e
       go false e = rw e (restored-frame keptCount (save m r) (keptOn (save m r) t) a (f (eqb-false t 0 e)))
 
-  -- a word of the new page
-  new-word : t ≢ 0 → (k : ℕ) → k < pageSize → word m1 t k ≡ word m t k
-  new-word d k l = save-else (place t k) (λ c i h. omega (arith, new d))
-
-  turned-page : at m3 runningPage ≡ t
+  pub turned-page : at turnedTo runningPage ≡ t
   turned-page = other (set m2 runningPage t) runningLabel tagged runningPage (omega arith) ∙ getD-set-same m2 runningPage t 0 (omega (arith, size2))
 
-  turned-tag : at m3 runningLabel ≡ cond (eqb t 0) 0 (word m t Map.label)
-  turned-tag =
-      getD-set-same (set m2 runningPage t) runningLabel tagged 0 (simp length-set (omega (arith, size2))) ∙ go (eqb t 0) refl
-    where
-      go : (x : Bool) → eqb t 0 ≡ x → cond x 0 (word m2 t Map.label) ≡ cond x 0 (word m t Map.label)
-      go true e = refl
-      go false e =
-          let d = eqb-false t 0 e in
-          load-else (place t Map.label) (λ c i h. omega (arith, new d, zero-low i h)) ∙ new-word d Map.label (omega arith)
-
-  turned-saved : r ≢ 0 → (i : ℕ) → i < keptCount → word m3 r (keeps i) ≡ at m (zeroPlace i)
+  pub turned-saved : r ≢ 0 → (i : ℕ) → i < keptCount → word turnedTo r (keeps i) ≡ at m (zeroPlace i)
   unfolding Turn.save Turn.onPage0
   turned-saved d i h =
       other (set m2 runningPage t) runningLabel tagged (place r (keeps i)) (omega (arith, old d))
@@ -152,24 +138,43 @@ module _ (m : List ℕ) (z : length m ≡ memorySize) (r t : ℕ) (old : r ≢ 0
       ∙ load-else (place r (keeps i)) (λ c j k. omega (arith, old d, zero-low j k))
       ∙ rw (ne-eqb r 0 d) (kept-at keptCount m r (onPage0 m) z (omega (arith, old d)) (omega arith) i h ∙ nineteen-at (λ j. at m (zeroPlace j)) i h)
 
-  turned-loaded : t ≢ 0 → (i : ℕ) → i < keptCount → at m3 (zeroPlace i) ≡ word m t (keeps i)
-  unfolding Turn.load Turn.keptOn
-  turned-loaded d i h =
-      let l = zero-low i h in
-      other (set m2 runningPage t) runningLabel tagged (zeroPlace i) (omega arith) ∙ other m2 runningPage t (zeroPlace i) (omega arith)
-      ∙ rw (ne-eqb t 0 d) (restored-at keptCount m1 (keptOn m1 t) size1 (omega arith) i h ∙ nineteen-at (λ j. word m1 t (keeps j)) i h)
-      ∙ new-word d (keeps i) (omega arith)
+  pub turned-others : (a : ℕ) → a ≢ runningPage → a ≢ runningLabel → (r ≢ 0 → (i : ℕ) → i < keptCount → a ≢ place r (keeps i))
+      → (t ≢ 0 → (i : ℕ) → i < keptCount → a ≢ zeroPlace i) → at turnedTo a ≡ at m a
+  turned-others a n8 n9 f g =
+      other (set m2 runningPage t) runningLabel tagged a n9 ∙ other m2 runningPage t a n8 ∙ load-else a g ∙ save-else a f
 
-  pub switch-turns : Turned m (switch m r t) r t
-  unfolding Turn.switch Turn.runs
-  switch-turns = rw (ne-eqb r t apart) (record {
-    page = turned-page;
-    tag = turned-tag;
-    saved = turned-saved;
-    loaded = turned-loaded;
-    others = λ a n8 n9 f g.
-        other (set m2 runningPage t) runningLabel tagged a n9 ∙ other m2 runningPage t a n8 ∙ load-else a g ∙ save-else a f;
-  })
+  module _ (new : t ≢ 0 → Page t) where
+    -- a word of the new page
+    new-word : t ≢ 0 → (k : ℕ) → k < pageSize → (r ≢ 0 → (i : ℕ) → i < keptCount → place t k ≢ place r (keeps i)) → word m1 t k ≡ word m t k
+    new-word d k l f = save-else (place t k) f
+
+    turned-tag : at turnedTo runningLabel ≡ cond (eqb t 0) 0 (word m t Map.label)
+    turned-tag =
+        getD-set-same (set m2 runningPage t) runningLabel tagged 0 (simp length-set (omega (arith, size2))) ∙ go (eqb t 0) refl
+      where
+        go : (x : Bool) → eqb t 0 ≡ x → cond x 0 (word m2 t Map.label) ≡ cond x 0 (word m t Map.label)
+        go true e = refl
+        go false e =
+            let d = eqb-false t 0 e in
+            load-else (place t Map.label) (λ c i h. omega (arith, new d, zero-low i h)) ∙ new-word d Map.label (omega arith) (λ c i h. omega arith)
+
+    turned-loaded : r ≢ t → t ≢ 0 → (i : ℕ) → i < keptCount → at turnedTo (zeroPlace i) ≡ word m t (keeps i)
+    unfolding Turn.load Turn.keptOn
+    turned-loaded apart d i h =
+        let l = zero-low i h in
+        other (set m2 runningPage t) runningLabel tagged (zeroPlace i) (omega arith) ∙ other m2 runningPage t (zeroPlace i) (omega arith)
+        ∙ rw (ne-eqb t 0 d) (restored-at keptCount m1 (keptOn m1 t) size1 (omega arith) i h ∙ nineteen-at (λ j. word m1 t (keeps j)) i h)
+        ∙ new-word d (keeps i) (omega arith) (λ c j k. omega arith)
+
+    pub switch-turns : r ≢ t → Turned m (switch m r t) r t
+    unfolding Turn.switch Turn.runs
+    switch-turns apart = rw (ne-eqb r t apart) (record {
+      page = turned-page;
+      tag = turned-tag;
+      saved = turned-saved;
+      loaded = turned-loaded apart;
+      others = turned-others;
+    })
 
 -- ---- "the running one stays": then nothing changes; else another runs
 pub who-turns : (m : List ℕ) → length m ≡ memorySize → (running m ≢ 0 → Page (running m)) → (chosen m ≢ 0 → Page (chosen m))
