@@ -9,6 +9,7 @@ use native.Mathlib.Omega.{arith}
 use lib.ListN.{length, getD, set}
 use lib.Dec.{eqb, leb}
 use borrow.Author.Tests.{eqb-true, eqb-false, leb-true}
+use Rattle.model.specs.Map.{controlPages, isStopped}
 use Rattle.model.specs.Map.{grantFor, label, place, processorList, q1, q2, runningPage, state}
 use Rattle.model.specs.Bytes.{name, running, word}
 use Rattle.model.specs.Delete as Delete
@@ -57,7 +58,7 @@ module _ (m0 : List ℕ) {m : List ℕ} (p n g : ℕ) (n1 : 1 ≤ n) (n2 : n ≤
   in-rest = count-mid p (t .q1) []
 
   abbrev m1 : List ℕ
-  m1 = emptied 20 m n (place p q2)
+  m1 = emptied controlPages m n (place p q2)
 
   queue2 : Queue m (t .procs) p 6 (t .q2) rest g
   queue2 = record {
@@ -72,10 +73,10 @@ module _ (m0 : List ℕ) {m : List ℕ} (p n g : ℕ) (n1 : 1 ≤ n) (n2 : n ≤
   short2 = tot-short (queue2 .base) (t .q2) (λ z. omega (arith, count-append z (t .q2) (t .q1 ++ p ∷ [])))
 
   drained2 : Drained m m1 (t .procs) rest g (place p q2)
-  drained2 = drain p 6 n (omega arith) (omega arith) n1 n2 (t .procs) rest g in-rest (t .q2) 20 short2 queue2
+  drained2 = drain p q2 n (omega arith) (omega arith) n1 n2 (t .procs) rest g in-rest (t .q2) controlPages short2 queue2
 
   grown2 : Grown (t .procs) m m1 (notices m0 p (t .q2))
-  grown2 = emptied-grows m0 p 6 n (omega arith) (omega arith) n1 n2 is (t .procs) rest g in-rest (t .q2) 20 short2 queue2 a2
+  grown2 = emptied-grows m0 p q2 n (omega arith) (omega arith) n1 n2 is (t .procs) rest g in-rest (t .q2) controlPages short2 queue2 a2
 
   in1 : (y : ℕ) → 1 ≤ count y (t .q1) → 1 ≤ count y rest
   in1 y i = omega (arith, count-append y (t .q1) (p ∷ []))
@@ -85,7 +86,7 @@ module _ (m0 : List ℕ) {m : List ℕ} (p n g : ℕ) (n1 : 1 ≤ n) (n2 : n ≤
     lists = drained2 .lists;
     view = drained2 .view;
     base = drained2 .base;
-    chain = chain-move m m1 0 (place p q1) (place p q1) (t .q1) (drained2 .still p 5 in-rest (omega arith) (omega arith)) (λ y i.
+    chain = chain-move m m1 0 (place p q1) (place p q1) (t .q1) (drained2 .still p q1 in-rest (omega arith) (omega arith)) (λ y i.
         drained2 .still y 0 (in1 y i) (omega arith) (omega arith)) (t .chain1);
     letters = record {
       at = λ y i.
@@ -106,8 +107,8 @@ module _ (m0 : List ℕ) {m : List ℕ} (p n g : ℕ) (n1 : 1 ≤ n) (n2 : n ≤
   mail-after : After m (mailReturned m n p) (t .procs) (notices m0 p (t .q2 ++ t .q1)) (p ∷ []) g
   unfolding Delete.mailReturned
   mail-after =
-      let d = drain p 5 n (omega arith) (omega arith) n1 n2 (t .procs) (p ∷ []) g one-p (t .q1) 20 short1 queue1 in
-      let e = emptied-grows m0 p 5 n (omega arith) (omega arith) n1 n2 is (t .procs) (p ∷ []) g one-p (t .q1) 20 short1 queue1 aims1 in
+      let d = drain p q1 n (omega arith) (omega arith) n1 n2 (t .procs) (p ∷ []) g one-p (t .q1) controlPages short1 queue1 in
+      let e = emptied-grows m0 p q1 n (omega arith) (omega arith) n1 n2 is (t .procs) (p ∷ []) g one-p (t .q1) controlPages short1 queue1 aims1 in
       record { lists = d .lists; view = d .view; base = d .base; grown = rw (notices-append m0 p (t .q2) (t .q1)) (grown-then grown2 e) }
 
 -- ---- a page given back after that
@@ -188,7 +189,7 @@ module _ {m : List ℕ} (w : WellFormed m) (d : running m ≢ 0) where
           procs = r .0 ++ r .1;
           were = λ y i. rw (listed b, r .2) (stayed (r .0) p (r .1) c y i);
           after =
-              rw (mail-queue b p 6 h (omega arith) (omega arith), mail-queue b p 5 h (omega arith) (omega arith))
+              rw (mail-queue b p q2 h (omega arith) (omega arith), mail-queue b p q1 h (omega arith) (omega arith))
               (delete-after (r .0) p (r .1) c (rw (r .2) at h) n);
         }
 
@@ -211,8 +212,8 @@ module _ {m : List ℕ} (w : WellFormed m) (d : running m ≢ 0) where
       waits-are : (y : ℕ) → 1 ≤ count y (processors m3) → waitingFor m3 y ≡ waitingFor m y ++ of y letters
       waits-are y i = let j = rw procs-are at i in waits-same (t .base) (posts ended) y j ∙ t .grown .waits y j
 
-      last-is : (y : ℕ) → 1 ≤ count y (processors m3) → held m3 y 5 ≡ held m y 5 ++ of y letters
-      last-is y i = let j = rw procs-are at i in held-same (t .base) (posts ended) y 5 j (omega arith) (omega arith) ∙ t .grown .last y j
+      last-is : (y : ℕ) → 1 ≤ count y (processors m3) → held m3 y q1 ≡ held m y q1 ++ of y letters
+      last-is y i = let j = rw procs-are at i in held-same (t .base) (posts ended) y q1 j (omega arith) (omega arith) ∙ t .grown .last y j
 
       deleted-sent : Sent m m3 (putting letters)
       deleted-sent = record {
@@ -221,11 +222,11 @@ module _ {m : List ℕ} (w : WellFormed m) (d : running m ≢ 0) where
           keeps = λ y h i. (let j = rw procs-are at i in label-same ended y j ∙ t .grown .names y j);
           born = λ y h i. absurd (omega (arith, left .were y (rw procs-are at i)));
         };
-        stands = record { at = λ y i. (held m y 5, last-is y i) };
+        stands = record { at = λ y i. (held m y q1, last-is y i) };
       }
 
   -- "10 NI isn't stopped": the one that runs is not
-  others : (p : ℕ) → leb 128 (word m p state) ≡ true → running m ≢ p
+  others : (p : ℕ) → isStopped (word m p state) ≡ true → running m ≢ p
   others p e q =
       let l = leb-true 128 (word m p state) e in
       let c = ap (λ (y : ℕ). word m y state) q in

@@ -9,6 +9,7 @@ use native.Mathlib.Omega.{arith}
 use lib.ListN.{length, getD, set}
 use lib.Dec.{eqb}
 use borrow.Author.Tests.{eqb-false}
+use Rattle.model.specs.Map.{lower, notice, q1, q2, upper}
 use Rattle.model.specs.Map.{label, link, note, place, size}
 use Rattle.model.specs.Bytes.{name, store, word}
 use Rattle.model.specs.Delete as Delete
@@ -31,22 +32,22 @@ use Rattle.history.specs.Returning.{sentBack, notices-next, notices-none
 
 -- ---- to whom message q goes back, by the memory of that moment; 0: to none
 abbrev pub backTo : List ℕ → ℕ → ℕ
-backTo m q = cond (eqb (word m q size) 128) 0 (pageOf m (word m q note / 16))
+backTo m q = cond (eqb (word m q size) notice) 0 (pageOf m (upper (word m q note)))
 
 module _ {m : List ℕ} {ps : List ℕ} {L : Lists} {W : View} {hs : List ℕ} {g q : ℕ} (b : Base m ps L W (q ∷ hs) g) where
   returned-grows : (n : ℕ) → 1 ≤ n → n ≤ 15 → Message (word m q note) (word m q size)
-      → Grown ps m (returned m n q) (sentBack (backTo m q) n (word m q note % 16))
+      → Grown ps m (returned m n q) (sentBack (backTo m q) n (lower (word m q note)))
   unfolding Delete.returned Delete.noticed
-  returned-grows n n1 n2 t = go (eqb (word m q size) 128) (eqb (pageOf m (word m q note / 16)) 0) refl refl
+  returned-grows n n1 n2 t = go (eqb (word m q size) notice) (eqb (pageOf m (upper (word m q note))) 0) refl refl
     where
-      go : (x y : Bool) → eqb (word m q size) 128 ≡ x → eqb (pageOf m (word m q note / 16)) 0 ≡ y
-          → Grown ps m (returned m n q) (sentBack (backTo m q) n (word m q note % 16))
+      go : (x y : Bool) → eqb (word m q size) notice ≡ x → eqb (pageOf m (upper (word m q note))) 0 ≡ y
+          → Grown ps m (returned m n q) (sentBack (backTo m q) n (lower (word m q note)))
       go true y e f = rw e (give-grows b)
       go false true e f = rw (e, f) (give-grows b)
       go false false e f =
-          let r = pageOf m (word m q note / 16) in
-          let hp = named-in b (word m q note / 16) (eqb-false r 0 f) in
-          rw (e, f) (notice-grows b n (word m q note % 16) r n1 n2 (t .flag) (t .small) hp)
+          let r = pageOf m (upper (word m q note)) in
+          let hp = named-in b (upper (word m q note)) (eqb-false r 0 f) in
+          rw (e, f) (notice-grows b n (lower (word m q note)) r n1 n2 (t .flag) (t .small) hp)
 
 -- ---- m0 is the memory before the instruction, p the deleted one: in m the messages xs go back as m0 says
 pub record Aims (m0 : List ℕ) (p : ℕ) (m : List ℕ) (xs : List ℕ) : Type 0 where
@@ -71,7 +72,7 @@ aims-on b c names i same a = record {
 }
 
 -- ---- the queue with header word w of page p
-module _ (m0 : List ℕ) (p w n : ℕ) (u : 5 ≤ w) (v : w ≤ 6) (n1 : 1 ≤ n) (n2 : n ≤ 15) (is : n ≡ name m0 p) (ps rest : List ℕ) (g : ℕ)
+module _ (m0 : List ℕ) (p w n : ℕ) (u : q1 ≤ w) (v : w ≤ q2) (n1 : 1 ≤ n) (n2 : n ≤ 15) (is : n ≡ name m0 p) (ps rest : List ℕ) (g : ℕ)
     (hp : 1 ≤ count p rest) where
   module _ {m : List ℕ} {x : ℕ} {xs : List ℕ} (q : Queue m ps p w (x ∷ xs) rest g) (a : Aims m0 p m (x ∷ xs)) where
     in-p : 1 ≤ count p (x ∷ xs ++ rest)

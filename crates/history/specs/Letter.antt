@@ -10,7 +10,9 @@ use native.Mathlib.Omega.{arith}
 use lib.ListN.{getD}
 use lib.Dec.{eqb}
 use borrow.Author.Tests.{eqb-true}
-use Rattle.model.specs.Map.{link, longest, memorySize, note, processorList}
+use Rattle.model.specs.Map.{controlPages, listLink, lower, upper}
+use Rattle.model.specs.Map as Map
+use Rattle.model.specs.Map.{lengthIn, notice, pageSize, wordValues, link, longest, memorySize, note, processorList}
 use Rattle.model.specs.Bytes.{word}
 use Rattle.model.specs.Map.{label, place, q1, q2, text}
 use Rattle.model.specs.Address.{wrapped}
@@ -74,7 +76,7 @@ one-key n f s g x y p q =
 
 pub asked-page : (m : List ℕ) (n f q : ℕ) → asked n f (mailOf m q) ≡ fits n f (word m q note)
 unfolding mailOf
-asked-page m n f q = let e : word m q note / 16 * 16 + word m q note % 16 ≡ word m q note = omega arith in rw e
+asked-page m n f q = let e : upper (word m q note) * 16 + lower (word m q note) ≡ word m q note = omega arith in rw e
 
 -- ---- texts that are equal word for word
 pub next-sum : (a i : ℕ) → (wrapped a 1 + i) % memorySize ≡ (a + suc i) % memorySize
@@ -102,21 +104,21 @@ words-moved m m′ a b (suc n) la lb h =
           rw (da, db) (h (suc i) (omega arith))),
     )
 
--- ---- words 1 to 31
+-- ---- all words but the link
 abbrev pub Texts : List ℕ → List ℕ → ℕ → Type 0
-Texts m m′ x = (j : ℕ) → 1 ≤ j → j < 32 → word m′ x j ≡ word m x j
+Texts m m′ x = (j : ℕ) → note ≤ j → j < pageSize → word m′ x j ≡ word m x j
 
 -- "word 2 of a message 0-29 or 128"
 abbrev pub Sized : List ℕ → ℕ → Type 0
-Sized m x = word m x 2 % 128 ≤ longest
+Sized m x = lengthIn (word m x Map.size) ≤ longest
 
-pub mail-same : (m m′ : List ℕ) (x : ℕ) → x < 256 → Sized m x → Texts m m′ x → mailOf m′ x ≡ mailOf m x
+pub mail-same : (m m′ : List ℕ) (x : ℕ) → x < wordValues → Sized m x → Texts m m′ x → mailOf m′ x ≡ mailOf m x
 unfolding mailOf
 mail-same m m′ x g l h =
-    let n = word m x 2 % 128 in
-    let w : words m′ (place x 3) n ≡ words m (place x 3) n = words-moved m m′ (place x 3) (place x 3) n (omega arith) (omega arith) (λ i u.
-    let e : (place x 3 + i) % memorySize ≡ x * 32 + (3 + i) = omega arith in rw e (h (3 + i) (omega arith) (omega arith))) in
-    rw (h 1 (omega arith) (omega arith), h 2 (omega arith) (omega arith), w)
+    let n = lengthIn (word m x Map.size) in
+    let w : words m′ (place x text) n ≡ words m (place x text) n = words-moved m m′ (place x text) (place x text) n (omega arith) (omega arith) (λ i u.
+    let e : (place x text + i) % memorySize ≡ place x (text + i) = omega arith in rw e (h (text + i) (omega arith) (omega arith))) in
+    rw (h note (omega arith) (omega arith), h Map.size (omega arith) (omega arith), w)
 
 -- a message page whose text stays
 pub record Stays (m m′ : List ℕ) (x : ℕ) : Type 0 where
@@ -138,20 +140,20 @@ map-append g (x ∷ xs) ys = rw (map-append g xs ys)
 abbrev pub held : List ℕ → ℕ → ℕ → List Letter
 held m p w = map (mailOf m) (queue m (place p w))
 
-pub waits-held : (m : List ℕ) (p : ℕ) → waitingFor m p ≡ held m p 6 ++ held m p 5
+pub waits-held : (m : List ℕ) (p : ℕ) → waitingFor m p ≡ held m p q2 ++ held m p q1
 unfolding waitingFor
 waits-held m p = map-append (mailOf m) (queue m (place p q2)) (queue m (place p q1))
 
 -- ---- the words of Q1 and Q2: their headers, and all words of their pages
 pub data Mine (ps : List ℕ) (L : Lists) (c : ℕ) : Type 0 where
-  head : (p w : ℕ) → 1 ≤ count p ps → 5 ≤ w → w ≤ 6 → c ≡ place p w → Mine ps L c
-  page : (p w x j : ℕ) → 1 ≤ count p ps → 5 ≤ w → w ≤ 6 → 1 ≤ count x (L (place p w)) → j < 32 → c ≡ place x j → Mine ps L c
+  head : (p w : ℕ) → 1 ≤ count p ps → q1 ≤ w → w ≤ q2 → c ≡ place p w → Mine ps L c
+  page : (p w x j : ℕ) → 1 ≤ count p ps → q1 ≤ w → w ≤ q2 → 1 ≤ count x (L (place p w)) → j < pageSize → c ≡ place x j → Mine ps L c
 
 -- with them the words of the processor list, and each processor's priority and name
 pub data Ours (ps : List ℕ) (L : Lists) (c : ℕ) : Type 0 where
   mail : Mine ps L c → Ours ps L c
   first : c ≡ processorList → Ours ps L c
-  next : (z : ℕ) → 1 ≤ count z ps → c ≡ place z 1 → Ours ps L c
+  next : (z : ℕ) → 1 ≤ count z ps → c ≡ place z listLink → Ours ps L c
   named : (z : ℕ) → 1 ≤ count z ps → c ≡ place z label → Ours ps L c
 
 -- a step leaves them alone; the words of Q1 and Q2 alone
@@ -169,7 +171,7 @@ posts-on f g = record { at = λ c h. g .at c h ∙ f .at c h }
 
 -- two families of lists agree on Q1 and Q2
 abbrev pub Agree : List ℕ → Lists → Lists → Type 0
-Agree ps L K = (p w : ℕ) → 1 ≤ count p ps → 5 ≤ w → w ≤ 6 → K (place p w) ≡ L (place p w)
+Agree ps L K = (p w : ℕ) → 1 ≤ count p ps → q1 ≤ w → w ≤ q2 → K (place p w) ≡ L (place p w)
 
 pub mine-agree : {ps : List ℕ} {L K : Lists} {c : ℕ} → Agree ps L K → Mine ps L c → Mine ps K c
 mine-agree a (head p w h u v e) = head p w h u v e
@@ -195,47 +197,48 @@ same-on f g = record { at = λ c h. g .at c h ∙ f .at c h }
 
 -- ---- then the lists stay
 module _ {m : List ℕ} {ps : List ℕ} {L : Lists} {W : View} {hs : List ℕ} {g : ℕ} (b : Base m ps L W hs g) where
-  pub letter-sized : (p w x : ℕ) → 1 ≤ count p ps → 5 ≤ w → w ≤ 6 → 1 ≤ count x (L (place p w)) → Sized m x
+  pub letter-sized : (p w x : ℕ) → 1 ≤ count p ps → q1 ≤ w → w ≤ q2 → 1 ≤ count x (L (place p w)) → Sized m x
   letter-sized p w x h u v i =
       let t = b .facts .mail p w h u v x i in
       let n = q-free (b .facts .sep) p w x u v h i in
       let e = b .mem .reads .words .size x (n .0) (n .1) in
-      go (hit-or (word m x 2) 128) t e
+      go (hit-or (word m x Map.size) notice) t e
     where
-      go : (word m x 2 ≡ 128) ⊎ (word m x 2 ≢ 128) → Message (W .note x) (W .size x) → word m x 2 ≡ W .size x → Sized m x
+      go : (word m x Map.size ≡ notice) ⊎ (word m x Map.size ≢ notice) → Message (W .note x) (W .size x) → word m x Map.size ≡ W .size x → Sized m x
       go (inl z) t e = omega arith
       go (inr z) t e = let y = t .long (λ f. z (e ∙ f)) in omega arith
 
   module _ {m′ : List ℕ} (s : Posts ps L m m′) where
-    pub chain-same : (p w : ℕ) → 1 ≤ count p ps → 5 ≤ w → w ≤ 6 → Chain m′ 0 (place p w) (L (place p w))
+    pub chain-same : (p w : ℕ) → 1 ≤ count p ps → q1 ≤ w → w ≤ q2 → Chain m′ 0 (place p w) (L (place p w))
     chain-same p w h u v =
         chain-move m m′ 0 (place p w) (place p w) (L (place p w)) (s .at (place p w) (head p w h u v refl))
         (λ x i. s .at (place x link) (page p w x 0 h u v i (omega arith) refl)) (mail-chain b p w h u v)
 
-    pub queue-same : (p w : ℕ) → 1 ≤ count p ps → 5 ≤ w → w ≤ 6 → queue m′ (place p w) ≡ L (place p w)
-    queue-same p w h u v = walk-chain 20 m′ 0 (place p w) (L (place p w)) (chain-same p w h u v) (list-short (b .facts .sep) (place p w) (in-q ps p w u v h))
+    pub queue-same : (p w : ℕ) → 1 ≤ count p ps → q1 ≤ w → w ≤ q2 → queue m′ (place p w) ≡ L (place p w)
+    queue-same p w h u v =
+        walk-chain controlPages m′ 0 (place p w) (L (place p w)) (chain-same p w h u v) (list-short (b .facts .sep) (place p w) (in-q ps p w u v h))
 
     pub agrees : {K : Lists} {X : View} {hs2 : List ℕ} {g2 : ℕ} → Base m′ ps K X hs2 g2 → Agree ps L K
     agrees b2 p w h u v = sym (mail-queue b2 p w h u v) ∙ queue-same p w h u v
 
-    pub texts-same : (p w x : ℕ) → 1 ≤ count p ps → 5 ≤ w → w ≤ 6 → 1 ≤ count x (L (place p w)) → Stays m m′ x
+    pub texts-same : (p w x : ℕ) → 1 ≤ count p ps → q1 ≤ w → w ≤ q2 → 1 ≤ count x (L (place p w)) → Stays m m′ x
     texts-same p w x h u v i = record {
       page = q-free (b .facts .sep) p w x u v h i .0;
       sized = letter-sized p w x h u v i;
       texts = λ j k l. s .at (place x j) (page p w x j h u v i l refl);
     }
 
-    pub held-same : (p w : ℕ) → 1 ≤ count p ps → 5 ≤ w → w ≤ 6 → held m′ p w ≡ held m p w
+    pub held-same : (p w : ℕ) → 1 ≤ count p ps → q1 ≤ w → w ≤ q2 → held m′ p w ≡ held m p w
     held-same p w h u v =
         rw (queue-same p w h u v, mail-queue b p w h u v) (mails-same m m′ (L (place p w)) (λ x i. texts-same p w x h u v i))
 
     pub waits-same : (p : ℕ) → 1 ≤ count p ps → waitingFor m′ p ≡ waitingFor m p
     waits-same p h =
-        rw (waits-held m′ p, waits-held m p, held-same p 6 h (omega arith) (omega arith), held-same p 5 h (omega arith) (omega arith))
+        rw (waits-held m′ p, waits-held m p, held-same p q2 h (omega arith) (omega arith), held-same p q1 h (omega arith) (omega arith))
 
   -- what waits, by the lists
   pub waits-by : (p : ℕ) → 1 ≤ count p ps → waitingFor m p ≡ map (mailOf m) (L (place p q2)) ++ map (mailOf m) (L (place p q1))
-  waits-by p h = waits-held m p ∙ rw (mail-queue b p 6 h (omega arith) (omega arith), mail-queue b p 5 h (omega arith) (omega arith))
+  waits-by p h = waits-held m p ∙ rw (mail-queue b p q2 h (omega arith) (omega arith), mail-queue b p q1 h (omega arith) (omega arith))
 
   -- and who lives, with priority and name
   pub procs-same : {m′ : List ℕ} → Same ps L m m′ → processors m′ ≡ ps
@@ -243,8 +246,8 @@ module _ {m : List ℕ} {ps : List ℕ} {L : Lists} {W : View} {hs : List ℕ} {
       let s = b .facts .sep in
       let h : Head ps processorList = (in-procs ps, grant-low processorList (omega arith)) in
       let c = rw (link-procs, s .procs) at (b .mem .holds .rep processorList h) in
-      walk-chain 20 m′ 1 processorList ps (chain-move m m′ 1 processorList processorList ps (t .at processorList (first refl))
-      (λ x i. t .at (place x 1) (next x i refl)) c)
+      walk-chain controlPages m′ 1 processorList ps (chain-move m m′ 1 processorList processorList ps (t .at processorList (first refl))
+      (λ x i. t .at (place x listLink) (next x i refl)) c)
       (rw (s .procs) at (list-short s processorList (in-procs ps)))
 
 -- ---- a step that may change the lists, and leaves words 1 to 31 of every page that is no processor's
@@ -253,11 +256,11 @@ pub record Texted (ps : List ℕ) (m m′ : List ℕ) : Type 0 where
 
 -- then what waits is what the lists say, with the messages of before
 module _ {m m2 : List ℕ} {ps : List ℕ} {K : Lists} {X : View} {hs : List ℕ} {g : ℕ} (b2 : Base m2 ps K X hs g) (t : Texted ps m m2) where
-  pub held-through : (p w : ℕ) → 1 ≤ count p ps → 5 ≤ w → w ≤ 6 → held m2 p w ≡ map (mailOf m) (K (place p w))
+  pub held-through : (p w : ℕ) → 1 ≤ count p ps → q1 ≤ w → w ≤ q2 → held m2 p w ≡ map (mailOf m) (K (place p w))
   held-through p w h u v =
       rw (mail-queue b2 p w h u v) (sym (mails-same m2 m (K (place p w)) (λ x i.
       let f = q-free (b2 .facts .sep) p w x u v h i in
       record { page = f .0; sized = letter-sized b2 p w x h u v i; texts = λ j k l. sym (t .at x (f .0) (f .1) j k l) })))
 
   pub waits-through : (p : ℕ) → 1 ≤ count p ps → waitingFor m2 p ≡ map (mailOf m) (K (place p q2)) ++ map (mailOf m) (K (place p q1))
-  waits-through p h = waits-held m2 p ∙ rw (held-through p 6 h (omega arith) (omega arith), held-through p 5 h (omega arith) (omega arith))
+  waits-through p h = waits-held m2 p ∙ rw (held-through p q2 h (omega arith) (omega arith), held-through p q1 h (omega arith) (omega arith))

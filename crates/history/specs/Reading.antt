@@ -6,6 +6,7 @@ use mathlib.Core.List.{List, [], _∷_, _++_, append-assoc, append-nil, map}
 use Prim.Native.Nat.{ℕ, _+_, _-_, _*_, _%_, _≤_}
 use native.Mathlib.Omega.{arith}
 use lib.ListN.{getD}
+use Rattle.model.specs.Map.{headWords, lengthIn}
 use Rattle.model.specs.Map.{place, processorList, q1, q2, size}
 use Rattle.model.specs.Address.{wrapped}
 use Rattle.model.specs.Bytes.{running, word}
@@ -37,10 +38,11 @@ use Rattle.history.specs.Moving.{leave-texts}
 use Rattle.history.specs.Tests.{Found, found}
 
 -- what RME writes: three words and the text
-pub out-calm : {ps : List ℕ} {L : Lists} → Sep ps L → (m : List ℕ) (q a : ℕ) → clear (3 + word m q size % 128) a ≡ true → Same ps L m (copyOut m q a)
+pub out-calm : {ps : List ℕ} {L : Lists} → Sep ps L → (m : List ℕ) (q a : ℕ) → clear (headWords + lengthIn (word m q size)) a ≡ true
+    → Same ps L m (copyOut m q a)
 out-calm s m q a h = record {
   at = λ c o. out-far m q a c (ours-fits s o) (λ i l.
-      let t = clear-far (wrapped a i) (clear-at (3 + word m q size % 128) a h i l) in ours-low s o (wrapped a i) (t .0) (t .1));
+      let t = clear-far (wrapped a i) (clear-at (headWords + lengthIn (word m q size)) a h i l) in ours-low s o (wrapped a i) (t .0) (t .1));
 }
 
 -- ---- message q leaves Q2, and its page is given back
@@ -53,10 +55,10 @@ module _ {m : List ℕ} {ps : List ℕ} {L : Lists} {W : View} (b : Base m ps L 
   m1 = leave m (place p q2) 0 q
 
   b1 : Base m1 ps J W (q ∷ []) 32
-  b1 = take-mail b p 6 q xs ys h (omega arith) (omega arith) e
+  b1 = take-mail b p q2 q xs ys h (omega arith) (omega arith) e
 
   left-texts : Texted ps m m1
-  left-texts = leave-texts b p 6 q xs ys h (omega arith) (omega arith) e
+  left-texts = leave-texts b p q2 q xs ys h (omega arith) (omega arith) e
 
   abbrev M : List ℕ → List Letter
   M l = map (mailOf m) l
@@ -90,7 +92,7 @@ module _ {m : List ℕ} (w : WellFormed m) (d : running m ≢ 0) where
   abbrev r : ℕ
   r = running m
 
-  received-told : (n f q a len : ℕ) → Found m n f q (lists m (place r q2)) → clear (3 + word m q size % 128) a ≡ true
+  received-told : (n f q a len : ℕ) → Found m n f q (lists m (place r q2)) → clear (headWords + lengthIn (word m q size)) a ≡ true
       → Told m (memoryOf (Model.done (Model.received m q a) len)) (reading r (mailOf m q) a)
   unfolding Operate.received
   received-told n f q a len t cl =
@@ -101,7 +103,7 @@ module _ {m : List ℕ} (w : WellFormed m) (d : running m ≢ 0) where
       let ys = t .behind in
       let m1 = leave x (place r q2) 0 q in
       let m2 = giveBack m1 q in
-      let b1 = take-mail bx r 6 q xs ys hr (omega arith) (omega arith) (t .is) in
+      let b1 = take-mail bx r q2 q xs ys hr (omega arith) (omega arith) (t .is) in
       let g2 = give-back b1 in
       let d2 : Same (lists m processorList) (g2 .lists) m2 (memoryOf (Model.done m2 len)) = calm-done (g2 .base .facts .sep) m2 (runs-in (g2 .base)) len in
       let pr : processors (memoryOf (Model.done m2 len)) ≡ processors m = procs-same (g2 .base) d2 ∙ sym (listed b) in
@@ -111,9 +113,9 @@ module _ {m : List ℕ} (w : WellFormed m) (d : running m ≢ 0) where
       let inside : (z : ℕ) → 1 ≤ count z (xs ++ q ∷ []) → 1 ≤ count z (lists m (place r q2)) = λ z i.
       rw (t .is) (omega (arith, count-append z xs (q ∷ []), count-append z xs (q ∷ ys))) in
       let ms : (zs : List ℕ) → ((z : ℕ) → 1 ≤ count z zs → 1 ≤ count z (xs ++ q ∷ [])) → map (mailOf x) zs ≡ map (mailOf m) zs = λ zs k.
-      mails-same m x zs (λ z i. texts-same b (posts sx) r 6 z hr (omega arith) (omega arith) (inside z (k z i))) in
+      mails-same m x zs (λ z i. texts-same b (posts sx) r q2 z hr (omega arith) (omega arith) (inside z (k z i))) in
       let mx = ms xs (λ z i. omega (arith, count-append z xs (q ∷ []))) in
-      let mq : mailOf x q ≡ mailOf m q = let tq = texts-same b (posts sx) r 6 q hr (omega arith) (omega arith)
+      let mq : mailOf x q ≡ mailOf m q = let tq = texts-same b (posts sx) r q2 q hr (omega arith) (omega arith)
       (inside q (count-mid q xs [])) in mail-same m x q (tq .page .1) (tq .sized) (tq .texts) in
       record {
         at = λ p h i k l.
@@ -144,4 +146,4 @@ module _ {m : List ℕ} (w : WellFormed m) (d : running m ≢ 0) where
       (record { before = t .before; behind = t .behind; is = sym q6 ∙ t .is; match = t .match; none = t .none }) (g .target))
     where
       q6 : queue m (place r q2) ≡ lists m (place r q2)
-      q6 = mail-queue b r 6 hr (omega arith) (omega arith)
+      q6 = mail-queue b r q2 hr (omega arith) (omega arith)

@@ -8,6 +8,7 @@ use Prim.Native.Nat.{ℕ, _+_, _*_, _%_, _≤_}
 use native.Mathlib.Omega.{arith}
 use lib.ListN.{getD}
 use lib.Dec.{eqb}
+use Rattle.model.specs.Map.{lower, q1}
 use Rattle.model.specs.Map.{label, note, place}
 use Rattle.model.specs.Bytes.{name, word}
 use Rattle.model.specs.Bytes.{giveBack, deliver, makeNotice}
@@ -34,12 +35,12 @@ abbrev pub sentBack : ℕ → ℕ → ℕ → Log
 sentBack r n f = cond (eqb r 0) [] ((r, noticeFrom n f) ∷ [])
 
 pub notices-next : (m : List ℕ) (p q : ℕ) (qs : List ℕ)
-    → notices m p (q ∷ qs) ≡ sentBack (returnsTo m p q) (name m p) (word m q note % 16) ++ notices m p qs
+    → notices m p (q ∷ qs) ≡ sentBack (returnsTo m p q) (name m p) (lower (word m q note)) ++ notices m p qs
 unfolding notices
 notices-next m p q qs = go (eqb (returnsTo m p q) 0) refl
   where
     go : (b : Bool) → eqb (returnsTo m p q) 0 ≡ b
-        → notices m p (q ∷ qs) ≡ sentBack (returnsTo m p q) (name m p) (word m q note % 16) ++ notices m p qs
+        → notices m p (q ∷ qs) ≡ sentBack (returnsTo m p q) (name m p) (lower (word m q note)) ++ notices m p qs
     go true e = rw (e, notices)
     go false e = rw (e, notices)
 
@@ -57,20 +58,20 @@ notices-append m p (x ∷ xs) ys =
 -- ---- from m to m1 what waits for the processors ps grows by l, at the end of Q1, and their names stay
 pub record Grown (ps : List ℕ) (m m1 : List ℕ) (l : Log) : Type 0 where
   pub waits : (y : ℕ) → 1 ≤ count y ps → waitingFor m1 y ≡ waitingFor m y ++ of y l
-  pub last : (y : ℕ) → 1 ≤ count y ps → held m1 y 5 ≡ held m y 5 ++ of y l
+  pub last : (y : ℕ) → 1 ≤ count y ps → held m1 y q1 ≡ held m y q1 ++ of y l
   pub names : (y : ℕ) → 1 ≤ count y ps → word m1 y label ≡ word m y label
 
 pub grown-refl : (ps m : List ℕ) → Grown ps m m []
 grown-refl ps m = record {
   waits = λ y h. rw (of-none y) (sym (append-nil (waitingFor m y)));
-  last = λ y h. rw (of-none y) (sym (append-nil (held m y 5)));
+  last = λ y h. rw (of-none y) (sym (append-nil (held m y q1)));
   names = λ y h. refl;
 }
 
 pub grown-then : {ps m m1 m2 : List ℕ} {l k : Log} → Grown ps m m1 l → Grown ps m1 m2 k → Grown ps m m2 (l ++ k)
 grown-then {m = m} {l = l} {k = k} f g = record {
   waits = λ y h. rw (g .waits y h, f .waits y h, of-append y l k) (append-assoc (waitingFor m y) (of y l) (of y k));
-  last = λ y h. rw (g .last y h, f .last y h, of-append y l k) (append-assoc (held m y 5) (of y l) (of y k));
+  last = λ y h. rw (g .last y h, f .last y h, of-append y l k) (append-assoc (held m y q1) (of y l) (of y k));
   names = λ y h. g .names y h ∙ f .names y h;
 }
 
@@ -80,7 +81,7 @@ pub grown-same : {m : List ℕ} {ps : List ℕ} {L : Lists} {W : View} {hs : Lis
     → ((y : ℕ) → 1 ≤ count y qs → word m1 y label ≡ word m y label) → Grown qs m m1 []
 grown-same {m} b s qs i n = record {
   waits = λ y h. rw (of-none y, waits-same b s y (i y h)) (sym (append-nil (waitingFor m y)));
-  last = λ y h. rw (of-none y, held-same b s y 5 (i y h) (omega arith) (omega arith)) (sym (append-nil (held m y 5)));
+  last = λ y h. rw (of-none y, held-same b s y q1 (i y h) (omega arith) (omega arith)) (sym (append-nil (held m y q1)));
   names = n;
 }
 
@@ -118,8 +119,8 @@ module _ {m : List ℕ} {ps : List ℕ} {L : Lists} {W : View} {hs : List ℕ} {
         waits = λ y h.
             grows waitingFor y (delivered-here b2 p hp t) (λ d. delivered-away b2 p hp t y h d) (waits-same b (notice-posts n f) y h) (hit-or y p);
         last = λ y h.
-            grows (λ x z. held x z 5) y (delivered-last b2 p hp t) (λ d. delivered-other b2 p hp t y h d)
-            (held-same b (notice-posts n f) y 5 h (omega arith) (omega arith)) (hit-or y p);
+            grows (λ x z. held x z q1) y (delivered-last b2 p hp t) (λ d. delivered-other b2 p hp t y h d)
+            (held-same b (notice-posts n f) y q1 h (omega arith) (omega arith)) (hit-or y p);
         names = λ y h.
             let d : y ≢ q = λ e. omega (arith, ap (λ (z : ℕ). count z ps) e, hand-out b q (in-hand b)) in
             deliver-names b2 y h p hp t ∙ only-word o y 7 d (omega arith);

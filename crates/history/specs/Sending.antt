@@ -9,6 +9,7 @@ use native.Mathlib.Omega.{arith}
 use lib.ListN.{getD, set}
 use lib.Dec.{eqb}
 use borrow.Author.Tests.{eqb-false, ne-eqb}
+use Rattle.model.specs.Map.{q1}
 use Rattle.model.specs.Map as Map
 use Rattle.model.specs.Map.{guardedLast, label, longest, memorySize, note, notice, place, processorList}
 use Rattle.model.specs.Address.{wrapped}
@@ -100,10 +101,10 @@ module _ {m : List ℕ} {ps : List ℕ} {L : Lists} {W : View} (b : Base m ps L 
   put-stands : Stands m4 (putting ((p, x) ∷ []))
   put-stands = record { at = λ y h. cases y (rw procs4 at h) (hit-or y p) }
     where
-      cases : (y : ℕ) → 1 ≤ count y ps → (y ≡ p) ⊎ (y ≢ p) → (zs : List Letter) × (held m4 y 5 ≡ zs ++ of y ((p, x) ∷ []))
+      cases : (y : ℕ) → 1 ≤ count y ps → (y ≡ p) ⊎ (y ≢ p) → (zs : List Letter) × (held m4 y q1 ≡ zs ++ of y ((p, x) ∷ []))
       cases y h (inl e) =
-          (held m2 p 5, rw (e, of-here p x) (held-same (g3 .base) (posts d3) p 5 hp (omega arith) (omega arith) ∙ delivered-last b2 p hp t2))
-      cases y h (inr n) = (held m4 y 5, rw (of-other y p x n) (sym (append-nil (held m4 y 5))))
+          (held m2 p q1, rw (e, of-here p x) (held-same (g3 .base) (posts d3) p q1 hp (omega arith) (omega arith) ∙ delivered-last b2 p hp t2))
+      cases y h (inr n) = (held m4 y q1, rw (of-other y p x n) (sym (append-nil (held m4 y q1))))
 
   pub put-sent : Sent m m4 (putting ((p, x) ∷ []))
   put-sent = record { told = put-told; stands = put-stands }

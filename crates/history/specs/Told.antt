@@ -9,6 +9,8 @@ use native.Mathlib.Omega.{arith}
 use lib.ListN.{getD, set}
 use lib.Dec.{eqb}
 use borrow.Author.Tests.{eq-eqb, ne-eqb}
+use Rattle.model.specs.Map.{entryAt, firstUnused, flagsKept, high, low, state, waitIn}
+use Rattle.model.specs.Address.{wrapped}
 use Rattle.model.specs.Map.{highLr, label, lowLr, memorySize, runningPage}
 use Rattle.model.specs.Bytes.{running, store, word}
 use Rattle.model.specs.Map.{place, q1}
@@ -103,8 +105,8 @@ module _ {ps : List ℕ} {L : Lists} (s : Sep ps L) (m : List ℕ) (g : running 
   unfolding Processor.setLr
   lr-run a =
       let r = running m in
-      let v = word m r highLr / 32 * 32 + a / 256 % 32 in
-      other (store m r highLr v) (place r lowLr) (a % 256) runningPage (omega arith) ∙ other m (place r highLr) v runningPage (omega arith)
+      let v = flagsKept (word m r highLr) (high a) in
+      other (store m r highLr v) (place r lowLr) (low a) runningPage (omega arith) ∙ other m (place r highLr) v runningPage (omega arith)
 
   calm-goes : (a : ℕ) → Same ps L m (whoRuns (setLr m (running m) a))
   calm-goes a = same-on (calm-lr s m (running m) a g) (calm-turn s (setLr m (running m) a) (rw (lr-run a) g))
@@ -115,7 +117,7 @@ module _ {ps : List ℕ} {L : Lists} (s : Sep ps L) (m : List ℕ) (g : running 
 
   pub calm-done : (len : ℕ) → Same ps L m (memoryOf (done m len))
   unfolding Answer.done Answer.memoryOf Processor.advance
-  calm-done len = calm-goes ((lr m + len) % memorySize)
+  calm-done len = calm-goes (wrapped (lr m) len)
 
 module _ {m : List ℕ} {ps : List ℕ} {L : Lists} {W : View} {hs : List ℕ} {g : ℕ} (b : Base m ps L W hs g) where
   -- the one that runs is a processor
@@ -131,11 +133,12 @@ module _ {m : List ℕ} {ps : List ℕ} {L : Lists} {W : View} {hs : List ℕ} {
         let n = b .mem .reads .fixed .next in
         let l = b .facts .faults .range in
         fault-frame m f (b .mem .size) (pg .0) (omega (arith, pg .1)) c (ours-unmoved s h r runs-in)
-        (ours-proc s h r 12 (runs-in d) (omega arith) (omega arith) (omega arith) (omega arith) (omega arith)) (ours-low s h 288 (omega arith) (omega arith))
-        (ours-low s h (288 + getD m 288 0) (omega arith) (omega arith));
+        (ours-proc s h r state (runs-in d) (omega arith) (omega arith) (omega arith) (omega arith) (omega arith))
+        (ours-low s h firstUnused (omega arith) (omega arith))
+        (ours-low s h (entryAt (getD m firstUnused 0)) (omega arith) (omega arith));
   }
 
-  pub calm-waits : (a w : ℕ) → W .low runningPage ≢ 0 → 1 ≤ count (a + 1) (queues ps) → W .state (W .low runningPage) % 128 / 64 ≡ 0
+  pub calm-waits : (a w : ℕ) → W .low runningPage ≢ 0 → 1 ≤ count (a + 1) (queues ps) → waitIn (W .state (W .low runningPage)) ≡ 0
       → Fit ps L W a (W .low runningPage) w
       → Same ps L m (memoryOf (waits m a w))
   unfolding Answer.waits Answer.memoryOf

@@ -8,7 +8,8 @@ use Prim.Native.Nat.{ℕ, zero, suc, _+_, _-_, _*_, _/_, _%_, _≤_, _<_}
 use native.Mathlib.Omega.{arith}
 use lib.ListN.{length, getD, set, length-set}
 use lib.Seq.{getD-set-same}
-use Rattle.model.specs.Map.{freeList, grantFor, longest, memorySize, note, pageQueue, place, processorList, q2, runningLabel, runningPage, size}
+use Rattle.model.specs.Map.{freeList, grantFor, headWords, lengthIn, longest, lower, memorySize, note, pageQueue, place}
+use Rattle.model.specs.Map.{processorList, q2, runningLabel, runningPage, size, upper}
 use Rattle.model.specs.Map.{text}
 use Rattle.model.specs.Map.{headWords}
 use Rattle.model.specs.Address.{wrapped, clear}
@@ -104,16 +105,16 @@ ring a i j h k n = omega arith
 third : (a j : ℕ) → (wrapped a 3 + j) % memorySize ≡ (a + (3 + j)) % memorySize
 third a j = omega arith
 
-module _ (m : List ℕ) (q a : ℕ) (z : length m ≡ memorySize) (pq : Page q) (la : a < memorySize) (sized : Model.word m q size % 128 ≤ longest)
-    (cl : clear (3 + Model.word m q size % 128) a ≡ true) where
+module _ (m : List ℕ) (q a : ℕ) (z : length m ≡ memorySize) (pq : Page q) (la : a < memorySize) (sized : lengthIn (Model.word m q size) ≤ longest)
+    (cl : clear (3 + lengthIn (Model.word m q size)) a ≡ true) where
   abbrev n : ℕ
-  n = Model.word m q size % 128
+  n = lengthIn (Model.word m q size)
 
   abbrev m1 : List ℕ
-  m1 = set m a (Model.word m q note / 16)
+  m1 = set m a (upper (Model.word m q note))
 
   abbrev m2 : List ℕ
-  m2 = set m1 (wrapped a 1) (Model.word m q note % 16)
+  m2 = set m1 (wrapped a 1) (lower (Model.word m q note))
 
   abbrev m3 : List ℕ
   m3 = set m2 (wrapped a 2) n
@@ -132,11 +133,11 @@ module _ (m : List ℕ) (q a : ℕ) (z : length m ≡ memorySize) (pq : Page q) 
   at0 : wrapped a 0 ≡ a
   at0 = omega (arith, la)
 
-  out-0 : getD m4 (wrapped a 0) 0 ≡ Model.word m q note / 16
+  out-0 : getD m4 (wrapped a 0) 0 ≡ upper (Model.word m q note)
   out-0 =
       before 0 (omega arith) ∙ other m2 (wrapped a 2) n (wrapped a 0) (ring a 0 2 (omega arith) (omega arith) (omega arith))
-      ∙ other m1 (wrapped a 1) (Model.word m q note % 16) (wrapped a 0) (ring a 0 1 (omega arith) (omega arith) (omega arith))
-      ∙ rw at0 (getD-set-same m a (Model.word m q note / 16) 0 (omega (arith, z, la)))
+      ∙ other m1 (wrapped a 1) (lower (Model.word m q note)) (wrapped a 0) (ring a 0 1 (omega arith) (omega arith) (omega arith))
+      ∙ rw at0 (getD-set-same m a (upper (Model.word m q note)) 0 (omega (arith, z, la)))
 
   size1 : length m1 ≡ memorySize
   size1 = simp length-set z
@@ -147,10 +148,10 @@ module _ (m : List ℕ) (q a : ℕ) (z : length m ≡ memorySize) (pq : Page q) 
   size3 : length m3 ≡ memorySize
   size3 = simp length-set z
 
-  out-1 : getD m4 (wrapped a 1) 0 ≡ Model.word m q note % 16
+  out-1 : getD m4 (wrapped a 1) 0 ≡ lower (Model.word m q note)
   out-1 =
       before 1 (omega arith) ∙ other m2 (wrapped a 2) n (wrapped a 1) (ring a 1 2 (omega arith) (omega arith) (omega arith))
-      ∙ getD-set-same m1 (wrapped a 1) (Model.word m q note % 16) 0 (omega (arith, size1))
+      ∙ getD-set-same m1 (wrapped a 1) (lower (Model.word m q note)) 0 (omega (arith, size1))
 
   out-2 : getD m4 (wrapped a 2) 0 ≡ n
   out-2 = before 2 (omega arith) ∙ getD-set-same m2 (wrapped a 2) n 0 (omega (arith, size2))
@@ -163,8 +164,8 @@ module _ (m : List ℕ) (q a : ℕ) (z : length m ≡ memorySize) (pq : Page q) 
       let o2 = opened 2 (omega arith) .below in
       let c = copy-at n m3 (place q text) (wrapped a 3) size3 (omega (arith, sized)) (omega (arith, pq)) (omega arith) (λ i j hi hj. apart i j hi hj) k h in
       rw (third a k) at c ∙ rw e (other m2 (wrapped a 2) n (place q text + k) (omega (arith, pq))
-      ∙ other m1 (wrapped a 1) (Model.word m q note % 16) (place q text + k) (omega (arith, pq))
-      ∙ other m a (Model.word m q note / 16) (place q text + k) (omega (arith, pq, at0)))
+      ∙ other m1 (wrapped a 1) (lower (Model.word m q note)) (place q text + k) (omega (arith, pq))
+      ∙ other m a (upper (Model.word m q note)) (place q text + k) (omega (arith, pq, at0)))
       ∙ sym (rw e at (words-at m (place q text) n k (omega (arith, pq)) h))
     where
       apart : (i j : ℕ) → i < n → j < n → (place q text + i) % memorySize ≢ (wrapped a 3 + j) % memorySize
@@ -180,7 +181,7 @@ module _ (m : List ℕ) (q a : ℕ) (z : length m ≡ memorySize) (pq : Page q) 
   out-at (suc (suc zero)) h = out-2
   out-at (suc (suc (suc k))) h = let e : 3 + k ≡ suc (suc (suc k)) = omega arith in rw e at (out-text k (omega arith))
 
-size-is : (m : List ℕ) (q : ℕ) → mailOf m q .size ≡ Model.word m q size % 128
+size-is : (m : List ℕ) (q : ℕ) → mailOf m q .size ≡ lengthIn (Model.word m q size)
 unfolding mailOf
 size-is m q = refl
 
@@ -195,15 +196,15 @@ module _ {m : List ℕ} (w : WellFormed m) (d : running m ≢ 0) where
   pr = proc-page (b .facts .sep) r hr
 
   module _ (q a : ℕ) (xs ys : List ℕ) (e : lists m (place r q2) ≡ xs ++ q ∷ ys) (la : a < memorySize)
-      (cl : clear (3 + Model.word m q size % 128) a ≡ true) where
+      (cl : clear (3 + lengthIn (Model.word m q size)) a ≡ true) where
     in6 : 1 ≤ count q (lists m (place r q2))
     in6 = rw e (count-mid q xs ys)
 
     pq : Page q
-    pq = all-pages (b .facts .sep) (place r q2) q (in-q (lists m processorList) r 6 (omega arith) (omega arith) hr) in6
+    pq = all-pages (b .facts .sep) (place r q2) q (in-q (lists m processorList) r q2 (omega arith) (omega arith) hr) in6
 
-    sized : Model.word m q size % 128 ≤ longest
-    sized = letter-sized b r 6 q hr (omega arith) (omega arith) in6
+    sized : lengthIn (Model.word m q size) ≤ longest
+    sized = letter-sized b r q2 q hr (omega arith) (omega arith) in6
 
     abbrev x : List ℕ
     x = copyOut m q a
@@ -221,27 +222,27 @@ module _ {m : List ℕ} (w : WellFormed m) (d : running m ≢ 0) where
     received-open : (c : ℕ) → Open c → getD x2 c 0 ≡ getD x c 0
     received-open c o =
         let lc = o .below in
-        let i6 = in-q (lists m processorList) r 6 (omega arith) (omega arith) hr in
-        give-open (take-mail bx r 6 q xs ys hr (omega arith) (omega arith) e) c o
+        let i6 = in-q (lists m processorList) r q2 (omega arith) (omega arith) hr in
+        give-open (take-mail bx r q2 q xs ys hr (omega arith) (omega arith) e) c o
         ∙ leave-frame (b .facts .sep) (bx .mem) (place r q2) (i6, grant-high (place r q2) (omega (arith, pr))) (omega (arith, pr)) q xs ys e c
         (omega (arith, pr)) (λ z i. let t = all-pages (b .facts .sep) (place r q2) z i6 i in omega arith)
 
     run2 : running x2 ≡ running m
     run2 =
-        let g2 = give-back (take-mail bx r 6 q xs ys hr (omega arith) (omega arith) e) in
+        let g2 = give-back (take-mail bx r q2 q xs ys hr (omega arith) (omega arith) e) in
         running-at (g2 .base) ∙ ap (λ (z : ℕ → ℕ). z runningPage) (g2 .low)
 
     size-x2 : length x2 ≡ memorySize
-    size-x2 = give-back (take-mail bx r 6 q xs ys hr (omega arith) (omega arith) e) .base .mem .size
+    size-x2 = give-back (take-mail bx r q2 q xs ys hr (omega arith) (omega arith) e) .base .mem .size
 
     received-written : (len : ℕ) → Written m (memoryOf (Model.done (Model.received m q a) len)) (reading r (mailOf m q) a)
     unfolding Operate.received
     received-written len = written-one m (memoryOf (Model.done x2 len)) (mailOf m q) a (λ i h. word i (rw (size-is m q) at h))
       where
-        word : (i : ℕ) → i < 3 + Model.word m q size % 128
+        word : (i : ℕ) → i < 3 + lengthIn (Model.word m q size)
             → getD (memoryOf (Model.done x2 len)) (wentTo (memoryOf (Model.done x2 len)) (running m) (wrapped a i)) 0 ≡ getD (spelled (mailOf m q)) i 0
         word i h =
-            let o : Open (wrapped a i) = clear-open (wrapped a i) (clear-at (3 + Model.word m q size % 128) a cl i h) in
+            let o : Open (wrapped a i) = clear-open (wrapped a i) (clear-at (3 + lengthIn (Model.word m q size)) a cl i h) in
             let t = done-went x2 size-x2 (rw run2 pr) len (wrapped a i) (o .below) (o .between runningPage (omega arith) (omega arith))
             (o .between runningLabel (omega arith) (omega arith)) in
             rw run2 at t ∙ received-open (wrapped a i) o ∙ out-at m q a (b .mem .size) pq la sized cl i h
@@ -252,7 +253,7 @@ module _ {m : List ℕ} (w : WellFormed m) (d : running m ≢ 0) where
       received-written (Model.inQ2 m n f) a (t .before) (t .behind) (sym q6 ∙ t .is) la (g .target) len)
     where
       q6 : queue m (place r q2) ≡ lists m (place r q2)
-      q6 = mail-queue b r 6 hr (omega arith) (omega arith)
+      q6 = mail-queue b r q2 hr (omega arith) (omega arith)
 
 -- ---- the address that RME names, direct or by EXI, is below 8,192 where words have 8 bits
 pub direct-address : (m : List ℕ) → Small m → (n c : ℕ) → c ≡ 6 → direct m n (shapeFor c) .address < memorySize

@@ -54,9 +54,7 @@ fn low_part(r: Registers) -> u64
 fn pack(r: Registers) -> u64
     ensures { λ x. ⌜ x ≡ packed r ⌝ }
 {
-    low_part(r)
-        + wide(r.lr) * 134217728
-        + wide(r.w) * 1099511627776
+    low_part(r) + wide(r.lr) * 134217728 + wide(r.w) * 1099511627776
 }
 
 fn encode_held(h: Held) -> u64

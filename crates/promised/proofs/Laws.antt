@@ -32,7 +32,8 @@ pub fresh-goes : (m n : List ℕ) (r : Answer) (line d : ℕ) → gives r n ≡ 
 unfolding Calls.after
 fresh-goes m n r line d e = goes (fresh-start line d) m n (leaves e)
 
-pub fresh-begins : (m n : List ℕ) (r : Answer) (line d : ℕ) → gives r n ≡ Model.fresh m line d → Small m → length m ≡ memorySize → startable line d ≡ true → Run n noneYet
+pub fresh-begins : (m n : List ℕ) (r : Answer) (line d : ℕ) → gives r n ≡ Model.fresh m line d → Small m → length m ≡ memorySize
+    → startable line d ≡ true → Run n noneYet
 fresh-begins m n r line d e s l t = subst (λ (x : List ℕ). Run x noneYet) (leaves e) (start m line d l s t)
 
 pub instruction-goes : (m n : List ℕ) (r : Answer) → gives r n ≡ Model.instruction m → (h : Past) → Run m h → Run n (later instruct m h)

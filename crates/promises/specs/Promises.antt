@@ -16,8 +16,8 @@ use Rattle.model.specs.Bytes.{judged, fresh, instruction, interrupt, setRegiste
 use Rattle.laws.specs.Words.{Small}
 use Rattle.laws.specs.Calls.{Sound, Host, Reached, fresh-starts, fresh-sound, instruction-sound, interrupt-sound, set-sound, host-sound, reached-sound}
 use Rattle.laws.specs.Numbers as Numbers
-use Rattle.laws.specs.Numbers.{told, toldHeld, toldVerdict, proper-told, instruction-proper, fresh-proper, interrupt-proper, set-proper, firstRefusal, lastRefusal}
-use Rattle.laws.specs.Numbers.{Refuses, RefuseAll, refused-of, handed-of}
+use Rattle.laws.specs.Numbers.{told, toldHeld, toldVerdict, proper-told, instruction-proper, fresh-proper, interrupt-proper, set-proper}
+use Rattle.laws.specs.Numbers.{firstRefusal, lastRefusal, Refuses, RefuseAll, refused-of, handed-of}
 use Rattle.laws.specs.Refusals.{instruction-kept, fresh-kept, interrupt-kept, set-kept, read-kept, judge-kept, instruction-hands}
 use Rattle.laws.specs.Faulty.{Faulted, faulted}
 use Rattle.laws.specs.UsedOnce.{asProcessor, asFree, asMessage, asGrant, used-once, used-never}

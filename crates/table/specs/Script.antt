@@ -63,7 +63,8 @@ module _ (S : Store) where
   -- whether a script runs as it says. To open it opens the whole machine
   unfoldable pub plays : Script → S .M → Bool
   unfolding
-      Call.isOuter Call.isClass Call.refusal Call.head Call.fresh Call.instructionJudged Call.instruction Call.interruptJudged Call.interrupt Call.readJudged Call.readRegisters Call.setJudged
+      Call.isOuter Call.isClass Call.refusal Call.head Call.fresh Call.instructionJudged Call.instruction Call.interruptJudged Call.interrupt
+      Call.readJudged Call.readRegisters Call.setJudged
       Call.setRegisters Call.judge Address.guarded Address.clear Address.copy Address.zeroed Queue.first Queue.walk Queue.cellOf Queue.join
       Queue.leave Processor.isNamed Processor.stop Processor.start Processor.setLr Processor.advance Processor.registersOf
       Processor.setFlagsLr Processor.setRegistersOf Processor.handBack Processor.inRange Instruction.directCounted Instruction.directCreating
