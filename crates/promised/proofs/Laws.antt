@@ -1,8 +1,9 @@
 -- A call of the code is a step of a run: the memory that it leaves is the one that the model's call leaves.
 use mathlib.Core.Path.{_≡_, refl, sym, ap, _∙_, subst}
 use mathlib.Core.Bool.{true}
-use mathlib.Core.List.{List}
+use mathlib.Core.List.{List, [], _∷_}
 use Prim.Native.Nat.{ℕ}
+use native.Mathlib.Omega.{arith}
 use lib.ListN.{length}
 use Rattle.model.specs.declared.Answer.{Answer}
 use Rattle.model.specs.declared.Held.{Held}
@@ -55,5 +56,10 @@ read-goes m r e = goes read m m (leaves e)
 pub judge-goes : (m : List ℕ) (r : Verdict) → gives r m ≡ Model.judge m → (h : Past) → Run m h → Run m (later judge-it m h)
 unfolding Calls.after
 judge-goes m r e = goes judge-it m m (leaves e)
+
+-- a memory without words
+pub none-small : (m : List ℕ) → length m ≡ 0 → Small m
+none-small [] e = record { at = λ a. omega arith }
+none-small (x ∷ m) e = absurd (omega arith)
 
 pub ruleset goings = (fresh-goes, fresh-begins, instruction-goes, interrupt-goes, set-goes, read-goes, judge-goes)

@@ -15,10 +15,13 @@ ghost use Rattle.laws.specs.Calls.Act.{fresh-start, instruct, signal, set, read
 ghost use Rattle.history.specs.Lives.{Past, Run, noneYet, later};
 
 // A lent slice is a list of words of 8 bits: no premise of the promises is left to prose.
-pub fn lent(m: &[u8]) -> usize
+pub fn lent(m: &[u8]) -> u8
     ensures { λ _. ⌜ Small (now (m .entry)) ⌝ }
 {
-    m.len()
+    if m.len() == 0 {
+        return 0;
+    }
+    m[0]
 }
 
 // The fresh start goes on with a run; and where it is taken, it begins one, whatever the memory holds.

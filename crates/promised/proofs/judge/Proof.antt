@@ -1,0 +1,9 @@
+use borrow.Author.Needs.{needs}
+use Rattle.promised.proofs.Laws.{goings}
+use Rattle.promised.proofs.judge.Statement.{statement}
+use Rattle.promised.proofs.judge.Tie as tie
+
+pub judge-spec : {M : Type 1} → statement M
+judge-spec = tie.close (tie.spec
+    (λ c κs. search needs)
+    (λ c. search (needs, goings)))
