@@ -9,14 +9,13 @@ use lib.ListN.{getD, set}
 use lib.Dec.{ltb}
 use borrow.Author.Tests.{ltb-true, ltb-false}
 use Rattle.model.specs.Map as Map
-use Rattle.model.specs.Map.{flagsKept, freeList, freeSemaphore, grantFor, guardedLast, high, highLr, keeps, keptCount, label, link, listLink, lowLr, lowered}
-use Rattle.model.specs.Map.{memorySize, ownQueue, ownSemaphore, pageQueue, pageSize, place, processorList, q1, q2, reason, runningLabel, runningPage}
-use Rattle.model.specs.Map.{state, waitSet, wordA, zeroPlace}
-use Rattle.model.specs.Bytes.{running, store, word}
+use Rattle.model.specs.Map.{flagsKept, freeList, freeSemaphore, grantFor, guardedLast, high, highLr, keeps, keptCount, label, link, listLink, lowLr}
+use Rattle.model.specs.Map.{lowered, memorySize, ownQueue, ownSemaphore, pageQueue, pageSize, place, processorList, q1, q2, reason, runningLabel}
+use Rattle.model.specs.Map.{runningPage, state, waitSet, wordA, zeroPlace}
+use Rattle.model.specs.Bytes.{running, store, word, wake, putToWait, takeFree, giveBack, whoRuns, setLr}
 use Rattle.model.specs.Wait as Wait
 use Rattle.model.specs.Page as Page
 use Rattle.model.specs.Processor as Processor
-use Rattle.model.specs.Bytes.{wake, putToWait, takeFree, giveBack, whoRuns, setLr}
 use Rattle.model.specs.Lists.{count, Lists, uses, queues}
 use Rattle.laws.specs.Count.{hit-or, count-ne}
 use Rattle.laws.specs.Chain.{Page}

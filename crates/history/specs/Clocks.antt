@@ -6,10 +6,9 @@ use native.Mathlib.Omega.{arith}
 use lib.ListN.{length, set}
 use lib.Dec.{eqb, ltb}
 use Rattle.model.specs.Map.{c0, c3, controlPages, firstClassed, headerOf, interrupts, lastOuter, lowered, reason, semaphoreOf, wordA}
-use Rattle.model.specs.Bytes.{word}
+use Rattle.model.specs.Bytes.{word, struck, servedFrom, serve, delivered, whoRuns}
 use Rattle.model.specs.Interrupt as Interrupt
 use Rattle.model.specs.Bytes as Model
-use Rattle.model.specs.Bytes.{struck, servedFrom, serve, delivered, whoRuns}
 use Rattle.model.specs.Lists.{Lists}
 use Rattle.laws.specs.Count.{count-mid}
 use Rattle.laws.specs.Uses.{list-short}

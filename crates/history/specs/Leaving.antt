@@ -13,12 +13,11 @@ use Rattle.model.specs.Map as Map
 use Rattle.model.specs.Map.{controlPages, interrupts, link, listLink, lower, note, pageSize, place, processorList, q1, q2, raised, runningPage, size}
 use Rattle.model.specs.Map.{upper}
 use Rattle.model.specs.Bytes as Memory
-use Rattle.model.specs.Bytes.{name}
+use Rattle.model.specs.Bytes.{name, isNamed, processors, queued, seat, leaveWait, unlisted}
 use Rattle.model.specs.Queue.{first}
 use Rattle.model.specs.Processor as Processor
 use Rattle.model.specs.Wait as Wait
 use Rattle.model.specs.Delete as Delete
-use Rattle.model.specs.Bytes.{isNamed, processors, queued, seat, leaveWait, unlisted}
 use Rattle.model.specs.Lists.{count, Lists}
 use Rattle.laws.specs.Count.{hit-or, count-append}
 use Rattle.laws.specs.Chain.{Page, walk-chain, split-at-page, Chain}

@@ -6,11 +6,10 @@ use Prim.Native.Nat.{ℕ, _≤_, _<_}
 use native.Mathlib.Omega.{arith}
 use lib.ListN.{length, getD, set}
 use Rattle.model.specs.Map.{controlPages, label, lastName, lastPriority, link, listLink, place, processorList, q1, q2}
-use Rattle.model.specs.Bytes.{running, store, word}
+use Rattle.model.specs.Bytes.{running, store, word, lists, processors, pageOf, queue, created, waitsForPage}
 use Rattle.model.specs.Operate as Operate
 use Rattle.model.specs.Answer.{memoryOf}
 use Rattle.model.specs.Bytes as Model
-use Rattle.model.specs.Bytes.{lists, processors, pageOf, queue, created, waitsForPage}
 use Rattle.model.specs.Lists.{count, Lists}
 use Rattle.laws.specs.Count.{hit-other, hit-or, count-append, count-mid}
 use Rattle.laws.specs.Chain.{Chain, last, join-is, chain-join, walk-chain, off-page, last-not}

@@ -9,7 +9,7 @@ use lib.ListN.{length}
 use lib.Dec.{eqb}
 use borrow.Author.Tests.{eqb-false, eq-eqb}
 use Rattle.model.specs.Map.{memorySize, pageSize, processorList}
-use Rattle.model.specs.Bytes.{running}
+use Rattle.model.specs.Bytes.{running, lists, fresh, interrupt, readRegisters, setRegisters, judge, whoRuns, delivered, setRegistersOf}
 use Rattle.model.specs.declared.Registers.{Registers}
 use Rattle.model.specs.Address.{guarded}
 use Rattle.model.specs.Answer as Answer
@@ -18,7 +18,6 @@ use Rattle.model.specs.Fresh.{startable}
 use Rattle.model.specs.Call as Call
 use Rattle.model.specs.Call.{isOuter, isClass}
 use Rattle.model.specs.Processor.{inRange}
-use Rattle.model.specs.Bytes.{lists, fresh, interrupt, readRegisters, setRegisters, judge, whoRuns, delivered, setRegistersOf}
 use Rattle.laws.specs.Uses.{Sep, proc-page}
 use Rattle.laws.specs.Inv.{Base, noOne, view}
 use Rattle.laws.specs.Judged.{invariant}

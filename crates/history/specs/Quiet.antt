@@ -7,9 +7,9 @@ use mathlib.Core.List.{List, [], _∷_}
 use Prim.Native.Nat.{ℕ, _+_, _%_, _≤_, _<_}
 use native.Mathlib.Omega.{arith}
 use lib.ListN.{set}
-use Rattle.model.specs.Map.{aWord, allCodes, codeLow, codeWord, flagsKept, guardedLast, high, highLr, low, lowLr, memorySize, place}
-use Rattle.model.specs.Map.{processorList, returnHigh, returnLow, runningPage, semaphoreOf, state, stopCleared, topped, wordA, wordS}
-use Rattle.model.specs.Bytes.{name, running, store, word}
+use Rattle.model.specs.Map.{aWord, allCodes, codeLow, codeWord, flagsKept, guardedLast, high, highLr, low, lowLr, memorySize, place, processorList}
+use Rattle.model.specs.Map.{returnHigh, returnLow, runningPage, semaphoreOf, state, stopCleared, topped, wordA, wordS}
+use Rattle.model.specs.Bytes.{name, running, store, word, lists, serve, setCode, pageOf, setRegistersOf}
 use Rattle.model.specs.declared.Registers.{Registers}
 use Rattle.model.specs.Address.{guarded}
 use Rattle.model.specs.Instruction as Instruction
@@ -18,7 +18,6 @@ use Rattle.model.specs.Processor as Processor
 use Rattle.model.specs.Operate as Operate
 use Rattle.model.specs.Answer.{memoryOf}
 use Rattle.model.specs.Bytes as Model
-use Rattle.model.specs.Bytes.{lists, serve, setCode, pageOf, setRegistersOf}
 use Rattle.model.specs.Lists.{count}
 use Rattle.laws.specs.Uses.{Sep, proc-page}
 use Rattle.laws.specs.Judged.{WellFormed}

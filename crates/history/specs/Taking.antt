@@ -10,13 +10,12 @@ use lib.ListN.{length, getD}
 use lib.Dec.{eqb}
 use borrow.Author.Tests.{ne-eqb}
 use Rattle.model.specs.Map.{freeList, freeSemaphore, grantFor, link, lowered, processorList}
-use Rattle.model.specs.Bytes.{name, running}
+use Rattle.model.specs.Bytes.{name, running, lists, takePage, takeFree, waitsForPage}
 use Rattle.model.specs.Page as Page
 use Rattle.model.specs.Page.{Taken}
 use Rattle.model.specs.Page.Taken.{took}
 use Rattle.model.specs.Operate as Operate
 use Rattle.model.specs.Answer.{memoryOf}
-use Rattle.model.specs.Bytes.{lists, takePage, takeFree, waitsForPage}
 use Rattle.model.specs.Lists.{count, Lists}
 use Rattle.laws.specs.Chain.{Page, Chain}
 use Rattle.laws.specs.Uses.{Sep}

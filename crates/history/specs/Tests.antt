@@ -6,13 +6,12 @@ use mathlib.Core.List.{List, [], _∷_, _++_, append-nil, map}
 use Prim.Native.Nat.{ℕ, _≤_, _<_}
 use native.Mathlib.Omega.{arith}
 use Rattle.model.specs.Map.{controlPages, ownSemaphore, pair, place, processorList, q1}
-use Rattle.model.specs.Bytes.{running, word}
+use Rattle.model.specs.Bytes.{running, word, lists, queue, move, matches, testQ1}
 use Rattle.model.specs.Queue as Queue
 use Rattle.model.specs.Queue.{first}
 use Rattle.model.specs.Mail as Mail
 use Rattle.model.specs.Answer.{memoryOf}
 use Rattle.model.specs.Bytes as Model
-use Rattle.model.specs.Bytes.{lists, queue, move, matches, testQ1}
 use Rattle.model.specs.Lists.{count, Lists}
 use Rattle.laws.specs.Count.{hit-or}
 use Rattle.laws.specs.Inv.{Base, View, noOne}

@@ -10,9 +10,8 @@ use Rattle.model.specs.Map as Map
 use Rattle.model.specs.Map.{controlPages, firstControl, freeList, freeSemaphore, grantFor, headerAfter, interrupts, lastControl, lastFlag, lastName}
 use Rattle.model.specs.Map.{less, longest, lower, memorySize, notice, ownQueue, ownSemaphore, pageQueue, place, processorList, q1, q2, semaphoreAfter}
 use Rattle.model.specs.Map.{upper}
-use Rattle.model.specs.Bytes.{word}
+use Rattle.model.specs.Bytes.{word, lists, judged, walk}
 use Rattle.model.specs.Store.{bytes}
-use Rattle.model.specs.Bytes.{lists, judged, walk}
 use Rattle.model.specs.Lists as Model
 use Rattle.model.specs.Lists.{count, Lists, sum, some, linkOf, uses, queues, isGrant}
 use Rattle.model.specs.Judge as Judge

@@ -5,8 +5,7 @@ use mathlib.Core.List.{List, _∷_}
 use Prim.Native.Nat.{ℕ, _≤_, _<_}
 use native.Mathlib.Omega.{arith}
 use Rattle.model.specs.Map.{freeList, link, pageQueue, pageSize, place, q1}
-use Rattle.model.specs.Bytes.{word}
-use Rattle.model.specs.Bytes.{giveBack, deliver}
+use Rattle.model.specs.Bytes.{word, giveBack, deliver}
 use Rattle.model.specs.Lists.{count, Lists}
 use Rattle.laws.specs.Count.{hit-self, count-ne}
 use Rattle.laws.specs.Chain.{Page}

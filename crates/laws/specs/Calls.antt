@@ -11,7 +11,7 @@ use borrow.Author.Tests.{eqb-false, eq-eqb, ltb-false, lt-ltb, le-ltb, le-leb}
 use Rattle.model.specs.Map as Map
 use Rattle.model.specs.Map.{aWord, firstOuter, guardedEnd, guardedFrom, guardedLast, guardedTo, lastClass, lastLine, lastOuter, memorySize, pageSize}
 use Rattle.model.specs.Map.{place}
-use Rattle.model.specs.Bytes.{running}
+use Rattle.model.specs.Bytes.{running, fresh, instruction, interrupt, readRegisters, setRegisters, judge, judged, lr}
 use Rattle.model.specs.declared.Registers.{Registers}
 use Rattle.model.specs.Address as Address
 use Rattle.model.specs.Address.{guarded}
@@ -24,7 +24,6 @@ use Rattle.model.specs.Call as Call
 use Rattle.model.specs.Call.{isOuter, isClass}
 use Rattle.model.specs.Processor.{inRange}
 use Rattle.model.specs.Bytes as Model
-use Rattle.model.specs.Bytes.{fresh, instruction, interrupt, readRegisters, setRegisters, judge, judged, lr}
 use Rattle.laws.specs.Judged.{WellFormed}
 use Rattle.laws.specs.Frames.{Kept, kept-keeps}
 use Rattle.laws.specs.Start.{Args, started-well}

@@ -10,11 +10,10 @@ use borrow.Author.Tests.{eqb-false}
 use Rattle.model.specs.Map as Map
 use Rattle.model.specs.Map.{highLr, lastName, lastPriority, link, lowLr, lower, memorySize, pageSize, pair, place, processorList, stopPut, stopSet}
 use Rattle.model.specs.Map.{wSet, wordA, wordS}
-use Rattle.model.specs.Bytes.{running, store, word}
+use Rattle.model.specs.Bytes.{running, store, word, lists, pageOf, isNamed, zeroed, headed, created}
 use Rattle.model.specs.Processor as Processor
 use Rattle.model.specs.Operate as Operate
 use Rattle.model.specs.Bytes as Model
-use Rattle.model.specs.Bytes.{lists, pageOf, isNamed, zeroed, headed, created}
 use Rattle.model.specs.Lists.{count, Lists, each-of}
 use Rattle.laws.specs.Count.{hit-self, hit-other}
 use Rattle.laws.specs.Chain.{Page}

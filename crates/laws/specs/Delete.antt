@@ -11,10 +11,10 @@ use lib.Dec.{eqb}
 use borrow.Author.Tests.{eqb-true, eqb-false, eq-eqb, ne-eqb, leb-true}
 use Rattle.model.specs.Map.{controlPages, grantFor, lastFlag, lastName, link, lower, note, notice, pageSize, place, q1, q2, runningPage, size, state}
 use Rattle.model.specs.Map.{upper}
-use Rattle.model.specs.Bytes.{running, store, word}
+use Rattle.model.specs.Bytes.{running, store, word, lists, leave, giveBack, deliver, makeNotice, pageOf, returned, emptied, mailReturned}
+use Rattle.model.specs.Bytes.{grantReturned, delete}
 use Rattle.model.specs.Delete as Delete
 use Rattle.model.specs.Bytes as Model
-use Rattle.model.specs.Bytes.{lists, leave, giveBack, deliver, makeNotice, pageOf, returned, emptied, mailReturned, grantReturned, delete}
 use Rattle.model.specs.Lists.{count, Lists, some}
 use Rattle.laws.specs.Count.{hit-self, count-append, count-mid}
 use Rattle.laws.specs.Chain.{Page, Chain, NoDup, chain-move, chain-leave, leave-is}

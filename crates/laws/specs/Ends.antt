@@ -10,12 +10,11 @@ use lib.Dec.{ltb}
 use borrow.Author.Tests.{ltb-true}
 use Rattle.model.specs.Map.{entries, entriesFull, flagsKept, high, highLr, lastFault, low, lowLr, lower, memorySize, pageSize, pair, place}
 use Rattle.model.specs.Map.{runningPage, state, stopCleared, stopSet, waitBit, waitIn, wordA, zerosIn}
-use Rattle.model.specs.Bytes.{name, running, store, word}
+use Rattle.model.specs.Bytes.{name, running, store, word, Step, entered, fault, done, jumps, waits, stop, start, setLr, advance, lr}
 use Rattle.model.specs.Fault as Fault
 use Rattle.model.specs.Answer as Answer
 use Rattle.model.specs.Answer.{memoryOf}
 use Rattle.model.specs.Processor as Processor
-use Rattle.model.specs.Bytes.{Step, entered, fault, done, jumps, waits, stop, start, setLr, advance, lr}
 use Rattle.model.specs.Lists.{count, Lists, queues}
 use Rattle.laws.specs.Count.{hit-or}
 use Rattle.laws.specs.Chain.{Page}

@@ -11,9 +11,8 @@ use Rattle.model.specs.Map as Map
 use Rattle.model.specs.Map.{c3, clockLine, codeWord, divider, entryAfter, firstUnused, freeSemaphore, grantFor, grants, guardedFrom, guardedTo, link}
 use Rattle.model.specs.Map.{listLink, memorySize, ownSemaphore, pageSize, place, processorList, runningPage, semaphoreAfter, wordA, wordValues}
 use Rattle.model.specs.Address.{wrapped}
-use Rattle.model.specs.Bytes.{store, word}
+use Rattle.model.specs.Bytes.{store, word, copy, zeroed}
 use Rattle.model.specs.Address as Address
-use Rattle.model.specs.Bytes.{copy, zeroed}
 use Rattle.model.specs.Lists.{count, Lists, linkOf, queues}
 use Rattle.laws.specs.Count.{hit-or}
 use Rattle.laws.specs.Chain.{Page, chain-move}

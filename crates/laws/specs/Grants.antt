@@ -10,10 +10,9 @@ use lib.ListN.{length, getD, set}
 use lib.Dec.{eqb}
 use borrow.Author.Tests.{ne-eqb}
 use Rattle.model.specs.Map.{freeList, freeSemaphore, grantFor, label, link, lower, lowered, pageQueue, pageSize, place, q1, raised, reason, state}
-use Rattle.model.specs.Bytes.{word}
+use Rattle.model.specs.Bytes.{word, takeFree, takePage, freePage, grantPage, giveBack}
 use Rattle.model.specs.Page as Page
 use Rattle.model.specs.Page.Taken.{took}
-use Rattle.model.specs.Bytes.{takeFree, takePage, freePage, grantPage, giveBack}
 use Rattle.model.specs.Lists.{hit, count, Lists, sum, each-of, some, uses, queues}
 use Rattle.laws.specs.Count.{hit-self, hit-other, hit-or, one-hit}
 use Rattle.laws.specs.Chain.{Page, Chain}

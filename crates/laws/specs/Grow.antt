@@ -9,8 +9,7 @@ use lib.Dec.{eqb}
 use Rattle.model.specs.Map as Map
 use Rattle.model.specs.Map.{freeList, grantFor, guardedLast, headerAfter, interrupts, less, listLink, lower, ownQueue, ownSemaphore, pageQueue}
 use Rattle.model.specs.Map.{pageSize, place, processorList, q1, q2, runningPage, waitIn, zerosIn}
-use Rattle.model.specs.Bytes.{store, word}
-use Rattle.model.specs.Bytes.{join}
+use Rattle.model.specs.Bytes.{store, word, join}
 use Rattle.model.specs.Lists.{hit, count, Lists, sum, linkOf, uses, queues}
 use Rattle.laws.specs.Count.{hit-self, hit-other, hit-or, one-hit, count-append}
 use Rattle.laws.specs.Chain.{Page, Chain, last, last-not, join-is, off-page}

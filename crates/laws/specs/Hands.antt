@@ -12,10 +12,9 @@ use lib.Dec.{eqb}
 use Rattle.model.specs.Map as Map
 use Rattle.model.specs.Map.{freeList, freeSemaphore, grantFor, grantsEnd, less, link, lower, lowered, ownQueue, pageQueue, pageSize, place}
 use Rattle.model.specs.Map.{processorList, q1, q2, raised, size, upper}
-use Rattle.model.specs.Bytes.{word}
+use Rattle.model.specs.Bytes.{word, join, leave, takeFree, freePage}
 use Rattle.model.specs.Mail.{fits}
 use Rattle.model.specs.Page as Page
-use Rattle.model.specs.Bytes.{join, leave, takeFree, freePage}
 use Rattle.model.specs.Lists.{hit, count, Lists, sum, uses, queues}
 use Rattle.laws.specs.Count.{hit-self, hit-other, hit-or, count-append}
 use Rattle.laws.specs.Chain.{Page}

@@ -13,11 +13,10 @@ use Rattle.model.specs.Map as Map
 use Rattle.model.specs.Map.{aWord, c0Interrupt, c1End, c1Interrupt, c2End, c2Interrupt, c3End, c3Interrupt, clockLine, controlPages, firstClassed}
 use Rattle.model.specs.Map.{headerAfter, headerOf, interrupts, lastOuter, link, lowered, ownQueue, pageQueue, place, processorList, raised}
 use Rattle.model.specs.Map.{runningLabel, runningPage, semaphoreOf, waitIn, wordA}
-use Rattle.model.specs.Bytes.{name, running, word}
+use Rattle.model.specs.Bytes.{name, running, word, lists, ends, struck, classed, servedFrom, serve, counts, turns, delivered, whoRuns}
 use Rattle.model.specs.Interrupt as Interrupt
 use Rattle.model.specs.Operate as Operate
 use Rattle.model.specs.Bytes as Model
-use Rattle.model.specs.Bytes.{lists, ends, struck, classed, servedFrom, serve, counts, turns, delivered, whoRuns}
 use Rattle.model.specs.Lists.{count, Lists, queues}
 use Rattle.laws.specs.Count.{hit-or, count-mid}
 use Rattle.laws.specs.Chain.{Page, Chain}

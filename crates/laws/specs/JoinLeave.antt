@@ -9,8 +9,7 @@ use lib.Seq.{getD-set-same}
 use Rattle.model.specs.Map as Map
 use Rattle.model.specs.Map.{clockLine, codeWord, divider, freeSemaphore, grantFor, grants, guardedLast, interrupts, label, link, listLink, note}
 use Rattle.model.specs.Map.{ownQueue, ownSemaphore, pageSize, place, processorList, q2, reason, runningPage, semaphoreAfter, state}
-use Rattle.model.specs.Bytes.{store, word}
-use Rattle.model.specs.Bytes.{join, leave}
+use Rattle.model.specs.Bytes.{store, word, join, leave}
 use Rattle.model.specs.Lists.{count, Lists, some, linkOf, isGrant}
 use Rattle.laws.specs.Count.{hit-self, hit-or, count-append, zero-or, count-mid}
 use Rattle.laws.specs.Chain.{Page, Chain, chain-move, last, last-in, last-not, join-is, leave-is, off-page}

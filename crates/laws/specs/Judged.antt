@@ -9,9 +9,8 @@ use Rattle.model.specs.Map as Map
 use Rattle.model.specs.Map.{builtInCodes, clockLine, controlPages, firstControl, freeList, freeSemaphore, grantFor, grants, headerAfter, interrupts}
 use Rattle.model.specs.Map.{label, lastControl, less, lower, memorySize, ownQueue, ownSemaphore, pageQueue, pageSize, place, processorList, q1, q2}
 use Rattle.model.specs.Map.{runningLabel, runningPage, semaphoreAfter, zeroWord}
-use Rattle.model.specs.Bytes.{name, word}
+use Rattle.model.specs.Bytes.{name, word, lists, judged}
 use Rattle.model.specs.Store.{bytes}
-use Rattle.model.specs.Bytes.{lists, judged}
 use Rattle.model.specs.Lists.{count, Lists, sum, each-of, linkOf, uses, queues, isGrant}
 use Rattle.model.specs.Judge as Judge
 use Rattle.laws.specs.Count.{hit-self}

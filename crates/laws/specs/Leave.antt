@@ -11,12 +11,11 @@ use borrow.Author.Tests.{eqb-true, eqb-false}
 use Rattle.model.specs.Map as Map
 use Rattle.model.specs.Map.{controlPages, freeSemaphore, headerAfter, interrupts, link, listLink, lower, ownQueue, ownSemaphore, pageQueue, place}
 use Rattle.model.specs.Map.{processorList, raised, runningPage, semaphoreAfter, size, waitCleared}
-use Rattle.model.specs.Bytes.{word}
+use Rattle.model.specs.Bytes.{word, queue, queued, seat, unlisted, leave}
 use Rattle.model.specs.Queue as Queue
 use Rattle.model.specs.Queue.{first}
 use Rattle.model.specs.Wait as Wait
 use Rattle.model.specs.Delete as Delete
-use Rattle.model.specs.Bytes.{queue, queued, seat, unlisted, leave}
 use Rattle.model.specs.Lists.{count, Lists, sum, uses, queues}
 use Rattle.laws.specs.Count.{hit-other, hit-or, count-append, zero-or}
 use Rattle.laws.specs.Chain.{Page, Chain, walk-chain, split-at-page}

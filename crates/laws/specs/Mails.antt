@@ -11,10 +11,9 @@ use borrow.Author.Tests.{eqb-false}
 use Rattle.model.specs.Map as Map
 use Rattle.model.specs.Map.{controlPages, freeList, freeSemaphore, grantFor, headWords, label, lastFlag, lastName, link, longest, lower, memorySize}
 use Rattle.model.specs.Map.{note, ownSemaphore, pair, place, processorList, q1, q2, text, upper, waitIn}
-use Rattle.model.specs.Address.{wrapped}
+use Rattle.model.specs.Address.{wrapped, guarded, clear}
 use Rattle.model.specs.Bytes.{copy, copyOut, lengthOf, lists, matches, move, name, pageOf, queue, running, testQ1, word}
 use Rattle.model.specs.Address as Address
-use Rattle.model.specs.Address.{guarded, clear}
 use Rattle.model.specs.Queue as Queue
 use Rattle.model.specs.Queue.{first}
 use Rattle.model.specs.Mail as Mail

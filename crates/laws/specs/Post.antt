@@ -12,10 +12,9 @@ use lib.Dec.{eqb}
 use borrow.Author.Tests.{ne-eqb}
 use Rattle.model.specs.Map.{label, lastFlag, lastName, link, longest, lower, memorySize, note, notice, ownQueue, ownSemaphore, pair, place, q1}
 use Rattle.model.specs.Map.{reason, size, state, text, upper}
-use Rattle.model.specs.Bytes.{name, running, store, word}
+use Rattle.model.specs.Bytes.{name, running, store, word, join, wake, deliver, writeMessage, makeNotice}
 use Rattle.model.specs.Mail as Mail
 use Rattle.model.specs.Mail.{fits}
-use Rattle.model.specs.Bytes.{join, wake, deliver, writeMessage, makeNotice}
 use Rattle.model.specs.Lists.{hit, count, Lists, sum, uses}
 use Rattle.laws.specs.Count.{hit-self}
 use Rattle.laws.specs.Chain.{Page, Chain}

@@ -10,7 +10,7 @@ use lib.ListN.{length}
 use lib.Dec.{eqb}
 use borrow.Author.Tests.{eq-eqb}
 use Rattle.model.specs.Map.{memorySize}
-use Rattle.model.specs.Bytes.{running}
+use Rattle.model.specs.Bytes.{running, Step, fresh, instruction, interrupt, readRegisters, setRegisters, judge, lr}
 use Rattle.model.specs.declared.Registers.{Registers}
 use Rattle.model.specs.declared.Answer.{Answer}
 use Rattle.model.specs.declared.Answer.the-variants.{Done, Waits, HandedOut, Fault, Refused}
@@ -27,7 +27,6 @@ use Rattle.model.specs.Fresh.{startable}
 use Rattle.model.specs.Call as Call
 use Rattle.model.specs.Call.{isOuter, isClass}
 use Rattle.model.specs.Bytes as Model
-use Rattle.model.specs.Bytes.{Step, fresh, instruction, interrupt, readRegisters, setRegisters, judge, lr}
 use Rattle.laws.specs.Words.{either}
 use Rattle.laws.specs.Kinds.{Kind, fetched-kind}
 use Rattle.laws.specs.Kinds.Kind.{done, waits, handed, faulted, refused}

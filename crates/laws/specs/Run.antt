@@ -8,13 +8,12 @@ use native.Mathlib.Omega.{arith}
 use lib.ListN.{getD}
 use Rattle.model.specs.Map.{aWord}
 use Rattle.model.specs.Address.{wrapped}
-use Rattle.model.specs.Bytes.{running}
+use Rattle.model.specs.Bytes.{running, direct, pointed, argument, fetched, fieldAt}
 use Rattle.model.specs.declared.Arguments.{Arguments}
 use Rattle.model.specs.Instruction as Instruction
 use Rattle.model.specs.Instruction.{arguments, countedArguments, depCode, shapeFor, st1Code, stpCode}
 use Rattle.model.specs.Answer as Answer
 use Rattle.model.specs.Bytes as Model
-use Rattle.model.specs.Bytes.{direct, pointed, argument, fetched, fieldAt}
 use Rattle.laws.specs.Judged.{WellFormed}
 use Rattle.laws.specs.Words.{Small}
 use Rattle.laws.specs.Ends.{Fine}

@@ -11,8 +11,7 @@ use lib.Dec.{eqb}
 use Rattle.model.specs.Map as Map
 use Rattle.model.specs.Map.{freeList, grantFor, guardedLast, headerAfter, link, listLink, lower, ownQueue, ownSemaphore, pageQueue, pageSize, place}
 use Rattle.model.specs.Map.{processorList, q1, q2, runningPage}
-use Rattle.model.specs.Bytes.{store, word}
-use Rattle.model.specs.Bytes.{leave}
+use Rattle.model.specs.Bytes.{store, word, leave}
 use Rattle.model.specs.Lists.{hit, count, Lists, sum, uses, queues}
 use Rattle.laws.specs.Count.{hit-self, hit-other, hit-or, count-append, zero-or}
 use Rattle.laws.specs.Chain.{Page, Chain, last, last-not, leave-is}

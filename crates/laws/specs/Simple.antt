@@ -12,7 +12,7 @@ use borrow.Author.Tests.{eqb-true, ltb-true, ltb-false, leb-false}
 use Rattle.model.specs.Map as Map
 use Rattle.model.specs.Map.{allCodes, builtInCodes, codeWord, guardedEnd, guardedFrom, guardedLast, guardedTo, high, highLr, label, lastFault, low}
 use Rattle.model.specs.Map.{lowLr, place, returnHigh, returnLow, threeFlags, topped, wSet, waitBit, waitIn, wordA, wordS, zerosIn}
-use Rattle.model.specs.Bytes.{running, store, word}
+use Rattle.model.specs.Bytes.{running, store, word, pageOf, isNamed, setCode, setRegistersOf}
 use Rattle.model.specs.declared.Registers.{Registers}
 use Rattle.model.specs.Address as Address
 use Rattle.model.specs.Address.{guarded}
@@ -23,7 +23,6 @@ use Rattle.model.specs.Instruction as Instruction
 use Rattle.model.specs.Instruction.{absent, builtIn, firstGoing, own}
 use Rattle.model.specs.Operate as Operate
 use Rattle.model.specs.Bytes as Model
-use Rattle.model.specs.Bytes.{pageOf, isNamed, setCode, setRegistersOf}
 use Rattle.model.specs.Lists.{count, Lists}
 use Rattle.laws.specs.Count.{hit-self, hit-or}
 use Rattle.laws.specs.Uses.{proc-page}

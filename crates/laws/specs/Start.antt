@@ -14,7 +14,7 @@ use Rattle.model.specs.Map.{firstPriority, firstUnused, freeList, freeSemaphore
 use Rattle.model.specs.Map.{interruptPage, kernelPages, lastLine, link, low, lowLr, memorySize, pageQueue, pageSize, pair, place, processorList}
 use Rattle.model.specs.Map.{runningLabel, runningPage, startAddress, stopPut, topped, wSet, wordA, wordS}
 use Rattle.model.specs.Address.{wrapped}
-use Rattle.model.specs.Bytes.{store}
+use Rattle.model.specs.Bytes.{store, lists, zeroed, cleared, firstProcessor, chained, allBuiltIn, started}
 use Rattle.model.specs.Store.{Store, bytes, trees, tget, tput, tzero, getT, putT, sizeT}
 use Rattle.model.specs.Same.{trees-is-bytes}
 use Rattle.model.specs.Rule.{Rule, most, holds, all, every}
@@ -26,7 +26,6 @@ use Rattle.model.specs.Mail as Mail
 use Rattle.model.specs.Lists as Lists
 use Rattle.model.specs.Judge as Judge
 use Rattle.model.specs.Fresh as Fresh
-use Rattle.model.specs.Bytes.{lists, zeroed, cleared, firstProcessor, chained, allBuiltIn, started}
 use Rattle.model.specs.Instruction.{builtIn}
 use Rattle.laws.specs.Count.{hit-or}
 use Rattle.laws.specs.Rules.{sound, complete}

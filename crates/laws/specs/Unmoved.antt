@@ -11,7 +11,7 @@ use lib.Dec.{eqb, ltb}
 use borrow.Author.Tests.{lt-ltb, le-ltb}
 use Rattle.model.specs.Map.{entriesFull, entryAt, firstControl, firstUnused, keeps, keptCount, lastControl, memorySize, pageSize, pair, place}
 use Rattle.model.specs.Map.{runningLabel, runningPage, state, stopSet, zeroPlace}
-use Rattle.model.specs.Bytes.{store, word}
+use Rattle.model.specs.Bytes.{store, word, fault, whoRuns, name, running}
 use Rattle.model.specs.declared.Answer.the-variants.{Fault}
 use Rattle.model.specs.Processor as Processor
 use Rattle.model.specs.Turn as Turn
@@ -19,7 +19,6 @@ use Rattle.model.specs.Fault as Faults
 use Rattle.model.specs.Answer as Answer
 use Rattle.model.specs.Answer.{answerOf, memoryOf}
 use Rattle.model.specs.Bytes as Model
-use Rattle.model.specs.Bytes.{fault, whoRuns, name, running}
 use Rattle.laws.specs.Frames.{other}
 use Rattle.laws.specs.Words.{either}
 use Rattle.laws.specs.Who.{zero-low, kept-frame, restored-frame}

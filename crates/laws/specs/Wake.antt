@@ -10,9 +10,8 @@ use lib.ListN.{length, getD, length-append}
 use lib.Dec.{eqb}
 use Rattle.model.specs.Map.{controlPages, freeList, freeSemaphore, grantFor, headerAfter, less, link, lower, ownQueue, pageQueue, pageSize, place}
 use Rattle.model.specs.Map.{processorList, q1, q2, raised, reason, state, stopCleared, waitBit, waitCleared, waitIn, zerosIn}
-use Rattle.model.specs.Bytes.{store, word}
+use Rattle.model.specs.Bytes.{store, word, unqueue, wake}
 use Rattle.model.specs.Wait as Wait
-use Rattle.model.specs.Bytes.{unqueue, wake}
 use Rattle.model.specs.Lists.{hit, count, Lists, sum, uses, queues, isGrant}
 use Rattle.laws.specs.Count.{hit-self, hit-other, hit-or, count-append, count-mid}
 use Rattle.laws.specs.Chain.{Page}
