@@ -13,12 +13,91 @@ ghost use Rattle.model.specs.Address.{wrapped};
 ghost use Rattle.model.specs.Instruction as Instruction;
 ghost use Rattle.model.specs.Bytes as Model;
 
-// CVI DVI GIN WIN SME WNM RME TME ST1 STP ST2 CRP DEP 13 EXI: the length of each, how many argument words it has for EXI, and its shape.
-const LENGTHS: [u8; map::TABLE_ROWS] = [4, 2, 2, 4, 4, 3, 4, 4, 2, 2, 4, 5, 2, 4, 4];
+// What the table says of an instruction: its length, how many argument words it has for EXI, and their shape.
+struct Row {
+    length: u8,
+    count: u8,
+    shape: u8,
+}
 
-const COUNTS: [u8; map::TABLE_ROWS] = [3, 1, 0, 2, 4, 2, 4, 4, 1, 1, 3, 5, 1, 4, 0];
-
-const SHAPES: [u8; map::TABLE_ROWS] = [2, 1, 0, 3, 5, 4, 5, 5, 1, 1, 2, 6, 1, 5, 5];
+// CVI DVI GIN WIN SME WNM RME TME ST1 STP ST2 CRP DEP 13 EXI.
+const TABLE: [Row; map::TABLE_ROWS] = [
+    Row {
+        length: 4,
+        count: 3,
+        shape: instructions::ADDRESSED,
+    },
+    Row {
+        length: 2,
+        count: 1,
+        shape: instructions::PLAIN,
+    },
+    Row {
+        length: 2,
+        count: 0,
+        shape: instructions::BARE,
+    },
+    Row {
+        length: 4,
+        count: 2,
+        shape: instructions::COUNTED,
+    },
+    Row {
+        length: 4,
+        count: 4,
+        shape: instructions::COMPLETE,
+    },
+    Row {
+        length: 3,
+        count: 2,
+        shape: instructions::FLAGGED,
+    },
+    Row {
+        length: 4,
+        count: 4,
+        shape: instructions::COMPLETE,
+    },
+    Row {
+        length: 4,
+        count: 4,
+        shape: instructions::COMPLETE,
+    },
+    Row {
+        length: 2,
+        count: 1,
+        shape: instructions::PLAIN,
+    },
+    Row {
+        length: 2,
+        count: 1,
+        shape: instructions::PLAIN,
+    },
+    Row {
+        length: 4,
+        count: 3,
+        shape: instructions::ADDRESSED,
+    },
+    Row {
+        length: 5,
+        count: 5,
+        shape: instructions::CREATING,
+    },
+    Row {
+        length: 2,
+        count: 1,
+        shape: instructions::PLAIN,
+    },
+    Row {
+        length: 4,
+        count: 4,
+        shape: instructions::COMPLETE,
+    },
+    Row {
+        length: 4,
+        count: 0,
+        shape: instructions::COMPLETE,
+    },
+];
 
 // The most that each of up to five argument words may be, a row for each shape.
 const LIMITS: [u8; 35] = [
@@ -59,31 +138,41 @@ const LIMITS: [u8; 35] = [
     map::A_WORD,
 ];
 
+// The row of code c; a code that has none is as short as any, and has no arguments.
+fn row_for(c: u8) -> Row
+    ensures { λ r. ⌜ (r .length ≡ Instruction.lengthFor c) × (r .count ≡ Instruction.countFor c) × (r .shape ≡ Instruction.shapeFor c)
+        × (2 ≤ r .length) × (r .length ≤ 5) × (r .count ≤ 5) × (r .shape ≤ 6) ⌝ }
+{
+    if c < map::BUILT_IN_CODES {
+        return TABLE[c as usize];
+    }
+    Row {
+        length: 2,
+        count: 0,
+        shape: instructions::BARE,
+    }
+}
+
+// Its length, how many argument words it has for EXI, and their shape.
 pub fn length_for(c: u8) -> u8
     ensures { λ r. ⌜ (r ≡ Instruction.lengthFor c) × (2 ≤ r) × (r ≤ 5) ⌝ }
 {
-    if c < map::BUILT_IN_CODES {
-        return LENGTHS[c as usize];
-    }
-    2
+    let row = row_for(c);
+    row.length
 }
 
 pub fn count_for(c: u8) -> u8
     ensures { λ r. ⌜ (r ≡ Instruction.countFor c) × (r ≤ 5) ⌝ }
 {
-    if c < map::BUILT_IN_CODES {
-        return COUNTS[c as usize];
-    }
-    0
+    let row = row_for(c);
+    row.count
 }
 
 pub fn shape_for(c: u8) -> u8
     ensures { λ r. ⌜ (r ≡ Instruction.shapeFor c) × (r ≤ 6) ⌝ }
 {
-    if c < map::BUILT_IN_CODES {
-        return SHAPES[c as usize];
-    }
-    0
+    let row = row_for(c);
+    row.shape
 }
 
 fn limit_for(s: u8, i: u8) -> u8

@@ -5,10 +5,13 @@ use answers::jump;
 use answers::wait;
 use interrupts::serve;
 use model::Answer;
+use model::ControlPage;
+use model::Registers;
 use model::faults;
 use model::instructions;
 use model::map;
 use model::wide;
+use processors::accumulate;
 use processors::advance;
 use processors::lr;
 use processors::name;
@@ -27,6 +30,7 @@ ghost use Prim.Native.Nat.{_<_};
 ghost use lib.ListN.{length};
 ghost use Rattle.model.specs.Answer.Outcome.{gives};
 ghost use Rattle.model.specs.Bytes as Model;
+ghost use Rattle.codes.specs.Sum.{summed};
 
 // The kind of code c, and its program's address.
 pub fn kind(m: &[u8], c: u8) -> u8
@@ -106,20 +110,25 @@ pub fn win(m: &mut [u8], k: u8, c: u8, len: u16) -> Answer
     wait(m, map::SEMAPHORES + 2 * wide(k), c)
 }
 
+// The registers of page p with the sum of A and the word at a.
+fn sum(m: &[u8], p: ControlPage, a: u16) -> Registers
+    requires { ⌜ (length (now m) ≡ 8192) × (a < 8192) ⌝ }
+    ensures { λ r. ⌜ r ≡ summed (now (m .entry)) (p .0) a ⌝ }
+{
+    let r = Registers::of(m, p);
+    let s = r.a + wide(at(m, a));
+    let n = r.set_accumulator(s % map::WORD_VALUES);
+    n.set_carry(s / map::WORD_VALUES)
+}
+
 // Code 13's work on the word at a: 0 adds, 1 stores, 2 ands, 3 increments.
 fn add(m: &mut [u8], a: u16)
     requires { ⌜ (length (now m) ≡ 8192) × (a < 8192) ⌝ }
     ensures { λ _. ⌜ now (m .exit) ≡ Model.adds (now (m .entry)) a ⌝ }
 {
     let p = running(m);
-    let s = wide(p.word(m, map::WORD_A)) + wide(at(m, a));
-    let x = p.word(m, map::HIGH_LR);
-    p.store(m, map::WORD_A, (s % map::WORD_VALUES) as u8);
-    p.store(
-        m,
-        map::HIGH_LR,
-        (s / map::WORD_VALUES) as u8 * map::STOP_BIT + x % map::STOP_BIT,
-    );
+    let r = sum(m, p, a);
+    r.hand_back(m, p);
 }
 
 fn store_a(m: &mut [u8], a: u16)
@@ -129,7 +138,7 @@ fn store_a(m: &mut [u8], a: u16)
     let p = running(m);
     let v = p.word(m, map::WORD_A);
     write(m, a, v);
-    p.store(m, map::WORD_A, 0);
+    accumulate(m, p, 0);
 }
 
 fn and(m: &mut [u8], a: u16)
@@ -139,7 +148,7 @@ fn and(m: &mut [u8], a: u16)
     let p = running(m);
     let v = p.word(m, map::WORD_A);
     let w = at(m, a);
-    p.store(m, map::WORD_A, v & w);
+    accumulate(m, p, v & w);
 }
 
 fn increment(m: &mut [u8], a: u16)

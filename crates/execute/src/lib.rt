@@ -131,7 +131,8 @@ fn exi_step(m: &mut [u8], x: Arguments, depth: u8) -> Answer
     if f == faults::NONE {
         let s = shape_for(c);
         let y = pointed(m, e, s);
-        return execute(m, c, y, 4, depth - 1);
+        let l = length_for(instructions::EXI);
+        return execute(m, c, y, wide(l), depth - 1);
     }
     fault(m, f)
 }

@@ -2,6 +2,7 @@
 use model::ControlPage;
 use model::map;
 use model::wide;
+use processors::accumulate;
 use processors::wake;
 use words::at;
 use words::lowered;
@@ -24,7 +25,7 @@ fn class(m: &mut [u8], k: u8, c: u8, p: ControlPage)
     if map::LAST_OUTER < k {
         return;
     }
-    p.store(m, map::WORD_A, c);
+    accumulate(m, p, c);
 }
 
 // A waiter on page p: reason 1 wakes and leaves, else the reason falls by one.

@@ -106,7 +106,7 @@ impl Registers {
     // The registers of the processor of page p.
     pub fn of(m: &[u8], p: ControlPage) -> Self
         requires { ⌜ length (now m) ≡ 8192 ⌝ }
-        ensures { λ r. ⌜ (r ≡ Model.registersOf (now (m .entry)) (p .0)) × (r .lr < 8192) ⌝ }
+        ensures { λ r. ⌜ (r ≡ Model.registersOf (now (m .entry)) (p .0)) × (r .lr < 8192) × (r .a < 256) ⌝ }
     {
         let a = wide(p.word(m, map::WORD_A));
         let s = wide(p.word(m, map::WORD_S));
@@ -154,6 +154,29 @@ impl Registers {
         ensures { λ r. ⌜ r ≡ Processor.accumulated self v ⌝ }
     {
         self.a = v;
+        self
+    }
+
+    // LR becomes a.
+    pub fn jump(mut self, a: u16) -> Self
+        ensures { λ r. ⌜ r ≡ record { a = self .a; s = self .s; p = self .p; z = self .z; ci = self .ci; lr = a; w = self .w; stopped = self .stopped } ⌝ }
+    {
+        self.lr = a;
+        self
+    }
+
+    // P becomes the carry.
+    pub fn set_carry(mut self, v: u16) -> Self
+        ensures { λ r. ⌜ r ≡ record { a = self .a; s = self .s; p = v; z = self .z; ci = self .ci; lr = self .lr; w = self .w; stopped = self .stopped } ⌝ }
+    {
+        self.p = v;
+        self
+    }
+
+    pub fn clear_stopped(mut self) -> Self
+        ensures { λ r. ⌜ r ≡ record { a = self .a; s = self .s; p = self .p; z = self .z; ci = self .ci; lr = self .lr; w = self .w; stopped = 0 } ⌝ }
+    {
+        self.stopped = 0;
         self
     }
 

@@ -6,23 +6,15 @@ use borrow.Author.Tests.{lt-ltb, le-ltb}
 use native.Mathlib.Numerals.{sub-one}
 use native.Mathlib.Omega.{arith}
 use Rattle.model.specs.Map.{place, waitCleared, reason, state, ownSemaphore, freeSemaphore, semaphoreAfter, interrupts, firstUnused, entryAt, entriesFull}
-use Rattle.model.specs.declared.Registers.{Registers}
-use Rattle.model.specs.Processor as Processor
-use Rattle.model.specs.Processor.{advanced}
 use Rattle.model.specs.Wait as Wait
 use Rattle.model.specs.Fault as Fault
-use Rattle.model.specs.Bytes.{Memory, at, write, word, store, running, registersOf, setLr, advance, wake, queued, seat, unqueue, leaveWait, entered}
+use Rattle.model.specs.Bytes.{Memory, at, write, word, store, wake, queued, seat, unqueue, leaveWait, entered}
 
 -- ---- straight lines
 pub wake-is : (m m₁ m₂ m₃ : Memory) (s p x : ℕ) → m₁ ≡ unqueue m s p → x ≡ word m₁ p state → m₂ ≡ store m₁ p state (waitCleared x) → m₃ ≡ store m₂ p reason 0
     → m₃ ≡ wake m s p
 unfolding Wait.wake
 wake-is m m₁ m₂ m₃ s p x e₁ ex e₂ e₃ = rw (← e₁, ← ex, ← e₂) e₃
-
-pub advance-is : (m m₁ : Memory) (len p : ℕ) (r n : Registers) → p ≡ running m → r ≡ registersOf m p → n ≡ advanced r len → m₁ ≡ setLr m p (n .lr)
-    → m₁ ≡ advance m len
-unfolding Processor.advance Processor.registersOf
-advance-is m m₁ len p r n ep er en e₁ = rw (← ep) (rw (en, er) at e₁)
 
 -- ---- waiting
 pub seat-page : (n : ℕ) (m : Memory) (p : ℕ) (b : Bool) → n ≡ 0 → b ≡ queued m freeSemaphore p → b ≡ true → freeSemaphore ≡ seat n m p
@@ -67,4 +59,4 @@ module _ (m : Memory) (e n : ℕ) (en : n ≡ at m firstUnused) where
   unfolding Fault.entered
   enter-full h = rw (← en, le-ltb n entriesFull h)
 
-pub ruleset waiting = (wake-is, advance-is, seat-page, seat-own, seat-here, seat-on, wait-left, wait-none, enter-room, enter-full)
+pub ruleset waiting = (wake-is, seat-page, seat-own, seat-here, seat-on, wait-left, wait-none, enter-room, enter-full)

@@ -8,14 +8,13 @@ use queues::find_page;
 use queues::join;
 use queues::leave;
 use words::at;
-use words::high;
-use words::low;
 use words::lowered;
 use words::raised;
 use words::write;
 ghost use mathlib.Core.Path.{_≡_};
 ghost use Prim.Native.Nat.{_<_, _≤_};
 ghost use lib.ListN.{length};
+ghost use Rattle.model.specs.Map as Map;
 ghost use Rattle.model.specs.Bytes as Model;
 
 // The running processor's page; page 0: nobody runs.
@@ -35,31 +34,41 @@ pub fn name(m: &[u8], p: ControlPage) -> u8
     w % map::FIELD
 }
 
-// The stopped bit of page p is set, is cleared.
+// By the record, on page p: A becomes v; the stopped bit is set, is cleared; LR becomes a.
+pub fn accumulate(m: &mut [u8], p: ControlPage, v: u8)
+    requires { ⌜ length (now m) ≡ 8192 ⌝ }
+    ensures { λ _. ⌜ now (m .exit) ≡ Model.store (now (m .entry)) (p .0) Map.wordA v ⌝ }
+{
+    let r = Registers::of(m, p);
+    let n = r.set_accumulator(wide(v));
+    n.hand_back(m, p);
+}
+
 pub fn stop(m: &mut [u8], p: ControlPage)
     requires { ⌜ length (now m) ≡ 8192 ⌝ }
     ensures { λ _. ⌜ now (m .exit) ≡ Model.stop (now (m .entry)) (p .0) ⌝ }
 {
-    let x = p.word(m, map::STATE);
-    p.store(m, map::STATE, x % map::STOP_BIT + map::STOP_BIT);
+    let r = Registers::of(m, p);
+    let n = r.set_stopped();
+    n.hand_back(m, p);
 }
 
 pub fn start(m: &mut [u8], p: ControlPage)
     requires { ⌜ length (now m) ≡ 8192 ⌝ }
     ensures { λ _. ⌜ now (m .exit) ≡ Model.start (now (m .entry)) (p .0) ⌝ }
 {
-    let x = p.word(m, map::STATE);
-    p.store(m, map::STATE, x % map::STOP_BIT);
+    let r = Registers::of(m, p);
+    let n = r.clear_stopped();
+    n.hand_back(m, p);
 }
 
-// LR of page p becomes a.
 pub fn set_lr(m: &mut [u8], p: ControlPage, a: u16)
     requires { ⌜ length (now m) ≡ 8192 ⌝ }
     ensures { λ _. ⌜ now (m .exit) ≡ Model.setLr (now (m .entry)) (p .0) a ⌝ }
 {
-    let x = p.word(m, map::HIGH_LR);
-    p.store(m, map::HIGH_LR, x / map::HIGHS * map::HIGHS + high(a));
-    p.store(m, map::LOW_LR, low(a));
+    let r = Registers::of(m, p);
+    let n = r.jump(a);
+    n.hand_back(m, p);
 }
 
 // LR of the running processor, and LR grown by len.
@@ -78,8 +87,8 @@ pub fn advance(m: &mut [u8], len: u16)
 {
     let p = running(m);
     let r = Registers::of(m, p);
-    let next = r.advance(len);
-    set_lr(m, p, next.lr);
+    let n = r.advance(len);
+    n.hand_back(m, p);
 }
 
 // p joins, leaves the wait queue at s.

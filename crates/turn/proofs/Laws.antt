@@ -1,6 +1,6 @@
 -- What who runs is found by, step by step.
 use Prim.Native.Nat.{ℕ, zero, suc, _+_, _-_, _≤_, _<_}
-use mathlib.Core.Path.{_≡_, refl}
+use mathlib.Core.Path.{_≡_, refl, _∙_}
 use mathlib.Core.List.{List}
 use lib.Dec.{ltb}
 use lib.ListN.{getD}
@@ -12,8 +12,9 @@ use Rattle.model.specs.Map.{place, zeroPlace, keeps, keptCount}
 use Rattle.model.specs.Turn as Turn
 use Rattle.model.specs.Turn.{fold}
 use Rattle.model.specs.Bytes.{Memory, running, processors, chosen, at, store, write, walk, priority, stays, better, contextOf}
-use Rattle.model.specs.Bytes.{savedOf, onPage0, keptOn, kept, restored, save, load, runs}
+use Rattle.model.specs.Bytes.{savedOf, onPage0, keptOn, kept, restored, save, load, runs, handBack}
 use Rattle.queues.proofs.Laws.{walk-none, walk-end, walk-on}
+use Rattle.processors.proofs.Records.{Bytes, back-same}
 
 pub above-is : (m : Memory) (b p v w : ℕ) → v ≡ priority m b → w ≡ priority m p → ltb v w ≡ ltb (priority m b) (priority m p)
 above-is m b p v w ev ew = rw (← ev, ← ew)
@@ -68,14 +69,15 @@ restored-on zero m m₁ m₂ a w o ea e₁ e₂ = absurd (o refl)
 restored-on (suc n) m m₁ m₂ a w o ea e₁ e₂ = rw (← (simp sub-one at ea), ← (simp sub-one at e₁)) (simp sub-one at e₂)
 
 -- ---- the change
-module _ (m m₁ : Memory) (p : ℕ) (c : Context) where
-  pub save-is : c ≡ contextOf m p → m₁ ≡ kept keptCount m p (c .words) → m₁ ≡ kept keptCount m p (onPage0 m)
+-- the registers of a context come back to where they were taken from, so they change nothing
+module _ (m m₁ m₂ : Memory) (p : ℕ) (c : Context) (b : Bytes m) where
+  pub save-is : c ≡ contextOf m p → m₁ ≡ handBack m p (c .registers) → m₂ ≡ kept keptCount m₁ p (c .words) → m₂ ≡ kept keptCount m p (onPage0 m)
   unfolding Turn.contextOf
-  save-is ec e₁ = rw ec at e₁
+  save-is ec e₁ e₂ = let e : m₁ ≡ m = rw ec at e₁ ∙ back-same m p b in rw (e, ec) at e₂
 
-  pub load-is : c ≡ savedOf m p → m₁ ≡ restored keptCount m (c .words) → m₁ ≡ restored keptCount m (keptOn m p)
+  pub load-is : c ≡ savedOf m p → m₁ ≡ handBack m p (c .registers) → m₂ ≡ restored keptCount m₁ (c .words) → m₂ ≡ restored keptCount m (keptOn m p)
   unfolding Turn.savedOf
-  load-is ec e₁ = rw ec at e₁
+  load-is ec e₁ e₂ = let e : m₁ ≡ m = rw ec at e₁ ∙ back-same m p b in rw (e, ec) at e₂
 
 pub switch-is : (m m₁ m₂ m₃ : Memory) (a b : ℕ) → m₁ ≡ save m a → m₂ ≡ load m₁ b → m₃ ≡ runs m₂ b → m₃ ≡ runs (load (save m a) b) b
 switch-is m m₁ m₂ m₃ a b e₁ e₂ e₃ = rw (← e₁, ← e₂) e₃

@@ -215,7 +215,9 @@ fn save(m: &mut [u8], p: ControlPage)
         return;
     }
     let c = context_of(m, p);
+    let r = c.registers;
     let w = c.words;
+    r.hand_back(m, p);
     keep(m, p, w, map::KEPT_COUNT);
 }
 
@@ -227,7 +229,9 @@ fn load(m: &mut [u8], p: ControlPage)
         return;
     }
     let c = saved_of(m, p);
+    let r = c.registers;
     let w = c.words;
+    r.hand_back(m, p);
     restore(m, w, map::KEPT_COUNT);
 }
 

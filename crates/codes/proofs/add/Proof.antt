@@ -1,26 +1,12 @@
 use borrow.Author.Needs.{needs}
-use Rattle.model.specs.Operate as Operate
+use Rattle.codes.proofs.Laws.{codes}
 use Rattle.codes.proofs.add.Statement.{statement}
 use Rattle.codes.proofs.add.Tie as tie
-
-returns : tie.Need-returns
-unfolding Operate.adds
-returns c = cc
 
 pub add-spec : {M : Type 1} → statement M
 add-spec = tie.close (tie.spec
     (λ c κs. search needs)
     (λ c κs. search needs)
     (λ c κs. search needs)
-    (λ c κs. search needs)
-    (λ c κs. search needs)
     (λ c. search needs)
-    (λ c κs. search needs)
-    (λ c. search needs)
-    (λ c κs. search needs)
-    (λ c. search needs)
-    (λ c. search needs)
-    (λ c. search needs)
-    (λ c κs. search needs)
-    (λ c. search needs)
-    returns)
+    (λ c. search (needs, codes)))

@@ -12,6 +12,7 @@ use Rattle.execute.proofs.exi_step.Reads as exi-step
 use Rattle.execute.proofs.exi_step.Kinds as exi-step-kinds
 use Rattle.execute.proofs.+execute+exi_step.Lts-exi_step as exi-step-lts
 use Rattle.answers.proofs.fault.Reads as fault-reads
+use Rattle.arguments.proofs.length_for.Reads as length-for-reads
 use Rattle.arguments.proofs.pointed.Reads as pointed-reads
 use Rattle.arguments.proofs.shape_for.Reads as shape-for-reads
 use Rattle.codes.proofs.cvi.Reads as cvi-reads
@@ -30,6 +31,7 @@ use Rattle.sending.proofs.rme.Reads as rme-reads
 use Rattle.sending.proofs.sme.Reads as sme-reads
 use Rattle.sending.proofs.tme.Reads as tme-reads
 use Rattle.sending.proofs.wnm.Reads as wnm-reads
+use Rattle.model.proofs.wide.Reads as wide-reads
 use Rattle.execute.proofs.+execute+exi_step.{statement}
 use Rattle.execute.proofs.+execute+exi_step.Tie.{close}
 
@@ -143,6 +145,10 @@ unfolding Execute.run
       shape-for-reads.Learnt,
       pointed-reads.Asked,
       pointed-reads.Learnt,
+      length-for-reads.Asked,
+      length-for-reads.Learnt,
+      wide-reads.Asked,
+      wide-reads.Learnt,
       execute-below t,
       execute.Post,
     )
@@ -156,6 +162,8 @@ unfolding Execute.run
     (λ c κs. search needs)
     (λ c. search needs)
     (λ c. search (needs, executing))
+    (λ c κs. search needs)
+    (λ c κs. search needs)
     (λ c κs. search needs)
     (λ c κs. search needs)
     (λ c κs. search needs)

@@ -1,5 +1,5 @@
 use borrow.Author.Needs.{needs}
-use Rattle.processors.proofs.Laws.{waiting}
+use Rattle.processors.proofs.Records.{records}
 use Rattle.processors.proofs.advance.Statement.{statement}
 use Rattle.processors.proofs.advance.Tie as tie
 
@@ -10,4 +10,4 @@ advance-spec = tie.close (tie.spec
     (λ c κs. search needs)
     (λ c κs. search needs)
     (λ c. search needs)
-    (λ c. search (needs, waiting)))
+    (λ c. search (needs, records)))

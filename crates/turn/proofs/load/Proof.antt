@@ -11,5 +11,6 @@ load-spec = tie.close (tie.spec
     (λ c. search (needs, ways, turns))
     (λ c κs. search needs)
     (λ c κs. search needs)
+    (λ c κs. search needs)
     (λ c. search needs)
     (λ c. search (needs, ways, turns)))

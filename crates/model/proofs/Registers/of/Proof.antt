@@ -5,7 +5,7 @@ use Rattle.model.proofs.Registers.of.Tie as tie
 
 returns : tie.Need-returns
 unfolding Processor.registersOf
-returns c = (cc, search needs)
+returns c = (cc, search needs, search needs)
 
 pub of-spec : {M : Type 1} → statement M
 of-spec = tie.close (tie.spec

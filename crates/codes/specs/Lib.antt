@@ -1,0 +1,2 @@
+-- What a contract of code 13 cites beside the model.
+pub mod Sum
