@@ -7,6 +7,7 @@ use lib.ListN.{length, getD}
 use borrow.Author.Tests.{eq-eqb, ne-eqb, lt-ltb, le-ltb, le-leb, lt-leb}
 use native.Mathlib.Numerals.{sub-one}
 use native.Mathlib.Omega.{arith}
+use Rattle.script.specs.Sizes.{longestLine, largestNumber, noNumber, mostValues, mostNumbers, wrongNumbers, space}
 use Rattle.script.specs.declared.reading.Figures.{Figures}
 use Rattle.script.specs.declared.Order.{Order}
 use Rattle.script.specs.declared.Order.the-variants.{Nothing, NotUnderstood}
@@ -21,15 +22,15 @@ module _ (s : List ℕ) where
   skip-none zero a e = refl
   skip-none (suc n) a e = absurd (omega arith)
 
-  pub skip-on : (n a r : ℕ) → (n ≡ 0 → ⊥) → getD s a 0 ≡ 32 → r ≡ skip (n - 1) s (a + 1) → r ≡ skip n s a
+  pub skip-on : (n a r : ℕ) → (n ≡ 0 → ⊥) → getD s a 0 ≡ space → r ≡ skip (n - 1) s (a + 1) → r ≡ skip n s a
   unfolding skip
   skip-on zero a r o e h = absurd (o refl)
-  skip-on (suc n) a r o e h = rw (eq-eqb (getD s a 0) 32 e, skip) (simp sub-one at h)
+  skip-on (suc n) a r o e h = rw (eq-eqb (getD s a 0) space e, skip) (simp sub-one at h)
 
-  pub skip-end : (n a : ℕ) → (getD s a 0 ≡ 32 → ⊥) → a ≡ skip n s a
+  pub skip-end : (n a : ℕ) → (getD s a 0 ≡ space → ⊥) → a ≡ skip n s a
   unfolding skip
   skip-end zero a e = refl
-  skip-end (suc n) a e = rw (ne-eqb (getD s a 0) 32 e, skip)
+  skip-end (suc n) a e = rw (ne-eqb (getD s a 0) space e, skip)
 
   pub wordEnd-none : (n a : ℕ) → n ≡ 0 → a ≡ wordEnd n s a
   unfolding wordEnd
@@ -63,7 +64,7 @@ module _ (s : List ℕ) where
   digits-on (suc n) a v w b r o e h ew er = rw (← e, h, digits, ← ew) (simp sub-one at er)
 
   module _ (a b : ℕ) (d : Figures) (eb : b ≡ skip (length s - a) s a) (ed : d ≡ digits (length s - b) s b 0) where
-    pub number-none : d .next ≡ b → record { value = 65536; next = b } ≡ number s a
+    pub number-none : d .next ≡ b → record { value = noNumber; next = b } ≡ number s a
     unfolding number
     number-none z = rw (← eb, ← ed, eq-eqb (d .next) b z)
 
@@ -72,28 +73,28 @@ module _ (s : List ℕ) where
     number-is z = rw (← eb, ← ed, ne-eqb (d .next) b z)
 
   module _ (v : List ℕ) where
-    pub numbers-ended : (n a : ℕ) (b : Bool) → n ≤ 33 → b ≡ ended s a → b ≡ true → read (33 - n) v ≡ numbers n s a v
+    pub numbers-ended : (n a : ℕ) (b : Bool) → n ≤ mostNumbers → b ≡ ended s a → b ≡ true → read (mostNumbers - n) v ≡ numbers n s a v
     unfolding numbers
     numbers-ended zero a b l e h = rw (← e, h, numbers)
-    numbers-ended (suc n) a b l e h = let g : 33 - suc n ≡ 32 - n = omega arith in rw (← e, h, numbers, g)
+    numbers-ended (suc n) a b l e h = let g : mostNumbers - suc n ≡ mostValues - n = omega arith in rw (← e, h, numbers, g)
 
-    pub numbers-full : (n a : ℕ) (b : Bool) → n ≡ 0 → b ≡ ended s a → b ≡ false → read 34 v ≡ numbers n s a v
+    pub numbers-full : (n a : ℕ) (b : Bool) → n ≡ 0 → b ≡ ended s a → b ≡ false → read wrongNumbers v ≡ numbers n s a v
     unfolding numbers
     numbers-full zero a b z e h = rw (← e, h, numbers)
     numbers-full (suc n) a b z e h = absurd (omega arith)
 
-    pub numbers-wrong : (n a : ℕ) (b : Bool) (x : Figures) → (n ≡ 0 → ⊥) → b ≡ ended s a → b ≡ false → x ≡ number s a → 65535 < x .value
-        → read 34 v ≡ numbers n s a v
+    pub numbers-wrong : (n a : ℕ) (b : Bool) (x : Figures) → (n ≡ 0 → ⊥) → b ≡ ended s a → b ≡ false → x ≡ number s a → largestNumber < x .value
+        → read wrongNumbers v ≡ numbers n s a v
     unfolding numbers
     numbers-wrong zero a b x o e h ex l = absurd (o refl)
-    numbers-wrong (suc n) a b x o e h ex l = rw (← e, h, numbers, ← ex, lt-ltb 65535 (x .value) l)
+    numbers-wrong (suc n) a b x o e h ex l = rw (← e, h, numbers, ← ex, lt-ltb largestNumber (x .value) l)
 
-    pub numbers-on : (n a i k : ℕ) (b : Bool) (x : Figures) (v₁ v₂ : List ℕ) → (n ≡ 0 → ⊥) → n ≤ 33 → b ≡ ended s a → b ≡ false → x ≡ number s a
-        → x .value ≤ 65535 → i ≡ 33 - n → v₁ ≡ keep v i (x .value) → read k v₂ ≡ numbers (n - 1) s (x .next) v₁ → read k v₂ ≡ numbers n s a v
+    pub numbers-on : (n a i k : ℕ) (b : Bool) (x : Figures) (v₁ v₂ : List ℕ) → (n ≡ 0 → ⊥) → n ≤ mostNumbers → b ≡ ended s a → b ≡ false → x ≡ number s a
+        → x .value ≤ largestNumber → i ≡ mostNumbers - n → v₁ ≡ keep v i (x .value) → read k v₂ ≡ numbers (n - 1) s (x .next) v₁ → read k v₂ ≡ numbers n s a v
     unfolding numbers
     numbers-on zero a i k b x v₁ v₂ o m e h ex l ei e₁ e₂ = absurd (o refl)
     numbers-on (suc n) a i k b x v₁ v₂ o m e h ex l ei e₁ e₂ =
-        let g : i ≡ 32 - n = omega arith in rw (← e, h, numbers, ← ex, le-ltb 65535 (x .value) l, ← ex, ← g, ← e₁) (simp sub-one at e₂)
+        let g : i ≡ mostValues - n = omega arith in rw (← e, h, numbers, ← ex, le-ltb largestNumber (x .value) l, ← ex, ← g, ← e₁) (simp sub-one at e₂)
 
   module _ (a : ℕ) (w : List ℕ) where
     pub same-none : (n : ℕ) → n ≡ 0 → true ≡ same n s a w
@@ -119,24 +120,24 @@ module _ (s : List ℕ) where
     unfolding isWord
     isWord-not e h = rw (ne-eqb (e - a) (length w) h)
 
-  pub ordered-is : (a e n : ℕ) (v w : List ℕ) (o : Order) → e ≡ wordEnd (length s - a) s a → read n w ≡ numbers 33 s e v → o ≡ callOrder s a e w n
+  pub ordered-is : (a e n : ℕ) (v w : List ℕ) (o : Order) → e ≡ wordEnd (length s - a) s a → read n w ≡ numbers mostNumbers s e v → o ≡ callOrder s a e w n
       → parsed o w ≡ ordered s a v
   unfolding ordered
   ordered-is a e n v w o ee en eo = rw (← ee, ← en, ordered, ← eo)
 
   module _ (v : List ℕ) where
-    pub parse-long : 255 < length s → parsed NotUnderstood v ≡ parse s v
+    pub parse-long : longestLine < length s → parsed NotUnderstood v ≡ parse s v
     unfolding parse
-    parse-long h = rw (lt-ltb 255 (length s) h)
+    parse-long h = rw (lt-ltb longestLine (length s) h)
 
-    module _ (a : ℕ) (b : Bool) (l : length s ≤ 255) (ea : a ≡ skip (length s) s 0) (eb : b ≡ ends s a) where
+    module _ (a : ℕ) (b : Bool) (l : length s ≤ longestLine) (ea : a ≡ skip (length s) s 0) (eb : b ≡ ends s a) where
       pub parse-nothing : b ≡ true → parsed Nothing v ≡ parse s v
       unfolding parse
-      parse-nothing h = rw (le-ltb 255 (length s) l, ← ea, ← eb, h)
+      parse-nothing h = rw (le-ltb longestLine (length s) l, ← ea, ← eb, h)
 
       pub parse-is : (o : Order) (w : List ℕ) → b ≡ false → parsed o w ≡ ordered s a v → parsed o w ≡ parse s v
       unfolding parse
-      parse-is o w h e = rw (le-ltb 255 (length s) l, ← ea, ← eb, h) e
+      parse-is o w h e = rw (le-ltb longestLine (length s) l, ← ea, ← eb, h) e
 
 -- Of the orders of a line, one by one: it is this; it is none of these yet.
 module _ (b c : Bool) (x y r : Order) (e : c ≡ b) where

@@ -4,6 +4,7 @@ use mathlib.Core.Bool.{Bool, true, false, cond}
 use mathlib.Core.List.{List, [], _∷_}
 use lib.ListN.{length, getD, set}
 use lib.Dec.{eqb, ltb, leb}
+use Rattle.script.specs.Sizes.{longestLine, largestNumber, noNumber, mostValues, mostNumbers, wrongNumbers, space, sharp, digit0, digit9}
 use Rattle.script.specs.declared.Seven.{Seven}
 use Rattle.script.specs.declared.reading.Figures.{Figures}
 use Rattle.script.specs.declared.Order.{Order}
@@ -13,11 +14,11 @@ use Rattle.script.specs.declared.Order.the-variants.{Put, Break, Length,
 -- "Words in a line are parted by spaces": the place after those from a on, with n characters left
 unfoldable pub skip : ℕ → List ℕ → ℕ → ℕ
 skip zero s a = a
-skip (suc n) s a = elim (eqb (getD s a 0) 32) [ true ↦ skip n s (a + 1) | false ↦ a ]
+skip (suc n) s a = elim (eqb (getD s a 0) space) [ true ↦ skip n s (a + 1) | false ↦ a ]
 
 -- a word ends before a space and before a #
 unfoldable pub parts : ℕ → Bool
-parts b = cond (eqb b 32) true (eqb b 35)
+parts b = cond (eqb b space) true (eqb b sharp)
 
 unfoldable pub wordEnd : ℕ → List ℕ → ℕ → ℕ
 wordEnd zero s a = a
@@ -25,17 +26,17 @@ wordEnd (suc n) s a = elim (parts (getD s a 0)) [ true ↦ a | false ↦ wordEnd
 
 -- "# and what follows it on the line is a comment"
 unfoldable pub ends : List ℕ → ℕ → Bool
-ends s a = cond (eqb a (length s)) true (eqb (getD s a 0) 35)
+ends s a = cond (eqb a (length s)) true (eqb (getD s a 0) sharp)
 
 unfoldable pub ended : List ℕ → ℕ → Bool
 ended s a = ends s (skip (length s - a) s a)
 
--- "numbers are digits only, 0 to 65535": 65536 stands for all above, and for none
+-- "numbers are digits only, 0 to 65535"
 unfoldable pub isDigit : ℕ → Bool
-isDigit b = cond (ltb b 48) false (leb b 57)
+isDigit b = cond (ltb b digit0) false (leb b digit9)
 
 unfoldable pub more : ℕ → ℕ → ℕ
-more v b = cond (ltb (v * 10 + b % 16) 65536) (v * 10 + b % 16) 65536
+more v b = cond (ltb (v * 10 + b % 16) noNumber) (v * 10 + b % 16) noNumber
 
 unfoldable pub digits : ℕ → List ℕ → ℕ → ℕ → Figures
 digits zero s a v = record { value = v; next = a }
@@ -46,7 +47,7 @@ unfoldable pub number : List ℕ → ℕ → Figures
 number s a = from (skip (length s - a) s a)
   where
     said : ℕ → Figures → Figures
-    said b d = cond (eqb (d .next) b) (record { value = 65536; next = b }) d
+    said b d = cond (eqb (d .next) b) (record { value = noNumber; next = b }) d
 
     from : ℕ → Figures
     from b = said b (digits (length s - b) s b 0)
@@ -58,16 +59,16 @@ pub data Read : Type 0 where
 unfoldable pub keep : List ℕ → ℕ → ℕ → List ℕ
 keep v i x = set v i x
 
--- the numbers to the end of the line, with room for n more of 33; 34 where one is wrong or one too many
+-- the numbers to the end of the line, with room for n more; wrongNumbers where one is wrong or one too many
 unfoldable pub numbers : ℕ → List ℕ → ℕ → List ℕ → Read
-numbers zero s a v = cond (ended s a) (read 33 v) (read 34 v)
+numbers zero s a v = cond (ended s a) (read mostNumbers v) (read wrongNumbers v)
 numbers (suc n) s a v = elim (ended s a) [
-  | true ↦ read (32 - n) v
+  | true ↦ read (mostValues - n) v
   | false ↦
-      elim (ltb 65535 (number s a .value)) [
-        | true ↦ read 34 v
+      elim (ltb largestNumber (number s a .value)) [
+        | true ↦ read wrongNumbers v
         | false ↦
-            numbers n s (number s a .next) (keep v (32 - n) (number s a .value))
+            numbers n s (number s a .next) (keep v (mostValues - n) (number s a .value))
       ]
 ]
 
@@ -101,7 +102,7 @@ registers v = record {
 
 -- "1 to 32 values"; "`put` and `break` with no value, or with more than 32, are not understood"
 unfoldable pub values : ℕ → ℕ
-values n = cond (ltb n 2) 0 (cond (ltb 33 n) 0 (n - 1))
+values n = cond (ltb n 2) 0 (cond (ltb mostNumbers n) 0 (n - 1))
 
 unfoldable pub valued : Order → ℕ → Order
 valued o k = cond (eqb k 0) NotUnderstood o
@@ -188,11 +189,11 @@ ordered s a v = from (wordEnd (length s - a) s a)
     said e (read n w) = parsed (callOrder s a e w n) w
 
     from : ℕ → Parsed
-    from e = said e (numbers 33 s e v)
+    from e = said e (numbers mostNumbers s e v)
 
 -- "A line of over 255 characters is not understood." "An empty line does nothing."
 unfoldable pub parse : List ℕ → List ℕ → Parsed
-parse s v = cond (ltb 255 (length s)) (parsed NotUnderstood v) (from (skip (length s) s 0))
+parse s v = cond (ltb longestLine (length s)) (parsed NotUnderstood v) (from (skip (length s) s 0))
   where
     from : ℕ → Parsed
     from a = cond (ends s a) (parsed Nothing v) (ordered s a v)

@@ -1,5 +1,6 @@
 // A line of a script: a word and the numbers behind it. What each function answers is said in specs/Script.antt.
 mod reading;
+pub mod sizes;
 
 use reading::ends;
 use reading::is_word;
@@ -9,6 +10,7 @@ use reading::word_end;
 ghost use mathlib.Core.Path.{_≡_};
 ghost use Prim.Native.Nat.{_≤_};
 ghost use lib.ListN.{length};
+ghost use Rattle.script.specs.Sizes.{mostNumbers};
 ghost use Rattle.script.specs.Script as Script;
 ghost use Rattle.script.specs.Script.Parsed.{parsed};
 
@@ -41,152 +43,152 @@ pub enum Order {
     Show,
 }
 
-// The order o, which has k numbers, of a line with n.
-fn counted(o: Order, n: usize, k: usize) -> Order
-    ensures { λ r. ⌜ r ≡ Script.counted o n k ⌝ }
+// An order, which has so many numbers, of a line with `count`.
+fn counted(order: Order, count: usize, wanted: usize) -> Order
+    ensures { λ r. ⌜ r ≡ Script.counted order count wanted ⌝ }
 {
-    if n == k {
-        return o;
+    if count == wanted {
+        return order;
     }
     Order::NotUnderstood
 }
 
-// How many values stand behind the address in n numbers; 0 where they are not 1 to 32.
-fn values(n: usize) -> usize
-    ensures { λ r. ⌜ r ≡ Script.values n ⌝ }
+// How many values stand behind the address in `count` numbers; 0 where they are not 1 to 32.
+fn values(count: usize) -> usize
+    ensures { λ r. ⌜ r ≡ Script.values count ⌝ }
 {
-    if n < 2 {
+    if count < 2 {
         return 0;
     }
-    if 33 < n {
+    if sizes::MOST_NUMBERS < count {
         return 0;
     }
-    n - 1
+    count - 1
 }
 
-// The order o, which has k values.
-fn valued(o: Order, k: usize) -> Order
-    ensures { λ r. ⌜ r ≡ Script.valued o k ⌝ }
+// An order with so many values.
+fn valued(order: Order, values: usize) -> Order
+    ensures { λ r. ⌜ r ≡ Script.valued order values ⌝ }
 {
-    if k == 0 {
+    if values == 0 {
         return Order::NotUnderstood;
     }
-    o
+    order
 }
 
 // The class number may be left out.
-fn interrupt(v: &[u16], n: usize) -> Order
-    requires { ⌜ length (now v) ≡ 33 ⌝ }
-    ensures { λ r. ⌜ r ≡ Script.interrupt (now (v .entry)) n ⌝ }
+fn interrupt(given: &[u16], count: usize) -> Order
+    requires { ⌜ length (now given) ≡ mostNumbers ⌝ }
+    ensures { λ r. ⌜ r ≡ Script.interrupt (now (given .entry)) count ⌝ }
 {
-    if n == 1 {
-        return Order::Interrupt(v[0], 0);
+    if count == 1 {
+        return Order::Interrupt(given[0], 0);
     }
-    counted(Order::Interrupt(v[0], v[1]), n, 2)
+    counted(Order::Interrupt(given[0], given[1]), count, 2)
 }
 
-fn registers(v: &[u16]) -> Seven
-    requires { ⌜ length (now v) ≡ 33 ⌝ }
-    ensures { λ r. ⌜ r ≡ Script.registers (now (v .entry)) ⌝ }
+fn registers(given: &[u16]) -> Seven
+    requires { ⌜ length (now given) ≡ mostNumbers ⌝ }
+    ensures { λ r. ⌜ r ≡ Script.registers (now (given .entry)) ⌝ }
 {
     Seven {
-        a: v[0],
-        s: v[1],
-        p: v[2],
-        z: v[3],
-        ci: v[4],
-        lr: v[5],
-        w: v[6],
+        a: given[0],
+        s: given[1],
+        p: given[2],
+        z: given[3],
+        ci: given[4],
+        lr: given[5],
+        w: given[6],
     }
 }
 
-// The orders by their words; s has one between two places, v has the n numbers behind it.
-fn host_order(s: &[u8], at: usize, end: usize, v: &[u16], n: usize) -> Order
-    requires { ⌜ (at ≤ end) × (end ≤ length (now s)) × (length (now v) ≡ 33) ⌝ }
-    ensures { λ r. ⌜ r ≡ Script.hostOrder (now (s .entry)) at end (now (v .entry)) n ⌝ }
+// The orders by their words; the line has one between two places, `given` has the numbers behind it, so many.
+fn host_order(line: &[u8], at: usize, end: usize, given: &[u16], count: usize) -> Order
+    requires { ⌜ (at ≤ end) × (end ≤ length (now line)) × (length (now given) ≡ mostNumbers) ⌝ }
+    ensures { λ r. ⌜ r ≡ Script.hostOrder (now (line .entry)) at end (now (given .entry)) count ⌝ }
 {
-    if is_word(s, at, end, b"words") {
-        return counted(Order::Words(v[0], v[1]), n, 2);
+    if is_word(line, at, end, b"words") {
+        return counted(Order::Words(given[0], given[1]), count, 2);
     }
-    if is_word(s, at, end, b"changes") {
-        return counted(Order::Changes, n, 0);
+    if is_word(line, at, end, b"changes") {
+        return counted(Order::Changes, count, 0);
     }
-    if is_word(s, at, end, b"show") {
-        return counted(Order::Show, n, 0);
+    if is_word(line, at, end, b"show") {
+        return counted(Order::Show, count, 0);
     }
     Order::NotUnderstood
 }
 
-fn store_order(s: &[u8], at: usize, end: usize, v: &[u16], n: usize) -> Order
-    requires { ⌜ (at ≤ end) × (end ≤ length (now s)) × (length (now v) ≡ 33) ⌝ }
-    ensures { λ r. ⌜ r ≡ Script.storeOrder (now (s .entry)) at end (now (v .entry)) n ⌝ }
+fn store_order(line: &[u8], at: usize, end: usize, given: &[u16], count: usize) -> Order
+    requires { ⌜ (at ≤ end) × (end ≤ length (now line)) × (length (now given) ≡ mostNumbers) ⌝ }
+    ensures { λ r. ⌜ r ≡ Script.storeOrder (now (line .entry)) at end (now (given .entry)) count ⌝ }
 {
-    let k = values(n);
-    if is_word(s, at, end, b"put") {
-        return valued(Order::Put(v[0], k), k);
+    let values = values(count);
+    if is_word(line, at, end, b"put") {
+        return valued(Order::Put(given[0], values), values);
     }
-    if is_word(s, at, end, b"break") {
-        return valued(Order::Break(v[0], k), k);
+    if is_word(line, at, end, b"break") {
+        return valued(Order::Break(given[0], values), values);
     }
-    if is_word(s, at, end, b"length") {
-        return counted(Order::Length(v[0]), n, 1);
+    if is_word(line, at, end, b"length") {
+        return counted(Order::Length(given[0]), count, 1);
     }
-    host_order(s, at, end, v, n)
+    host_order(line, at, end, given, count)
 }
 
-fn look_order(s: &[u8], at: usize, end: usize, v: &[u16], n: usize) -> Order
-    requires { ⌜ (at ≤ end) × (end ≤ length (now s)) × (length (now v) ≡ 33) ⌝ }
-    ensures { λ r. ⌜ r ≡ Script.lookOrder (now (s .entry)) at end (now (v .entry)) n ⌝ }
+fn look_order(line: &[u8], at: usize, end: usize, given: &[u16], count: usize) -> Order
+    requires { ⌜ (at ≤ end) × (end ≤ length (now line)) × (length (now given) ≡ mostNumbers) ⌝ }
+    ensures { λ r. ⌜ r ≡ Script.lookOrder (now (line .entry)) at end (now (given .entry)) count ⌝ }
 {
-    if is_word(s, at, end, b"registers") {
-        return counted(Order::Registers, n, 0);
+    if is_word(line, at, end, b"registers") {
+        return counted(Order::Registers, count, 0);
     }
-    if is_word(s, at, end, b"set") {
-        return counted(Order::Set(registers(v)), n, 7);
+    if is_word(line, at, end, b"set") {
+        return counted(Order::Set(registers(given)), count, sizes::SET_NUMBERS);
     }
-    if is_word(s, at, end, b"judge") {
-        return counted(Order::Judge, n, 0);
+    if is_word(line, at, end, b"judge") {
+        return counted(Order::Judge, count, 0);
     }
-    store_order(s, at, end, v, n)
+    store_order(line, at, end, given, count)
 }
 
-fn call_order(s: &[u8], at: usize, end: usize, v: &[u16], n: usize) -> Order
-    requires { ⌜ (at ≤ end) × (end ≤ length (now s)) × (length (now v) ≡ 33) ⌝ }
-    ensures { λ r. ⌜ r ≡ Script.callOrder (now (s .entry)) at end (now (v .entry)) n ⌝ }
+fn call_order(line: &[u8], at: usize, end: usize, given: &[u16], count: usize) -> Order
+    requires { ⌜ (at ≤ end) × (end ≤ length (now line)) × (length (now given) ≡ mostNumbers) ⌝ }
+    ensures { λ r. ⌜ r ≡ Script.callOrder (now (line .entry)) at end (now (given .entry)) count ⌝ }
 {
-    if is_word(s, at, end, b"fresh") {
-        return counted(Order::Fresh(v[0], v[1]), n, 2);
+    if is_word(line, at, end, b"fresh") {
+        return counted(Order::Fresh(given[0], given[1]), count, 2);
     }
-    if is_word(s, at, end, b"step") {
-        return counted(Order::Step, n, 0);
+    if is_word(line, at, end, b"step") {
+        return counted(Order::Step, count, 0);
     }
-    if is_word(s, at, end, b"interrupt") {
-        return interrupt(v, n);
+    if is_word(line, at, end, b"interrupt") {
+        return interrupt(given, count);
     }
-    look_order(s, at, end, v, n)
+    look_order(line, at, end, given, count)
 }
 
-// The order that begins at a place; its numbers go to v.
-fn ordered(s: &[u8], at: usize, v: &mut [u16]) -> Order
-    requires { ⌜ (at ≤ length (now s)) × (length (now v) ≡ 33) ⌝ }
-    ensures { λ r. ⌜ parsed r (now (v .exit)) ≡ Script.ordered (now (s .entry)) at (now (v .entry)) ⌝ }
+// The order that begins at a place; its numbers go to `given`.
+fn ordered(line: &[u8], at: usize, given: &mut [u16]) -> Order
+    requires { ⌜ (at ≤ length (now line)) × (length (now given) ≡ mostNumbers) ⌝ }
+    ensures { λ r. ⌜ parsed r (now (given .exit)) ≡ Script.ordered (now (line .entry)) at (now (given .entry)) ⌝ }
 {
-    let end = word_end(s, at, s.len() - at);
-    let n = numbers(s, end, v, 33);
-    call_order(s, at, end, v, n)
+    let end = word_end(line, at, line.len() - at);
+    let count = numbers(line, end, given, sizes::MOST_NUMBERS);
+    call_order(line, at, end, given, count)
 }
 
-// What a line asks for, in numbers that go to v; of Put and Break the values are those from v[1] on.
-pub fn parse(s: &[u8], v: &mut [u16]) -> Order
-    requires { ⌜ length (now v) ≡ 33 ⌝ }
-    ensures { λ r. ⌜ parsed r (now (v .exit)) ≡ Script.parse (now (s .entry)) (now (v .entry)) ⌝ }
+// What a line asks for; its numbers go to `given`. Of Put and Break the values are those from given[1] on.
+pub fn parse(line: &[u8], given: &mut [u16]) -> Order
+    requires { ⌜ length (now given) ≡ mostNumbers ⌝ }
+    ensures { λ r. ⌜ parsed r (now (given .exit)) ≡ Script.parse (now (line .entry)) (now (given .entry)) ⌝ }
 {
-    if 255 < s.len() {
+    if sizes::LONGEST_LINE < line.len() {
         return Order::NotUnderstood;
     }
-    let at = skip(s, 0, s.len());
-    if ends(s, at) {
+    let at = skip(line, 0, line.len());
+    if ends(line, at) {
         return Order::Nothing;
     }
-    ordered(s, at, v)
+    ordered(line, at, given)
 }

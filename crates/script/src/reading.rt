@@ -1,177 +1,179 @@
 // The parts of a line: blanks, words and numbers. What each function answers is said in specs/Script.antt.
+use crate::sizes;
 ghost use mathlib.Core.Path.{_≡_};
 ghost use Prim.Native.Nat.{_<_, _≤_, _+_};
 ghost use lib.ListN.{length};
+ghost use Rattle.script.specs.Sizes.{noNumber, mostNumbers, wrongNumbers};
 ghost use Rattle.script.specs.Script as Script;
 ghost use Rattle.script.specs.Script.Read.{read};
 
-// A number, 65536 where there is none or it is larger, and the place after it.
+// A number, 65536 where there is none or it is larger, and the place behind it.
 pub struct Figures {
     pub value: u32,
     pub next: usize,
 }
 
 // The place after the blanks from `at` on; `left` characters are left.
-pub fn skip(s: &[u8], at: usize, left: usize) -> usize
-    requires { ⌜ at + left ≡ length (now s) ⌝ }
-    ensures { λ r. ⌜ (r ≡ Script.skip left (now (s .entry)) at) × (r ≤ length (now (s .entry))) ⌝ }
+pub fn skip(line: &[u8], at: usize, left: usize) -> usize
+    requires { ⌜ at + left ≡ length (now line) ⌝ }
+    ensures { λ r. ⌜ (r ≡ Script.skip left (now (line .entry)) at) × (r ≤ length (now (line .entry))) ⌝ }
 {
     if left == 0 {
         return at;
     }
-    let b = s[at];
-    if b == b' ' {
-        return skip(s, at + 1, left - 1);
+    let character = line[at];
+    if character == b' ' {
+        return skip(line, at + 1, left - 1);
     }
     at
 }
 
-// Whether a word ends before the character b.
-fn parts(b: u8) -> bool
-    ensures { λ r. ⌜ r ≡ Script.parts b ⌝ }
+// Whether a word ends before a character.
+fn parts(character: u8) -> bool
+    ensures { λ r. ⌜ r ≡ Script.parts character ⌝ }
 {
-    if b == b' ' {
+    if character == b' ' {
         return true;
     }
-    b == b'#'
+    character == b'#'
 }
 
 // The place after the word that begins at `at`; `left` characters are left.
-pub fn word_end(s: &[u8], at: usize, left: usize) -> usize
-    requires { ⌜ at + left ≡ length (now s) ⌝ }
-    ensures { λ r. ⌜ (r ≡ Script.wordEnd left (now (s .entry)) at) × (at ≤ r) × (r ≤ length (now (s .entry))) ⌝ }
+pub fn word_end(line: &[u8], at: usize, left: usize) -> usize
+    requires { ⌜ at + left ≡ length (now line) ⌝ }
+    ensures { λ r. ⌜ (r ≡ Script.wordEnd left (now (line .entry)) at) × (at ≤ r) × (r ≤ length (now (line .entry))) ⌝ }
 {
     if left == 0 {
         return at;
     }
-    let b = s[at];
-    if parts(b) {
+    let character = line[at];
+    if parts(character) {
         return at;
     }
-    word_end(s, at + 1, left - 1)
+    word_end(line, at + 1, left - 1)
 }
 
 // Whether the line, or what counts of it, ends at a place.
-pub fn ends(s: &[u8], at: usize) -> bool
-    requires { ⌜ at ≤ length (now s) ⌝ }
-    ensures { λ r. ⌜ r ≡ Script.ends (now (s .entry)) at ⌝ }
+pub fn ends(line: &[u8], at: usize) -> bool
+    requires { ⌜ at ≤ length (now line) ⌝ }
+    ensures { λ r. ⌜ r ≡ Script.ends (now (line .entry)) at ⌝ }
 {
-    if at == s.len() {
+    if at == line.len() {
         return true;
     }
-    s[at] == b'#'
+    line[at] == b'#'
 }
 
 // Whether only blanks, and a comment perhaps, stand from a place on.
-fn ended(s: &[u8], at: usize) -> bool
-    requires { ⌜ at ≤ length (now s) ⌝ }
-    ensures { λ r. ⌜ r ≡ Script.ended (now (s .entry)) at ⌝ }
+fn ended(line: &[u8], at: usize) -> bool
+    requires { ⌜ at ≤ length (now line) ⌝ }
+    ensures { λ r. ⌜ r ≡ Script.ended (now (line .entry)) at ⌝ }
 {
-    let a = skip(s, at, s.len() - at);
-    ends(s, a)
+    let next = skip(line, at, line.len() - at);
+    ends(line, next)
 }
 
-fn is_digit(b: u8) -> bool
-    ensures { λ r. ⌜ r ≡ Script.isDigit b ⌝ }
+fn is_digit(character: u8) -> bool
+    ensures { λ r. ⌜ r ≡ Script.isDigit character ⌝ }
 {
-    if b < b'0' {
+    if character < b'0' {
         return false;
     }
-    b <= b'9'
+    character <= b'9'
 }
 
-// One digit more; 65536 stands for all above.
-fn more(v: u32, b: u8) -> u32
-    requires { ⌜ v ≤ 65536 ⌝ }
-    ensures { λ r. ⌜ (r ≡ Script.more v b) × (r ≤ 65536) ⌝ }
+// A value with one digit more.
+fn more(value: u32, digit: u8) -> u32
+    requires { ⌜ value ≤ noNumber ⌝ }
+    ensures { λ r. ⌜ (r ≡ Script.more value digit) × (r ≤ noNumber) ⌝ }
 {
-    let x = v * 10 + (b as u32) % 16;
-    if x < 65536 {
-        return x;
+    let grown = value * 10 + (digit as u32) % 16;
+    if grown < sizes::NO_NUMBER {
+        return grown;
     }
-    65536
+    sizes::NO_NUMBER
 }
 
-// The digits from `at` on, behind those whose value is v; `left` characters are left.
-fn digits(s: &[u8], at: usize, left: usize, v: u32) -> Figures
-    requires { ⌜ (at + left ≡ length (now s)) × (v ≤ 65536) ⌝ }
-    ensures { λ r. ⌜ (r ≡ Script.digits left (now (s .entry)) at v) × (r .next ≤ length (now (s .entry))) ⌝ }
+// The digits from `at` on, behind those whose value is known; `left` characters are left.
+fn digits(line: &[u8], at: usize, left: usize, value: u32) -> Figures
+    requires { ⌜ (at + left ≡ length (now line)) × (value ≤ noNumber) ⌝ }
+    ensures { λ r. ⌜ (r ≡ Script.digits left (now (line .entry)) at value) × (r .next ≤ length (now (line .entry))) ⌝ }
 {
     if left == 0 {
-        return Figures { value: v, next: at };
+        return Figures { value, next: at };
     }
-    let b = s[at];
-    if is_digit(b) {
-        return digits(s, at + 1, left - 1, more(v, b));
+    let character = line[at];
+    if is_digit(character) {
+        return digits(line, at + 1, left - 1, more(value, character));
     }
-    Figures { value: v, next: at }
+    Figures { value, next: at }
 }
 
 // The number behind the blanks from `at` on.
-fn number(s: &[u8], at: usize) -> Figures
-    requires { ⌜ at ≤ length (now s) ⌝ }
-    ensures { λ r. ⌜ (r ≡ Script.number (now (s .entry)) at) × (r .next ≤ length (now (s .entry))) ⌝ }
+fn number(line: &[u8], at: usize) -> Figures
+    requires { ⌜ at ≤ length (now line) ⌝ }
+    ensures { λ r. ⌜ (r ≡ Script.number (now (line .entry)) at) × (r .next ≤ length (now (line .entry))) ⌝ }
 {
-    let a = skip(s, at, s.len() - at);
-    let d = digits(s, a, s.len() - a, 0);
-    if d.next == a {
+    let start = skip(line, at, line.len() - at);
+    let figures = digits(line, start, line.len() - start, 0);
+    if figures.next == start {
         return Figures {
-            value: 65536,
-            next: a,
+            value: sizes::NO_NUMBER,
+            next: start,
         };
     }
-    d
+    figures
 }
 
-// x becomes number i of v.
-fn keep(v: &mut [u16], i: usize, x: u16)
-    requires { ⌜ i < length (now v) ⌝ }
-    ensures { λ _. ⌜ now (v .exit) ≡ Script.keep (now (v .entry)) i x ⌝ }
+// A value becomes one of the numbers.
+fn keep(given: &mut [u16], at: usize, value: u16)
+    requires { ⌜ at < length (now given) ⌝ }
+    ensures { λ _. ⌜ now (given .exit) ≡ Script.keep (now (given .entry)) at value ⌝ }
 {
-    v[i] = x;
+    given[at] = value;
 }
 
-// The numbers from `at` on go to v, which has room for `left` more of its 33. Answers how many v has then; 34 where one is wrong or too many.
-pub fn numbers(s: &[u8], at: usize, v: &mut [u16], left: usize) -> usize
-    requires { ⌜ (at ≤ length (now s)) × (length (now v) ≡ 33) × (left ≤ 33) ⌝ }
-    ensures { λ r. ⌜ (read r (now (v .exit)) ≡ Script.numbers left (now (s .entry)) at (now (v .entry))) × (r ≤ 34) ⌝ }
+// The numbers from `at` on go to `given`, which has room for `left` more. Answers how many it has then, or that one is wrong or too many.
+pub fn numbers(line: &[u8], at: usize, given: &mut [u16], left: usize) -> usize
+    requires { ⌜ (at ≤ length (now line)) × (length (now given) ≡ mostNumbers) × (left ≤ mostNumbers) ⌝ }
+    ensures { λ r. ⌜ (read r (now (given .exit)) ≡ Script.numbers left (now (line .entry)) at (now (given .entry))) × (r ≤ wrongNumbers) ⌝ }
 {
-    if ended(s, at) {
-        return 33 - left;
+    if ended(line, at) {
+        return sizes::MOST_NUMBERS - left;
     }
     if left == 0 {
-        return 34;
+        return sizes::WRONG_NUMBERS;
     }
-    let x = number(s, at);
-    if 65535 < x.value {
-        return 34;
+    let figures = number(line, at);
+    if sizes::LARGEST_NUMBER < figures.value {
+        return sizes::WRONG_NUMBERS;
     }
-    let i = 33 - left;
-    keep(v, i, x.value as u16);
-    numbers(s, x.next, v, left - 1)
+    let count = sizes::MOST_NUMBERS - left;
+    keep(given, count, figures.value as u16);
+    numbers(line, figures.next, given, left - 1)
 }
 
-// Whether the first n characters of w stand at a place.
-fn same(s: &[u8], at: usize, w: &[u8], n: usize) -> bool
-    requires { ⌜ (at + n ≤ length (now s)) × (n ≤ length (now w)) ⌝ }
-    ensures { λ r. ⌜ r ≡ Script.same n (now (s .entry)) at (now (w .entry)) ⌝ }
+// Whether the first `count` characters of a word stand at a place.
+fn same(line: &[u8], at: usize, word: &[u8], count: usize) -> bool
+    requires { ⌜ (at + count ≤ length (now line)) × (count ≤ length (now word)) ⌝ }
+    ensures { λ r. ⌜ r ≡ Script.same count (now (line .entry)) at (now (word .entry)) ⌝ }
 {
-    if n == 0 {
+    if count == 0 {
         return true;
     }
-    if s[at + (n - 1)] == w[n - 1] {
-        return same(s, at, w, n - 1);
+    if line[at + (count - 1)] == word[count - 1] {
+        return same(line, at, word, count - 1);
     }
     false
 }
 
-// Whether the word between two places is w.
-pub fn is_word(s: &[u8], at: usize, end: usize, w: &[u8]) -> bool
-    requires { ⌜ (at ≤ end) × (end ≤ length (now s)) ⌝ }
-    ensures { λ r. ⌜ r ≡ Script.isWord (now (s .entry)) at end (now (w .entry)) ⌝ }
+// Whether a word stands between two places.
+pub fn is_word(line: &[u8], at: usize, end: usize, word: &[u8]) -> bool
+    requires { ⌜ (at ≤ end) × (end ≤ length (now line)) ⌝ }
+    ensures { λ r. ⌜ r ≡ Script.isWord (now (line .entry)) at end (now (word .entry)) ⌝ }
 {
-    if end - at == w.len() {
-        return same(s, at, w, w.len());
+    if end - at == word.len() {
+        return same(line, at, word, word.len());
     }
     false
 }

@@ -1,6 +1,6 @@
 use borrow.Author.Needs.{needs}
 use Rattle.script.proofs.Laws.{reads}
-use Prim.Native.Nat.{ℕ, _<_, _+_}
+use Prim.Native.Nat.{ℕ, _<_}
 use borrow.Fn.PlainCycle.{Measures, is, falls, and}
 use Rattle.script.proofs.reading.numbers.Reads as own
 use Rattle.script.proofs.reading.numbers.Kinds as kinds
