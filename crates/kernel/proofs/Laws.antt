@@ -1,21 +1,27 @@
 -- The head of a call, what a call comes to behind its refusals, and that a call allows one outcome only.
 use Prim.Native.Nat.{ℕ, _≤_, _%_}
-use mathlib.Core.Path.{_≡_, refl, sym, _∙_}
+use mathlib.Core.Path.{_≡_, refl, sym, ap, _∙_}
+use mathlib.Core.List.{List}
 use mathlib.Core.Bool.{Bool, true, false, cond, false≢true}
 use lib.Dec.{eqb, ltb}
 use lib.ListN.{length}
 use borrow.Author.Tests.{ltb-false, eqb-true, eq-eqb, ne-eqb}
 use native.Mathlib.Omega.{arith}
+use Rattle.model.specs.declared.Answer.{Answer}
 use Rattle.model.specs.declared.Answer.the-variants.{Done}
+use Rattle.model.specs.declared.Held.{Held}
+use Rattle.model.specs.declared.Verdict.{Verdict}
 use Rattle.model.specs.declared.Registers.{Registers}
 use Rattle.model.specs.declared.Held.the-variants as Held
 use Rattle.model.specs.Map.{memorySize, low}
-use Rattle.model.specs.Answer.{Outcome, wrongLength, illFormed}
+use Rattle.model.specs.Answer.{Outcome, wrongLength, illFormed, numbers, heldNumbers, verdictNumbers}
 use Rattle.model.specs.Answer.Outcome.{gives}
 use Rattle.model.specs.Fresh as Fresh
 use Rattle.model.specs.Fresh.{startable}
 use Rattle.model.specs.Call as Call
 use Rattle.model.specs.Call.{isOuter, isClass}
+use Rattle.kernel.specs.Spoken as Spoken
+use Rattle.kernel.specs.Spoken.{spoken}
 use Rattle.model.specs.Bytes.{Memory, Step, refusal, head, judged, running, lr, registersOf, setRegistersOf, whoRuns, delivered, fetched, started}
 
 -- ---- what a range that was tested says: a test b did not refuse, and the next, x, is passed
@@ -95,5 +101,21 @@ module _ (m : Memory) where
 -- ---- two outcomes that one statement allows are equal, in answer and in memory: of each of the six calls, f being its outcome
 pub one-outcome : {A : Type 0} (a b : A) (m n : Memory) (f : Outcome A Memory) → gives a m ≡ f → gives b n ≡ f → (a ≡ b) × (m ≡ n)
 one-outcome a b m n f p q = let e : gives a m ≡ gives b n = p ∙ sym q in (cc, cc)
+
+-- ---- the same by numbers
+by-numbers : {A : Type 0} (ns : A → List ℕ) (a : A) (m : Memory) (o : Outcome A Memory) → gives a m ≡ o → gives (ns a) m ≡ spoken ns o
+unfolding Spoken.spoken
+by-numbers {A} ns a m o e = ap (λ (x : Outcome A Memory). spoken ns x) e
+
+pub said : (a : Answer) (m : Memory) (o : Outcome Answer Memory) → gives a m ≡ o → gives (numbers a) m ≡ spoken numbers o
+said = by-numbers numbers
+
+pub said-held : (a : Held) (m : Memory) (o : Outcome Held Memory) → gives a m ≡ o → gives (heldNumbers a) m ≡ spoken heldNumbers o
+said-held = by-numbers heldNumbers
+
+pub said-verdict : (a : Verdict) (m : Memory) (o : Outcome Verdict Memory) → gives a m ≡ o → gives (verdictNumbers a) m ≡ spoken verdictNumbers o
+said-verdict = by-numbers verdictNumbers
+
+pub ruleset sayings = (said, said-held, said-verdict)
 
 pub ruleset calls = (started-is, fetched-is, delivered-is, registers-are, registers-set)

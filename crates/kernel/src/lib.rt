@@ -1,4 +1,5 @@
-// The public calls. Any memory, of any length, and any numbers get an answer; each contract gives answer and whole memory for every input.
+// The public calls. Any memory, of any length, and any numbers get an answer; each contract gives answer and whole memory for every input, and says the same
+// by the paper's numbers of the answer.
 use execute::fetched;
 use fresh::start;
 use fresh::startable;
@@ -17,12 +18,15 @@ use words::low;
 ghost use mathlib.Core.Path.{_≡_};
 ghost use lib.ListN.{length};
 ghost use Rattle.model.specs.Call as Call;
+ghost use Rattle.model.specs.Answer.{numbers, heldNumbers, verdictNumbers};
 ghost use Rattle.model.specs.Answer.Outcome.{gives};
 ghost use Rattle.model.specs.Bytes as Model;
+ghost use Rattle.kernel.specs.Spoken.{spoken};
 
 // The fresh start, on any memory of 8,192 words.
 pub fn fresh(m: &mut [u8], line: u16, divider: u16) -> Answer
     ensures { λ r. ⌜ gives r (now (m .exit)) ≡ Model.fresh (now (m .entry)) line divider ⌝ }
+    ensures { λ r. ⌜ gives (numbers r) (now (m .exit)) ≡ spoken numbers (Model.fresh (now (m .entry)) line divider) ⌝ }
 {
     if m.len() != map::MEMORY_WORDS {
         return Answer::Refused(refusals::WRONG_LENGTH);
@@ -62,6 +66,7 @@ fn instruction_judged(m: &mut [u8]) -> Answer
 // One virtual instruction by the running processor.
 pub fn instruction(m: &mut [u8]) -> Answer
     ensures { λ r. ⌜ gives r (now (m .exit)) ≡ Model.instruction (now (m .entry)) ⌝ }
+    ensures { λ r. ⌜ gives (numbers r) (now (m .exit)) ≡ spoken numbers (Model.instruction (now (m .entry))) ⌝ }
 {
     let k = refusal(m);
     if k == refusals::NONE {
@@ -113,6 +118,7 @@ fn interrupt_judged(m: &mut [u8], k: u16, c: u16) -> Answer
 // Delivery of interrupt k with class number c.
 pub fn interrupt(m: &mut [u8], k: u16, c: u16) -> Answer
     ensures { λ r. ⌜ gives r (now (m .exit)) ≡ Model.interrupt (now (m .entry)) k c ⌝ }
+    ensures { λ r. ⌜ gives (numbers r) (now (m .exit)) ≡ spoken numbers (Model.interrupt (now (m .entry)) k c) ⌝ }
 {
     let f = refusal(m);
     if f == refusals::NONE {
@@ -135,6 +141,7 @@ fn read_judged(m: &[u8]) -> Held
 // The running processor's registers.
 pub fn read_registers(m: &[u8]) -> Held
     ensures { λ r. ⌜ gives r (now (m .entry)) ≡ Model.readRegisters (now (m .entry)) ⌝ }
+    ensures { λ r. ⌜ gives (heldNumbers r) (now (m .entry)) ≡ spoken heldNumbers (Model.readRegisters (now (m .entry))) ⌝ }
 {
     let k = refusal(m);
     if k == refusals::NONE {
@@ -161,6 +168,7 @@ fn set_judged(m: &mut [u8], r: Registers) -> Answer
 // The running processor's registers become r.
 pub fn set_registers(m: &mut [u8], r: Registers) -> Answer
     ensures { λ o. ⌜ gives o (now (m .exit)) ≡ Model.setRegisters (now (m .entry)) r ⌝ }
+    ensures { λ o. ⌜ gives (numbers o) (now (m .exit)) ≡ spoken numbers (Model.setRegisters (now (m .entry)) r) ⌝ }
 {
     let k = refusal(m);
     if k == refusals::NONE {
@@ -172,6 +180,7 @@ pub fn set_registers(m: &mut [u8], r: Registers) -> Answer
 // The judge of well-formed memory.
 pub fn judge(m: &[u8]) -> Verdict
     ensures { λ r. ⌜ gives r (now (m .entry)) ≡ Model.judge (now (m .entry)) ⌝ }
+    ensures { λ r. ⌜ gives (verdictNumbers r) (now (m .entry)) ≡ spoken verdictNumbers (Model.judge (now (m .entry))) ⌝ }
 {
     let k = refusal(m);
     if k == refusals::NONE {

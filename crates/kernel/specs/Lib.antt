@@ -1,0 +1,2 @@
+-- What the contracts of the calls say by numbers.
+pub mod Spoken
