@@ -1,6 +1,8 @@
 /* The kernel for hosts in C: six calls on one memory of 8,192 words, proved in crates/kernel and exported by crates/host.
  *
- * Build the archive with `rt staticlib host`; link target/staticlib/libhost.a (x86-64 Linux). `./host FILE.c` does both and runs the program.
+ * `./host --library` builds the library for x86-64 Linux and leaves it, with this header, in build/:
+ *     gcc -std=c11 -I build -o HOST HOST.c build/libhost.a
+ * `./host FILE.c` does that and runs the program.
  *
  * Every call takes any memory of any length and any numbers, answers, and ends. It reads and writes only the words lent to it and keeps nothing
  * between calls. docs/HOSTS.md says what a host may do between calls.
@@ -62,6 +64,35 @@ static inline unsigned wik_number(uint64_t answer) { return (unsigned)(answer & 
 static inline unsigned wik_first(uint64_t answer) { return (unsigned)(answer >> 8 & 65535); }
 static inline unsigned wik_second(uint64_t answer) { return (unsigned)(answer >> 24 & 65535); }
 
+/* What an answer says, in a few words for a log or a screen; docs/OPERATORS.md has what to do about each. */
+static inline const char *wik_text(uint64_t answer) {
+    switch (wik_number(answer)) {
+    case WIK_DONE: return "done";
+    case WIK_WAITS: return "waits";
+    case WIK_HANDED_OUT: return "handed out: an own code";
+    case WIK_ABSENT_CODE: return "fault: absent code";
+    case WIK_EXI_OF_EXI: return "fault: EXI of EXI";
+    case WIK_CODE_EXISTS: return "fault: the code exists";
+    case WIK_KEPT_CODE: return "fault: deleting code 0 or 1";
+    case WIK_BAD_WAIT: return "fault: no such interrupt to wait for, or count 0";
+    case WIK_NO_MATCH: return "fault: no such message in Q2";
+    case WIK_NO_NAME: return "fault: no such processor";
+    case WIK_NOT_STARTABLE: return "fault: the processor to start is not stopped, or also waits";
+    case WIK_NAME_EXISTS: return "fault: the name is taken";
+    case WIK_NOT_STOPPED: return "fault: the processor to delete is not stopped";
+    case WIK_PROTECTED: return "fault: protected word";
+    case WIK_BAD_ARGUMENT: return "fault: bad argument";
+    case WIK_WRONG_LENGTH: return "refused: the length is not 8192";
+    case WIK_ILL_FORMED: return "refused: the memory is not well-formed";
+    case WIK_IDLE: return "refused: nobody runs";
+    case WIK_NATIVE: return "refused: the word at LR is not 224";
+    case WIK_NO_INTERRUPT: return "refused: the interrupt is not 16-50";
+    case WIK_WRONG_CLASS: return "refused: the class number is over 31, or not 0 below interrupt 48";
+    case WIK_OUT_OF_RANGE: return "refused: a value is out of range";
+    default: return "no answer of this kernel";
+    }
+}
+
 /* The fresh start, on any memory of 8,192 words: processor 1 runs at 2752, nineteen pages are free. line is the clock's line, 16-47; divider is 1-255.
  * Answers WIK_DONE; 20; 26 where line or divider is out of range. */
 uint64_t wik_fresh(uint8_t *memory, size_t length, uint16_t line, uint16_t divider);
@@ -74,7 +105,7 @@ uint64_t wik_instruction(uint8_t *memory, size_t length);
  * Answers WIK_DONE; 20; 21; 24; 25. */
 uint64_t wik_interrupt(uint8_t *memory, size_t length, uint16_t number, uint16_t class_number);
 
-/* The registers of the running processor: bits 8-15 A, 16-23 S, 24 P, 25 Z, 26 CI, 27-39 LR, 40-43 W, 44 the stopped bit.
+/* The registers of the running processor, which is never stopped: bits 8-15 A, 16-23 S, 24 P, 25 Z, 26 CI, 27-39 LR, 40-43 W; all others are 0.
  * Answers WIK_DONE in bits 0-7; 20; 21; 22. Changes nothing. */
 uint64_t wik_read_registers(const uint8_t *memory, size_t length);
 
@@ -87,7 +118,7 @@ static inline unsigned wik_lr(uint64_t registers) { return (unsigned)(registers 
 static inline unsigned wik_w(uint64_t registers) { return (unsigned)(registers >> 40 & 15); }
 
 /* The running processor's registers become these: A and S 0-255, P, Z and CI 0-1, LR 0-8191, W 0-15.
- * Answers WIK_DONE; 20; 21; 22; 26 where a value is out of range. */
+ * Its stopped and waiting bits stay. Answers WIK_DONE; 20; 21; 22; 26 where a value is out of range. */
 uint64_t wik_set_registers(uint8_t *memory, size_t length, uint16_t a, uint16_t s, uint16_t p, uint16_t z, uint16_t ci, uint16_t lr, uint16_t w);
 
 /* The judge of well-formed memory. Answers WIK_DONE; 20; 21. Changes nothing. */
