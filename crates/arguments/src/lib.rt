@@ -138,13 +138,13 @@ const LIMITS: [u8; 35] = [
     map::A_WORD,
 ];
 
-// The row of code c; a code that has none is as short as any, and has no arguments.
-fn row_for(c: u8) -> Row
-    ensures { λ r. ⌜ (r .length ≡ Instruction.lengthFor c) × (r .count ≡ Instruction.countFor c) × (r .shape ≡ Instruction.shapeFor c)
+// The row of a code; one that has none is as short as any, and has no arguments.
+fn row_for(code: u8) -> Row
+    ensures { λ r. ⌜ (r .length ≡ Instruction.lengthFor code) × (r .count ≡ Instruction.countFor code) × (r .shape ≡ Instruction.shapeFor code)
         × (2 ≤ r .length) × (r .length ≤ 5) × (r .count ≤ 5) × (r .shape ≤ 6) ⌝ }
 {
-    if c < map::BUILT_IN_CODES {
-        return TABLE[c as usize];
+    if code < map::BUILT_IN_CODES {
+        return TABLE[code as usize];
     }
     Row {
         length: 2,
@@ -154,184 +154,184 @@ fn row_for(c: u8) -> Row
 }
 
 // Its length, how many argument words it has for EXI, and their shape.
-pub fn length_for(c: u8) -> u8
-    ensures { λ r. ⌜ (r ≡ Instruction.lengthFor c) × (2 ≤ r) × (r ≤ 5) ⌝ }
+pub fn length_for(code: u8) -> u8
+    ensures { λ r. ⌜ (r ≡ Instruction.lengthFor code) × (2 ≤ r) × (r ≤ 5) ⌝ }
 {
-    let row = row_for(c);
+    let row = row_for(code);
     row.length
 }
 
-pub fn count_for(c: u8) -> u8
-    ensures { λ r. ⌜ (r ≡ Instruction.countFor c) × (r ≤ 5) ⌝ }
+pub fn count_for(code: u8) -> u8
+    ensures { λ r. ⌜ (r ≡ Instruction.countFor code) × (r ≤ 5) ⌝ }
 {
-    let row = row_for(c);
+    let row = row_for(code);
     row.count
 }
 
-pub fn shape_for(c: u8) -> u8
-    ensures { λ r. ⌜ (r ≡ Instruction.shapeFor c) × (r ≤ 6) ⌝ }
+pub fn shape_for(code: u8) -> u8
+    ensures { λ r. ⌜ (r ≡ Instruction.shapeFor code) × (r ≤ 6) ⌝ }
 {
-    let row = row_for(c);
+    let row = row_for(code);
     row.shape
 }
 
-fn limit_for(s: u8, i: u8) -> u8
-    requires { ⌜ (s ≤ 6) × (i < 5) ⌝ }
-    ensures { λ r. ⌜ r ≡ Instruction.limitFor s i ⌝ }
+fn limit_for(shape: u8, index: u8) -> u8
+    requires { ⌜ (shape ≤ 6) × (index < 5) ⌝ }
+    ensures { λ r. ⌜ r ≡ Instruction.limitFor shape index ⌝ }
 {
-    let a = (s as usize) * 5 + (i as usize);
+    let a = (shape as usize) * 5 + (index as usize);
     LIMITS[a]
 }
 
 // A field, the number behind it, W and an address; or WIN's IK and count.
-fn arguments(f: u8, s: u8, w: u8, a: u16) -> Arguments
-    requires { ⌜ (f < 16) × (s < 16) × (w < 16) × (a < 8192) ⌝ }
-    ensures { λ r. ⌜ (r ≡ Instruction.arguments f s w a) × (r .field < 16) × (r .second < 16) × (r .w < 16) × (r .address < 8192) ⌝ }
+fn arguments(field: u8, second: u8, w: u8, address: u16) -> Arguments
+    requires { ⌜ (field < 16) × (second < 16) × (w < 16) × (address < 8192) ⌝ }
+    ensures { λ r. ⌜ (r ≡ Instruction.arguments field second w address) × (r .field < 16) × (r .second < 16) × (r .w < 16) × (r .address < 8192) ⌝ }
 {
     Arguments {
-        field: f,
-        second: s,
+        field,
+        second,
         w,
-        address: a,
+        address,
         interrupt: 0,
         count: 0,
     }
 }
 
-fn counted_arguments(k: u8, c: u8) -> Arguments
-    ensures { λ r. ⌜ (r ≡ Instruction.countedArguments k c) × (r .field < 16) × (r .second < 16) × (r .w < 16) × (r .address < 8192) ⌝ }
+fn counted_arguments(interrupt: u8, count: u8) -> Arguments
+    ensures { λ r. ⌜ (r ≡ Instruction.countedArguments interrupt count) × (r .field < 16) × (r .second < 16) × (r .w < 16) × (r .address < 8192) ⌝ }
 {
     Arguments {
         field: 0,
         second: 0,
         w: 0,
         address: 0,
-        interrupt: k,
-        count: c,
+        interrupt,
+        count,
     }
 }
 
-// Of the words from n on: word i, its low four bits, and the address in words i and i + 1.
-fn argument(m: &[u8], n: u16, i: u16) -> u8
-    requires { ⌜ (length (now m) ≡ 8192) × (n < 8192) × (i < 8192) ⌝ }
-    ensures { λ r. ⌜ r ≡ Model.argument (now (m .entry)) n i ⌝ }
+// Of the words from the start on: one by its index, its low four bits, and the address that begins there.
+fn argument(m: &[u8], start: u16, index: u16) -> u8
+    requires { ⌜ (length (now m) ≡ 8192) × (start < 8192) × (index < 8192) ⌝ }
+    ensures { λ r. ⌜ r ≡ Model.argument (now (m .entry)) start index ⌝ }
 {
-    at(m, wrapped(n, i))
+    at(m, wrapped(start, index))
 }
 
-fn four_at(m: &[u8], n: u16, i: u16) -> u8
-    requires { ⌜ (length (now m) ≡ 8192) × (n < 8192) × (i < 8192) ⌝ }
-    ensures { λ r. ⌜ (r ≡ Model.fourAt (now (m .entry)) n i) × (r < 16) ⌝ }
+fn four_at(m: &[u8], start: u16, index: u16) -> u8
+    requires { ⌜ (length (now m) ≡ 8192) × (start < 8192) × (index < 8192) ⌝ }
+    ensures { λ r. ⌜ (r ≡ Model.fourAt (now (m .entry)) start index) × (r < 16) ⌝ }
 {
-    argument(m, n, i) % map::FIELD
+    argument(m, start, index) % map::FIELD
 }
 
-fn address_from(m: &[u8], n: u16, i: u16) -> u16
-    requires { ⌜ (length (now m) ≡ 8192) × (n < 8192) × (i < 8192) ⌝ }
-    ensures { λ r. ⌜ (r ≡ Model.addressAt (now (m .entry)) (wrapped n i)) × (r < 8192) ⌝ }
+fn address_from(m: &[u8], start: u16, index: u16) -> u16
+    requires { ⌜ (length (now m) ≡ 8192) × (start < 8192) × (index < 8192) ⌝ }
+    ensures { λ r. ⌜ (r ≡ Model.addressAt (now (m .entry)) (wrapped start index)) × (r < 8192) ⌝ }
 {
-    address_at(m, wrapped(n, i))
+    address_at(m, wrapped(start, index))
 }
 
-// The instruction at n has its field in word 1, three bits and an address in words 2 and 3.
-fn three_at(m: &[u8], n: u16) -> u8
-    requires { ⌜ (length (now m) ≡ 8192) × (n < 8192) ⌝ }
-    ensures { λ r. ⌜ (r ≡ Model.threeAt (now (m .entry)) n) × (r < 16) ⌝ }
+// A direct instruction has its field in word 1, three bits and an address in words 2 and 3.
+fn three_at(m: &[u8], start: u16) -> u8
+    requires { ⌜ (length (now m) ≡ 8192) × (start < 8192) ⌝ }
+    ensures { λ r. ⌜ (r ≡ Model.threeAt (now (m .entry)) start) × (r < 16) ⌝ }
 {
-    argument(m, n, 2) / map::HIGHS
+    argument(m, start, 2) / map::HIGHS
 }
 
-fn direct_counted(m: &[u8], n: u16) -> Arguments
-    requires { ⌜ (length (now m) ≡ 8192) × (n < 8192) ⌝ }
-    ensures { λ r. ⌜ (r ≡ Model.directCounted (now (m .entry)) n) × (r .field < 16) × (r .second < 16) × (r .w < 16) × (r .address < 8192) ⌝ }
+fn direct_counted(m: &[u8], start: u16) -> Arguments
+    requires { ⌜ (length (now m) ≡ 8192) × (start < 8192) ⌝ }
+    ensures { λ r. ⌜ (r ≡ Model.directCounted (now (m .entry)) start) × (r .field < 16) × (r .second < 16) × (r .w < 16) × (r .address < 8192) ⌝ }
 {
-    let k = argument(m, n, 2);
-    let c = argument(m, n, 3);
+    let k = argument(m, start, 2);
+    let c = argument(m, start, 3);
     counted_arguments(k, c)
 }
 
-fn direct_creating(m: &[u8], n: u16) -> Arguments
-    requires { ⌜ (length (now m) ≡ 8192) × (n < 8192) ⌝ }
-    ensures { λ r. ⌜ (r ≡ Model.directCreating (now (m .entry)) n) × (r .field < 16) × (r .second < 16) × (r .w < 16) × (r .address < 8192) ⌝ }
+fn direct_creating(m: &[u8], start: u16) -> Arguments
+    requires { ⌜ (length (now m) ≡ 8192) × (start < 8192) ⌝ }
+    ensures { λ r. ⌜ (r ≡ Model.directCreating (now (m .entry)) start) × (r .field < 16) × (r .second < 16) × (r .w < 16) × (r .address < 8192) ⌝ }
 {
-    let f = four_at(m, n, 1);
-    let w = argument(m, n, 2);
-    let a = address_from(m, n, 3);
+    let f = four_at(m, start, 1);
+    let w = argument(m, start, 2);
+    let a = address_from(m, start, 3);
     arguments(f, w / map::FIELD, w % map::FIELD, a)
 }
 
-// The arguments of the instruction at n, of shape s.
-pub fn direct(m: &[u8], n: u16, s: u8) -> Arguments
-    requires { ⌜ (length (now m) ≡ 8192) × (n < 8192) ⌝ }
-    ensures { λ r. ⌜ (r ≡ Model.direct (now (m .entry)) n s) × (r .field < 16) × (r .second < 16) × (r .w < 16) × (r .address < 8192) ⌝ }
+// The arguments of the instruction at the start, by their shape.
+pub fn direct(m: &[u8], start: u16, shape: u8) -> Arguments
+    requires { ⌜ (length (now m) ≡ 8192) × (start < 8192) ⌝ }
+    ensures { λ r. ⌜ (r ≡ Model.direct (now (m .entry)) start shape) × (r .field < 16) × (r .second < 16) × (r .w < 16) × (r .address < 8192) ⌝ }
 {
-    match s {
-        instructions::PLAIN => arguments(four_at(m, n, 1), 0, 0, 0),
-        instructions::ADDRESSED => arguments(four_at(m, n, 1), 0, 0, address_from(m, n, 2)),
-        instructions::COUNTED => direct_counted(m, n),
-        instructions::FLAGGED => arguments(four_at(m, n, 1), three_at(m, n), 0, 0),
+    match shape {
+        instructions::PLAIN => arguments(four_at(m, start, 1), 0, 0, 0),
+        instructions::ADDRESSED => arguments(four_at(m, start, 1), 0, 0, address_from(m, start, 2)),
+        instructions::COUNTED => direct_counted(m, start),
+        instructions::FLAGGED => arguments(four_at(m, start, 1), three_at(m, start), 0, 0),
         instructions::COMPLETE => arguments(
-            four_at(m, n, 1),
-            three_at(m, n),
+            four_at(m, start, 1),
+            three_at(m, start),
             0,
-            address_from(m, n, 2),
+            address_from(m, start, 2),
         ),
-        instructions::CREATING => direct_creating(m, n),
+        instructions::CREATING => direct_creating(m, start),
         _ => arguments(0, 0, 0, 0),
     }
 }
 
-// EXI has the flag or CODE1 in word 1 of the arguments at e.
-fn flag_at(m: &[u8], e: u16) -> u8
-    requires { ⌜ (length (now m) ≡ 8192) × (e < 8192) ⌝ }
-    ensures { λ r. ⌜ (r ≡ Model.flagAt (now (m .entry)) e) × (r < 16) ⌝ }
+// EXI has the flag or CODE1 in word 1 of its arguments.
+fn flag_at(m: &[u8], start: u16) -> u8
+    requires { ⌜ (length (now m) ≡ 8192) × (start < 8192) ⌝ }
+    ensures { λ r. ⌜ (r ≡ Model.flagAt (now (m .entry)) start) × (r < 16) ⌝ }
 {
-    argument(m, e, 1) % map::FLAGS
+    argument(m, start, 1) % map::FLAGS
 }
 
-fn pointed_creating(m: &[u8], e: u16) -> Arguments
-    requires { ⌜ (length (now m) ≡ 8192) × (e < 8192) ⌝ }
-    ensures { λ r. ⌜ (r ≡ Model.pointedCreating (now (m .entry)) e) × (r .field < 16) × (r .second < 16) × (r .w < 16) × (r .address < 8192) ⌝ }
+fn pointed_creating(m: &[u8], start: u16) -> Arguments
+    requires { ⌜ (length (now m) ≡ 8192) × (start < 8192) ⌝ }
+    ensures { λ r. ⌜ (r ≡ Model.pointedCreating (now (m .entry)) start) × (r .field < 16) × (r .second < 16) × (r .w < 16) × (r .address < 8192) ⌝ }
 {
-    let f = four_at(m, e, 0);
-    let b = four_at(m, e, 1);
-    let w = four_at(m, e, 2);
-    let a = address_from(m, e, 3);
+    let f = four_at(m, start, 0);
+    let b = four_at(m, start, 1);
+    let w = four_at(m, start, 2);
+    let a = address_from(m, start, 3);
     arguments(f, b, w, a)
 }
 
-// EXI's arguments at e, of shape s.
-pub fn pointed(m: &[u8], e: u16, s: u8) -> Arguments
-    requires { ⌜ (length (now m) ≡ 8192) × (e < 8192) ⌝ }
-    ensures { λ r. ⌜ (r ≡ Model.pointed (now (m .entry)) e s) × (r .field < 16) × (r .second < 16) × (r .w < 16) × (r .address < 8192) ⌝ }
+// EXI's arguments at the start, by their shape.
+pub fn pointed(m: &[u8], start: u16, shape: u8) -> Arguments
+    requires { ⌜ (length (now m) ≡ 8192) × (start < 8192) ⌝ }
+    ensures { λ r. ⌜ (r ≡ Model.pointed (now (m .entry)) start shape) × (r .field < 16) × (r .second < 16) × (r .w < 16) × (r .address < 8192) ⌝ }
 {
-    match s {
-        instructions::PLAIN => arguments(four_at(m, e, 0), 0, 0, 0),
-        instructions::ADDRESSED => arguments(four_at(m, e, 0), 0, 0, address_from(m, e, 1)),
-        instructions::COUNTED => counted_arguments(argument(m, e, 0), argument(m, e, 1)),
-        instructions::FLAGGED => arguments(four_at(m, e, 0), flag_at(m, e), 0, 0),
+    match shape {
+        instructions::PLAIN => arguments(four_at(m, start, 0), 0, 0, 0),
+        instructions::ADDRESSED => arguments(four_at(m, start, 0), 0, 0, address_from(m, start, 1)),
+        instructions::COUNTED => counted_arguments(argument(m, start, 0), argument(m, start, 1)),
+        instructions::FLAGGED => arguments(four_at(m, start, 0), flag_at(m, start), 0, 0),
         instructions::COMPLETE => arguments(
-            four_at(m, e, 0),
-            flag_at(m, e),
+            four_at(m, start, 0),
+            flag_at(m, start),
             0,
-            address_from(m, e, 2),
+            address_from(m, start, 2),
         ),
-        instructions::CREATING => pointed_creating(m, e),
+        instructions::CREATING => pointed_creating(m, start),
         _ => arguments(0, 0, 0, 0),
     }
 }
 
-// Whether the first n argument words at e, of shape s, lie within their fields.
-pub fn within(m: &[u8], e: u16, s: u8, n: u8) -> bool
-    requires { ⌜ (length (now m) ≡ 8192) × (e < 8192) × (s ≤ 6) × (n ≤ 5) ⌝ }
-    ensures { λ r. ⌜ r ≡ Model.within n (now (m .entry)) e s ⌝ }
+// Whether so many argument words, of that shape, lie within their fields.
+pub fn within(m: &[u8], start: u16, shape: u8, count: u8) -> bool
+    requires { ⌜ (length (now m) ≡ 8192) × (start < 8192) × (shape ≤ 6) × (count ≤ 5) ⌝ }
+    ensures { λ r. ⌜ r ≡ Model.within count (now (m .entry)) start shape ⌝ }
 {
-    if n == 0 {
+    if count == 0 {
         return true;
     }
-    let v = argument(m, e, wide(n - 1));
-    if v <= limit_for(s, n - 1) {
-        return within(m, e, s, n - 1);
+    let v = argument(m, start, wide(count - 1));
+    if v <= limit_for(shape, count - 1) {
+        return within(m, start, shape, count - 1);
     }
     false
 }

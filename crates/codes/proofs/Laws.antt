@@ -12,7 +12,8 @@ use Rattle.model.specs.Instruction as Instruction
 use Rattle.model.specs.Processor as Processor
 use Rattle.model.specs.Processor.{accumulated}
 use Rattle.model.specs.Operate as Operate
-use Rattle.model.specs.Bytes.{Memory, Step, at, word, running, registersOf, handBack, addressAt, lr, advance, jumps, waits, adds, storesA, ands, increments, worked, returnTo, reaches, follows, indexed}
+use Rattle.model.specs.Bytes.{Memory, Step, at, word, running, registersOf, handBack, addressAt, lr, advance, jumps, waits, adds, storesA, ands}
+use Rattle.model.specs.Bytes.{increments, worked, returnTo, reaches, follows, indexed}
 use Rattle.codes.specs.Sum as Sum
 use Rattle.codes.specs.Sum.{summed}
 use Rattle.processors.proofs.Records.{Bytes, carried, back-added}

@@ -1,4 +1,4 @@
-// Instructions: CVI, DVI, GIN, WIN and code 13; page 8. len is what LR grows by.
+// Instructions: CVI, DVI, GIN, WIN and code 13; page 8. The length is what LR grows by.
 use answers::done;
 use answers::fault;
 use answers::jump;
@@ -27,214 +27,218 @@ use words::wrapped;
 use words::write;
 ghost use mathlib.Core.Path.{_≡_};
 ghost use Prim.Native.Nat.{_<_};
-ghost use lib.ListN.{length};
+ghost use lib.ListN as List;
 ghost use Rattle.model.specs.Answer.Outcome.{gives};
 ghost use Rattle.model.specs.Bytes as Model;
 ghost use Rattle.codes.specs.Sum.{summed};
 
-// The kind of code c, and its program's address.
-pub fn kind(m: &[u8], c: u8) -> u8
-    requires { ⌜ length (now m) ≡ 8192 ⌝ }
-    ensures { λ r. ⌜ r ≡ Model.kind (now (m .entry)) c ⌝ }
+// The kind of a code, and its program's address.
+pub fn kind(m: &[u8], code: u8) -> u8
+    requires { ⌜ List.length (now m) ≡ 8192 ⌝ }
+    ensures { λ r. ⌜ r ≡ Model.kind (now (m .entry)) code ⌝ }
 {
-    at(m, map::CODE_WORDS + 2 * wide(c)) / map::HIGHS
+    at(m, map::CODE_WORDS + 2 * wide(code)) / map::HIGHS
 }
 
-pub fn program(m: &[u8], c: u8) -> u16
-    requires { ⌜ length (now m) ≡ 8192 ⌝ }
-    ensures { λ r. ⌜ r ≡ Model.program (now (m .entry)) c ⌝ }
+pub fn program(m: &[u8], code: u8) -> u16
+    requires { ⌜ List.length (now m) ≡ 8192 ⌝ }
+    ensures { λ r. ⌜ r ≡ Model.program (now (m .entry)) code ⌝ }
 {
-    address_at(m, map::CODE_WORDS + 2 * wide(c))
+    address_at(m, map::CODE_WORDS + 2 * wide(code))
 }
 
-// Code c becomes of kind k, at a.
-fn set_code(m: &mut [u8], c: u8, k: u8, a: u16)
-    requires { ⌜ (length (now m) ≡ 8192) × (k < 8) ⌝ }
-    ensures { λ _. ⌜ now (m .exit) ≡ Model.setCode (now (m .entry)) c k a ⌝ }
+// The code becomes of that kind, at the address.
+fn set_code(m: &mut [u8], code: u8, kind: u8, address: u16)
+    requires { ⌜ (List.length (now m) ≡ 8192) × (kind < 8) ⌝ }
+    ensures { λ _. ⌜ now (m .exit) ≡ Model.setCode (now (m .entry)) code kind address ⌝ }
 {
-    write(m, map::CODE_WORDS + 2 * wide(c), k * map::HIGHS + high(a));
-    write(m, map::CODE_LOWS + 2 * wide(c), low(a));
+    write(
+        m,
+        map::CODE_WORDS + 2 * wide(code),
+        kind * map::HIGHS + high(address),
+    );
+    write(m, map::CODE_LOWS + 2 * wide(code), low(address));
 }
 
-pub fn cvi(m: &mut [u8], c: u8, a: u16, len: u16) -> Answer
-    requires { ⌜ (length (now m) ≡ 8192) × (len < 8192) ⌝ }
-    ensures { λ r. ⌜ gives r (now (m .exit)) ≡ Model.cvi (now (m .entry)) c a len ⌝ }
+pub fn cvi(m: &mut [u8], code: u8, address: u16, length: u16) -> Answer
+    requires { ⌜ (List.length (now m) ≡ 8192) × (length < 8192) ⌝ }
+    ensures { λ r. ⌜ gives r (now (m .exit)) ≡ Model.cvi (now (m .entry)) code address length ⌝ }
 {
-    let k = kind(m, c);
+    let k = kind(m, code);
     if k == instructions::ABSENT {
-        set_code(m, c, instructions::OWN, a);
-        return done(m, len);
+        set_code(m, code, instructions::OWN, address);
+        return done(m, length);
     }
     fault(m, faults::CODE_EXISTS)
 }
 
-pub fn dvi(m: &mut [u8], c: u8, len: u16) -> Answer
-    requires { ⌜ (length (now m) ≡ 8192) × (len < 8192) ⌝ }
-    ensures { λ r. ⌜ gives r (now (m .exit)) ≡ Model.dvi (now (m .entry)) c len ⌝ }
+pub fn dvi(m: &mut [u8], code: u8, length: u16) -> Answer
+    requires { ⌜ (List.length (now m) ≡ 8192) × (length < 8192) ⌝ }
+    ensures { λ r. ⌜ gives r (now (m .exit)) ≡ Model.dvi (now (m .entry)) code length ⌝ }
 {
-    if c < instructions::FIRST_GOING {
+    if code < instructions::FIRST_GOING {
         return fault(m, faults::KEPT_CODE);
     }
-    let k = kind(m, c);
+    let k = kind(m, code);
     if k == instructions::ABSENT {
         return fault(m, faults::ABSENT_CODE);
     }
-    set_code(m, c, instructions::ABSENT, 0);
-    done(m, len)
+    set_code(m, code, instructions::ABSENT, 0);
+    done(m, length)
 }
 
-pub fn gin(m: &mut [u8], len: u16) -> Answer
-    requires { ⌜ (length (now m) ≡ 8192) × (len < 8192) ⌝ }
-    ensures { λ r. ⌜ gives r (now (m .exit)) ≡ Model.gin (now (m .entry)) len ⌝ }
+pub fn gin(m: &mut [u8], length: u16) -> Answer
+    requires { ⌜ (List.length (now m) ≡ 8192) × (length < 8192) ⌝ }
+    ensures { λ r. ⌜ gives r (now (m .exit)) ≡ Model.gin (now (m .entry)) length ⌝ }
 {
     let p = running(m);
     let n = name(m, p);
-    serve(m, n, 0);
-    done(m, len)
+    serve(m, n.0, 0);
+    done(m, length)
 }
 
-pub fn win(m: &mut [u8], k: u8, c: u8, len: u16) -> Answer
-    requires { ⌜ (length (now m) ≡ 8192) × (len < 8192) ⌝ }
-    ensures { λ r. ⌜ gives r (now (m .exit)) ≡ Model.win (now (m .entry)) k c len ⌝ }
+pub fn win(m: &mut [u8], interrupt: u8, count: u8, length: u16) -> Answer
+    requires { ⌜ (List.length (now m) ≡ 8192) × (length < 8192) ⌝ }
+    ensures { λ r. ⌜ gives r (now (m .exit)) ≡ Model.win (now (m .entry)) interrupt count length ⌝ }
 {
-    if k == instructions::ABSENT {
+    if interrupt == instructions::ABSENT {
         return fault(m, faults::BAD_WAIT);
     }
-    if map::INTERRUPTS < k {
+    if map::INTERRUPTS < interrupt {
         return fault(m, faults::BAD_WAIT);
     }
-    if c == 0 {
+    if count == 0 {
         return fault(m, faults::BAD_WAIT);
     }
-    advance(m, len);
-    wait(m, map::SEMAPHORES + 2 * wide(k), c)
+    advance(m, length);
+    wait(m, map::SEMAPHORES + 2 * wide(interrupt), count)
 }
 
-// The registers of page p with the sum of A and the word at a.
-fn sum(m: &[u8], p: ControlPage, a: u16) -> Registers
-    requires { ⌜ (length (now m) ≡ 8192) × (a < 8192) ⌝ }
-    ensures { λ r. ⌜ r ≡ summed (now (m .entry)) (p .0) a ⌝ }
+// The registers of the page with the sum of A and the word at the address.
+fn sum(m: &[u8], page: ControlPage, address: u16) -> Registers
+    requires { ⌜ (List.length (now m) ≡ 8192) × (address < 8192) ⌝ }
+    ensures { λ r. ⌜ r ≡ summed (now (m .entry)) (page .0) address ⌝ }
 {
-    let r = Registers::of(m, p);
-    let s = r.a + wide(at(m, a));
+    let r = Registers::of(m, page);
+    let s = r.a + wide(at(m, address));
     let n = r.set_accumulator(s % map::WORD_VALUES);
     n.set_carry(s / map::WORD_VALUES)
 }
 
-// Code 13's work on the word at a: 0 adds, 1 stores, 2 ands, 3 increments.
-fn add(m: &mut [u8], a: u16)
-    requires { ⌜ (length (now m) ≡ 8192) × (a < 8192) ⌝ }
-    ensures { λ _. ⌜ now (m .exit) ≡ Model.adds (now (m .entry)) a ⌝ }
+// Code 13's work on the word at the address: 0 adds, 1 stores, 2 ands, 3 increments.
+fn add(m: &mut [u8], address: u16)
+    requires { ⌜ (List.length (now m) ≡ 8192) × (address < 8192) ⌝ }
+    ensures { λ _. ⌜ now (m .exit) ≡ Model.adds (now (m .entry)) address ⌝ }
 {
     let p = running(m);
-    let r = sum(m, p, a);
+    let r = sum(m, p, address);
     r.hand_back(m, p);
 }
 
-fn store_a(m: &mut [u8], a: u16)
-    requires { ⌜ (length (now m) ≡ 8192) × (a < 8192) ⌝ }
-    ensures { λ _. ⌜ now (m .exit) ≡ Model.storesA (now (m .entry)) a ⌝ }
+fn store_a(m: &mut [u8], address: u16)
+    requires { ⌜ (List.length (now m) ≡ 8192) × (address < 8192) ⌝ }
+    ensures { λ _. ⌜ now (m .exit) ≡ Model.storesA (now (m .entry)) address ⌝ }
 {
     let p = running(m);
     let v = p.word(m, map::WORD_A);
-    write(m, a, v);
+    write(m, address, v);
     accumulate(m, p, 0);
 }
 
-fn and(m: &mut [u8], a: u16)
-    requires { ⌜ (length (now m) ≡ 8192) × (a < 8192) ⌝ }
-    ensures { λ _. ⌜ now (m .exit) ≡ Model.ands (now (m .entry)) a ⌝ }
+fn and(m: &mut [u8], address: u16)
+    requires { ⌜ (List.length (now m) ≡ 8192) × (address < 8192) ⌝ }
+    ensures { λ _. ⌜ now (m .exit) ≡ Model.ands (now (m .entry)) address ⌝ }
 {
     let p = running(m);
     let v = p.word(m, map::WORD_A);
-    let w = at(m, a);
+    let w = at(m, address);
     accumulate(m, p, v & w);
 }
 
-fn increment(m: &mut [u8], a: u16)
-    requires { ⌜ (length (now m) ≡ 8192) × (a < 8192) ⌝ }
-    ensures { λ _. ⌜ now (m .exit) ≡ Model.increments (now (m .entry)) a ⌝ }
+fn increment(m: &mut [u8], address: u16)
+    requires { ⌜ (List.length (now m) ≡ 8192) × (address < 8192) ⌝ }
+    ensures { λ _. ⌜ now (m .exit) ≡ Model.increments (now (m .entry)) address ⌝ }
 {
-    let w = at(m, a);
-    write(m, a, raised(w));
+    let w = at(m, address);
+    write(m, address, raised(w));
 }
 
-fn work(m: &mut [u8], o: u8, a: u16)
-    requires { ⌜ (length (now m) ≡ 8192) × (a < 8192) ⌝ }
-    ensures { λ _. ⌜ now (m .exit) ≡ Model.worked (now (m .entry)) o a ⌝ }
+fn work(m: &mut [u8], operation: u8, address: u16)
+    requires { ⌜ (List.length (now m) ≡ 8192) × (address < 8192) ⌝ }
+    ensures { λ _. ⌜ now (m .exit) ≡ Model.worked (now (m .entry)) operation address ⌝ }
 {
-    match o {
-        instructions::ADD => add(m, a),
-        instructions::STORE => store_a(m, a),
-        instructions::AND => and(m, a),
-        instructions::INCREMENT => increment(m, a),
+    match operation {
+        instructions::ADD => add(m, address),
+        instructions::STORE => store_a(m, address),
+        instructions::AND => and(m, address),
+        instructions::INCREMENT => increment(m, address),
         _ => (),
     }
 }
 
 // VEP's return words.
-fn return_to(m: &mut [u8], a: u16)
-    requires { ⌜ length (now m) ≡ 8192 ⌝ }
-    ensures { λ _. ⌜ now (m .exit) ≡ Model.returnTo (now (m .entry)) a ⌝ }
+fn return_to(m: &mut [u8], address: u16)
+    requires { ⌜ List.length (now m) ≡ 8192 ⌝ }
+    ensures { λ _. ⌜ now (m .exit) ≡ Model.returnTo (now (m .entry)) address ⌝ }
 {
-    write(m, map::RETURN_HIGH, high(a));
-    write(m, map::RETURN_LOW, low(a));
+    write(m, map::RETURN_HIGH, high(address));
+    write(m, map::RETURN_LOW, low(address));
 }
 
-// CODE1 o at its address a.
-fn reach(m: &mut [u8], o: u8, a: u16, len: u16) -> Answer
-    requires { ⌜ (length (now m) ≡ 8192) × (a < 8192) × (len < 8192) ⌝ }
-    ensures { λ r. ⌜ gives r (now (m .exit)) ≡ Model.reaches (now (m .entry)) o a len ⌝ }
+// CODE1 at its address.
+fn reach(m: &mut [u8], operation: u8, address: u16, length: u16) -> Answer
+    requires { ⌜ (List.length (now m) ≡ 8192) × (address < 8192) × (length < 8192) ⌝ }
+    ensures { λ r. ⌜ gives r (now (m .exit)) ≡ Model.reaches (now (m .entry)) operation address length ⌝ }
 {
-    if o == instructions::VEP {
-        let n = wrapped(lr(m), len);
+    if operation == instructions::VEP {
+        let n = wrapped(lr(m), length);
         return_to(m, n);
-        return jump(m, a);
+        return jump(m, address);
     }
-    if o == instructions::JUMP {
-        return jump(m, a);
+    if operation == instructions::JUMP {
+        return jump(m, address);
     }
-    if guarded(a) {
+    if guarded(address) {
         return fault(m, faults::PROTECTED);
     }
-    work(m, o, a);
-    done(m, len)
+    work(m, operation, address);
+    done(m, length)
 }
 
-// Indirection, if i is not 0.
-fn follow(m: &mut [u8], i: u8, o: u8, a: u16, len: u16) -> Answer
-    requires { ⌜ (length (now m) ≡ 8192) × (a < 8192) × (len < 8192) ⌝ }
-    ensures { λ r. ⌜ gives r (now (m .exit)) ≡ Model.follows (now (m .entry)) i o a len ⌝ }
+// Indirection, if the bit is set.
+fn follow(m: &mut [u8], indirect: u8, operation: u8, address: u16, length: u16) -> Answer
+    requires { ⌜ (List.length (now m) ≡ 8192) × (address < 8192) × (length < 8192) ⌝ }
+    ensures { λ r. ⌜ gives r (now (m .exit)) ≡ Model.follows (now (m .entry)) indirect operation address length ⌝ }
 {
-    if i == 0 {
-        return reach(m, o, a, len);
+    if indirect == 0 {
+        return reach(m, operation, address, length);
     }
-    if clear(2, a) {
-        let b = address_at(m, a);
-        return reach(m, o, b, len);
+    if clear(2, address) {
+        let b = address_at(m, address);
+        return reach(m, operation, b, length);
     }
     fault(m, faults::PROTECTED)
 }
 
-// The address a, indexed where x says so.
-pub fn indexed(m: &[u8], x: u8, a: u16) -> u16
-    requires { ⌜ (length (now m) ≡ 8192) × (a < 8192) ⌝ }
-    ensures { λ r. ⌜ (r ≡ Model.indexed (now (m .entry)) x a) × (r < 8192) ⌝ }
+// The address, indexed where X and XN say so.
+pub fn indexed(m: &[u8], index: u8, address: u16) -> u16
+    requires { ⌜ (List.length (now m) ≡ 8192) × (address < 8192) ⌝ }
+    ensures { λ r. ⌜ (r ≡ Model.indexed (now (m .entry)) index address) × (r < 8192) ⌝ }
 {
-    if map::INDEX_BIT <= x {
-        let b = address_at(m, map::X_REGISTERS + 2 * wide(x % map::INDEX_BIT));
-        return wrapped(a, b);
+    if map::INDEX_BIT <= index {
+        let b = address_at(m, map::X_REGISTERS + 2 * wide(index % map::INDEX_BIT));
+        return wrapped(address, b);
     }
-    a
+    address
 }
 
-pub fn thirteen(m: &mut [u8], x: u8, o: u8, a: u16, len: u16) -> Answer
-    requires { ⌜ (length (now m) ≡ 8192) × (a < 8192) × (len < 8192) ⌝ }
-    ensures { λ r. ⌜ gives r (now (m .exit)) ≡ Model.thirteen (now (m .entry)) x o a len ⌝ }
+pub fn thirteen(m: &mut [u8], field: u8, operation: u8, address: u16, length: u16) -> Answer
+    requires { ⌜ (List.length (now m) ≡ 8192) × (address < 8192) × (length < 8192) ⌝ }
+    ensures { λ r. ⌜ gives r (now (m .exit)) ≡ Model.thirteen (now (m .entry)) field operation address length ⌝ }
 {
-    if instructions::VEP < o {
+    if instructions::VEP < operation {
         return fault(m, faults::BAD_ARGUMENT);
     }
-    let b = indexed(m, x % map::INDIRECT_BIT, a);
-    follow(m, x / map::INDIRECT_BIT, o, b, len)
+    let b = indexed(m, field % map::INDIRECT_BIT, address);
+    follow(m, field / map::INDIRECT_BIT, operation, b, length)
 }

@@ -23,11 +23,11 @@ pub fn both(a: bool, b: bool) -> bool
     false
 }
 
-// Whether x lies in low-high.
-pub fn lies(x: u8, low: u8, high: u8) -> bool
-    ensures { λ r. ⌜ r ≡ holds (among x low high) ⌝ }
+// Whether the value lies in low-high.
+pub fn lies(value: u8, low: u8, high: u8) -> bool
+    ensures { λ r. ⌜ r ≡ holds (among value low high) ⌝ }
 {
-    both(low <= x, x <= high)
+    both(low <= value, value <= high)
 }
 
 // a - b as a signed byte.
@@ -37,86 +37,86 @@ pub fn less(a: u8, b: u8) -> u8
     ((map::WORD_VALUES + wide(a) - wide(b)) % map::WORD_VALUES) as u8
 }
 
-// The word that links the list of the head at a.
-pub fn link_of(a: u16) -> u16
-    ensures { λ r. ⌜ (r ≡ linkOf a) × (r < 32) ⌝ }
+// The word that links the list of the head.
+pub fn link_of(head: u16) -> u16
+    ensures { λ r. ⌜ (r ≡ linkOf head) × (r < 32) ⌝ }
 {
-    if a == map::PROCESSOR_LIST {
+    if head == map::PROCESSOR_LIST {
         return map::LIST_LINK;
     }
     map::LINK
 }
 
 // How far it goes: one page more than there are, and one page for a grant.
-pub fn left_of(a: u16) -> u8
-    ensures { λ r. ⌜ r ≡ leftOf a ⌝ }
+pub fn left_of(head: u16) -> u8
+    ensures { λ r. ⌜ r ≡ leftOf head ⌝ }
 {
-    if a < map::GRANTS {
+    if head < map::GRANTS {
         return map::ONE_MORE;
     }
-    if a < map::GRANTS_END {
+    if head < map::GRANTS_END {
         return 1;
     }
     map::ONE_MORE
 }
 
-// How many pages hang from the cell at a.
-fn how_many(m: &[u8], k: u16, a: u16, left: u8) -> u8
-    requires { ⌜ (length (now m) ≡ 8192) × (k < 32) × (a < 8192) ⌝ }
-    ensures { λ r. ⌜ (r ≡ length (Model.walk left (now (m .entry)) k a)) × (r ≤ left) ⌝ }
+// How many pages hang from the cell.
+fn how_many(m: &[u8], link: u16, cell: u16, left: u8) -> u8
+    requires { ⌜ (length (now m) ≡ 8192) × (link < 32) × (cell < 8192) ⌝ }
+    ensures { λ r. ⌜ (r ≡ length (Model.walk left (now (m .entry)) link cell)) × (r ≤ left) ⌝ }
 {
     if left == 0 {
         return 0;
     }
-    let w = at(m, a);
+    let w = at(m, cell);
     if w == 0 {
         return 0;
     }
-    how_many(m, k, ControlPage(w).place(k), left - 1) + 1
+    how_many(m, link, ControlPage(w).place(link), left - 1) + 1
 }
 
-// How long the list of the head at a is.
-pub fn length_of(m: &[u8], a: u16) -> u8
-    requires { ⌜ (length (now m) ≡ 8192) × (a < 8192) ⌝ }
-    ensures { λ r. ⌜ r ≡ length (Model.lists (now (m .entry)) a) ⌝ }
+// How long the list of the head is.
+pub fn length_of(m: &[u8], head: u16) -> u8
+    requires { ⌜ (length (now m) ≡ 8192) × (head < 8192) ⌝ }
+    ensures { λ r. ⌜ r ≡ length (Model.lists (now (m .entry)) head) ⌝ }
 {
-    how_many(m, link_of(a), a, left_of(a))
+    how_many(m, link_of(head), head, left_of(head))
 }
 
-// How often z stands in the processor list, from the cell at a on.
-pub fn listings(m: &[u8], z: u8, a: u16, left: u8) -> u8
-    requires { ⌜ (length (now m) ≡ 8192) × (a < 8192) ⌝ }
-    ensures { λ r. ⌜ (r ≡ count z (Model.walk left (now (m .entry)) Map.listLink a)) × (r ≤ left) ⌝ }
+// How often the page stands in the processor list, from the cell on.
+pub fn listings(m: &[u8], page: u8, cell: u16, left: u8) -> u8
+    requires { ⌜ (length (now m) ≡ 8192) × (cell < 8192) ⌝ }
+    ensures { λ r. ⌜ (r ≡ count page (Model.walk left (now (m .entry)) Map.listLink cell)) × (r ≤ left) ⌝ }
 {
     if left == 0 {
         return 0;
     }
-    let w = at(m, a);
+    let w = at(m, cell);
     if w == 0 {
         return 0;
     }
-    let n = listings(m, z, ControlPage(w).place(map::LIST_LINK), left - 1);
-    if z == w {
+    let n = listings(m, page, ControlPage(w).place(map::LIST_LINK), left - 1);
+    if page == w {
         return n + 1;
     }
     n
 }
 
-// How many of the processor list, from the cell at a on, are named k.
-pub fn bearers(m: &[u8], k: u8, a: u16, left: u8) -> u8
-    requires { ⌜ (length (now m) ≡ 8192) × (a < 8192) ⌝ }
-    ensures { λ r. ⌜ (r ≡ count k (each-of (Model.name (now (m .entry))) (Model.walk left (now (m .entry)) Map.listLink a))) × (r ≤ left) ⌝ }
+// How many of the processor list, from the cell on, have the name.
+pub fn bearers(m: &[u8], name: u8, cell: u16, left: u8) -> u8
+    requires { ⌜ (length (now m) ≡ 8192) × (cell < 8192) ⌝ }
+    ensures { λ r. ⌜ (r ≡ count name (each-of (Model.name (now (m .entry))) (Model.walk left (now (m .entry)) Map.listLink cell))) × (r ≤ left) ⌝ }
 {
     if left == 0 {
         return 0;
     }
-    let w = at(m, a);
+    let w = at(m, cell);
     if w == 0 {
         return 0;
     }
     let x = ControlPage(w).word(m, map::LABEL);
-    let n = bearers(m, k, ControlPage(w).place(map::LIST_LINK), left - 1);
-    if k == x % map::FIELD {
+    let n = bearers(m, name, ControlPage(w).place(map::LIST_LINK), left - 1);
+    if name == x % map::FIELD {
         return n + 1;
     }
     n

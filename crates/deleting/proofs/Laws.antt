@@ -4,10 +4,14 @@ use mathlib.Core.Path.{_≡_, refl}
 use borrow.Author.Tests.{eq-eqb, ne-eqb}
 use native.Mathlib.Numerals.{sub-one}
 use native.Mathlib.Omega.{arith}
-use Rattle.model.specs.Map.{upper, link, note, size, notice, grantFor}
+use Rattle.model.specs.Map.{upper, link, listLink, processorList, note, size, notice, grantFor}
 use Rattle.model.specs.Delete as Delete
-use Rattle.model.specs.Bytes.{Memory, word, at, write, name, unlisted, mailReturned, delete, leave, pageOf, giveBack}
+use Rattle.model.specs.Bytes.{Memory, word, at, write, name, leaveWait, unlisted, mailReturned, delete, leave, pageOf, giveBack}
 use Rattle.model.specs.Bytes.{noticed, returned, emptied, grantReturned}
+
+pub unlisted-is : (m m₁ m₂ : Memory) (p : ℕ) → m₁ ≡ leaveWait m p → m₂ ≡ leave m₁ processorList listLink p → m₂ ≡ unlisted m p
+unfolding Delete.unlisted
+unlisted-is m m₁ m₂ p e₁ e₂ = rw (← e₁) e₂
 
 pub delete-is : (m m₁ m₂ m₃ m₄ : Memory) (p n : ℕ) → n ≡ name m p → m₁ ≡ unlisted m p → m₂ ≡ mailReturned m₁ n p → m₃ ≡ grantReturned m₂ n → m₄ ≡ giveBack m₃ p
     → m₄ ≡ delete m p
@@ -54,6 +58,7 @@ module _ (m : Memory) (n w q : ℕ) (ew : w ≡ n) (eq : q ≡ at m (grantFor w)
   grant-back m₁ m₂ z e₁ e₂ = rw (← ew, ← eq, ne-eqb q 0 z, ← e₁) e₂
 
 pub ruleset deletions = (
+  unlisted-is,
   delete-is,
   returned-notice,
   returned-none,

@@ -34,33 +34,33 @@ use words::clear;
 use words::guarded;
 use words::wrapped;
 ghost use mathlib.Core.Path.{_≡_};
-ghost use Prim.Native.Nat.{_<_, _≤_, _+_, _*_, _/_, _%_};
-ghost use lib.ListN.{length};
+ghost use Prim.Native.Nat.{_<_};
+ghost use lib.ListN as List;
 ghost use Rattle.model.specs.Answer.Outcome.{gives};
 ghost use Rattle.model.specs.Bytes as Model;
 
-// A code that is not built in: an own one is handed out, with its program's address and a; else it is absent.
-fn foreign(m: &mut [u8], c: u8, a: u16) -> Answer
-    requires { ⌜ length (now m) ≡ 8192 ⌝ }
-    ensures { λ r. ⌜ gives r (now (m .exit)) ≡ Model.foreign (now (m .entry)) c a ⌝ }
+// A code that is not built in: an own one is handed out, with its program's address and this one; else it is absent.
+fn foreign(m: &mut [u8], code: u8, address: u16) -> Answer
+    requires { ⌜ List.length (now m) ≡ 8192 ⌝ }
+    ensures { λ r. ⌜ gives r (now (m .exit)) ≡ Model.foreign (now (m .entry)) code address ⌝ }
 {
-    let k = kind(m, c);
+    let k = kind(m, code);
     if k == instructions::OWN {
-        let p = program(m, c);
-        return Answer::HandedOut(p, a);
+        let p = program(m, code);
+        return Answer::HandedOut(p, address);
     }
     fault(m, faults::ABSENT_CODE)
 }
 
 // Whether EXI meets a code that is not built in; an EXI of EXI is left to the depth.
-fn is_foreign(m: &[u8], c: u8) -> bool
-    requires { ⌜ length (now m) ≡ 8192 ⌝ }
-    ensures { λ r. ⌜ r ≡ Model.isForeign (now (m .entry)) c ⌝ }
+fn is_foreign(m: &[u8], code: u8) -> bool
+    requires { ⌜ List.length (now m) ≡ 8192 ⌝ }
+    ensures { λ r. ⌜ r ≡ Model.isForeign (now (m .entry)) code ⌝ }
 {
-    if c == instructions::EXI {
+    if code == instructions::EXI {
         return false;
     }
-    let k = kind(m, c);
+    let k = kind(m, code);
     if k == instructions::BUILT_IN {
         return false;
     }
@@ -68,17 +68,17 @@ fn is_foreign(m: &[u8], c: u8) -> bool
 }
 
 // The fault in EXI's argument words; 0: none.
-fn argument_fault(m: &[u8], c: u8, e: u16) -> u8
-    requires { ⌜ (length (now m) ≡ 8192) × (e < 8192) ⌝ }
-    ensures { λ r. ⌜ (r ≡ Model.argumentFault (now (m .entry)) c e) × (r < 16) ⌝ }
+fn argument_fault(m: &[u8], code: u8, start: u16) -> u8
+    requires { ⌜ (List.length (now m) ≡ 8192) × (start < 8192) ⌝ }
+    ensures { λ r. ⌜ (r ≡ Model.argumentFault (now (m .entry)) code start) × (r < 16) ⌝ }
 {
-    if c == instructions::EXI {
+    if code == instructions::EXI {
         return faults::NONE;
     }
-    let n = count_for(c);
-    if clear(n, e) {
-        let s = shape_for(c);
-        if within(m, e, s, n) {
+    let count = count_for(code);
+    if clear(count, start) {
+        let shape = shape_for(code);
+        if within(m, start, shape, count) {
             return faults::NONE;
         }
         return faults::BAD_ARGUMENT;
@@ -86,107 +86,114 @@ fn argument_fault(m: &[u8], c: u8, e: u16) -> u8
     faults::PROTECTED
 }
 
-// The instruction with code c and arguments x; depth more EXIs are allowed.
-pub fn execute(m: &mut [u8], c: u8, x: Arguments, len: u16, depth: u8) -> Answer
-    requires { ⌜ (length (now m) ≡ 8192) × (x .field < 16) × (x .second < 16) × (x .w < 16) × (x .address < 8192) × (len < 8192) ⌝ }
-    ensures { λ r. ⌜ gives r (now (m .exit)) ≡ Model.execute depth (now (m .entry)) c x len ⌝ }
+// The instruction with the code and what it is given; depth more EXIs are allowed.
+pub fn execute(m: &mut [u8], code: u8, given: Arguments, length: u16, depth: u8) -> Answer
+    requires { ⌜ (List.length (now m) ≡ 8192) × (given .field < 16) × (given .second < 16) × (given .w < 16) × (given .address < 8192) × (length < 8192) ⌝ }
+    ensures { λ r. ⌜ gives r (now (m .exit)) ≡ Model.execute depth (now (m .entry)) code given length ⌝ }
 {
-    match c {
-        instructions::CVI => cvi(m, x.field, x.address, len),
-        instructions::DVI => dvi(m, x.field, len),
-        instructions::GIN => gin(m, len),
-        instructions::WIN => win(m, x.interrupt, x.count, len),
-        instructions::SME => sme(m, Name(x.field), x.second, x.address, len),
-        instructions::WNM => wnm(m, Name(x.field), x.second, len),
-        instructions::RME => rme(m, Name(x.field), x.second, x.address, len),
-        instructions::TME => tme(m, Name(x.field), x.second, x.address, len),
+    match code {
+        instructions::CVI => cvi(m, given.field, given.address, length),
+        instructions::DVI => dvi(m, given.field, length),
+        instructions::GIN => gin(m, length),
+        instructions::WIN => win(m, given.interrupt, given.count, length),
+        instructions::SME => sme(m, Name(given.field), given.second, given.address, length),
+        instructions::WNM => wnm(m, Name(given.field), given.second, length),
+        instructions::RME => rme(m, Name(given.field), given.second, given.address, length),
+        instructions::TME => tme(m, Name(given.field), given.second, given.address, length),
         instructions::ST1 | instructions::STP | instructions::DEP => named(
             m,
-            c,
-            Name(x.field),
-            len,
+            code,
+            Name(given.field),
+            length,
         ),
-        instructions::ST2 => st2(m, Name(x.field), x.address, len),
-        instructions::CRP => crp(m, Name(x.field), x.second, x.w, x.address, len),
-        instructions::THIRTEEN => thirteen(m, x.field, x.second, x.address, len),
-        instructions::EXI => exi_step(m, x, depth),
+        instructions::ST2 => st2(m, Name(given.field), given.address, length),
+        instructions::CRP => crp(
+            m,
+            Name(given.field),
+            given.second,
+            given.w,
+            given.address,
+            length,
+        ),
+        instructions::THIRTEEN => thirteen(m, given.field, given.second, given.address, length),
+        instructions::EXI => exi_step(m, given, depth),
         _ => fault(m, faults::ABSENT_CODE),
     }
 }
 
 // EXI: it runs another instruction by the same rules, and advances by 4.
-fn exi_step(m: &mut [u8], x: Arguments, depth: u8) -> Answer
-    requires { ⌜ (length (now m) ≡ 8192) × (x .field < 16) × (x .second < 16) × (x .w < 16) × (x .address < 8192) ⌝ }
-    ensures { λ r. ⌜ gives r (now (m .exit)) ≡ Model.exi depth (now (m .entry)) x ⌝ }
+fn exi_step(m: &mut [u8], given: Arguments, depth: u8) -> Answer
+    requires { ⌜ (List.length (now m) ≡ 8192) × (given .field < 16) × (given .second < 16) × (given .w < 16) × (given .address < 8192) ⌝ }
+    ensures { λ r. ⌜ gives r (now (m .exit)) ≡ Model.exi depth (now (m .entry)) given ⌝ }
 {
     if depth == 0 {
         return fault(m, faults::EXI_OF_EXI);
     }
-    let c = x.field;
-    let e = indexed(m, x.second, x.address);
-    if is_foreign(m, c) {
-        return foreign(m, c, e);
+    let code = given.field;
+    let start = indexed(m, given.second, given.address);
+    if is_foreign(m, code) {
+        return foreign(m, code, start);
     }
-    let f = argument_fault(m, c, e);
+    let f = argument_fault(m, code, start);
     if f == faults::NONE {
-        let s = shape_for(c);
-        let y = pointed(m, e, s);
+        let shape = shape_for(code);
+        let y = pointed(m, start, shape);
         let l = length_for(instructions::EXI);
-        return execute(m, c, y, wide(l), depth - 1);
+        return execute(m, code, y, wide(l), depth - 1);
     }
     fault(m, f)
 }
 
-// The instruction at n with code c, which is built in.
-fn taken(m: &mut [u8], n: u16, c: u8) -> Answer
-    requires { ⌜ (length (now m) ≡ 8192) × (n < 8192) ⌝ }
-    ensures { λ r. ⌜ gives r (now (m .exit)) ≡ Model.taken (now (m .entry)) n c ⌝ }
+// The instruction at the address with that code, which is built in.
+fn taken(m: &mut [u8], address: u16, code: u8) -> Answer
+    requires { ⌜ (List.length (now m) ≡ 8192) × (address < 8192) ⌝ }
+    ensures { λ r. ⌜ gives r (now (m .exit)) ≡ Model.taken (now (m .entry)) address code ⌝ }
 {
-    let l = length_for(c);
-    let b = wrapped(n, 2);
-    if clear(l - 2, b) {
-        let s = shape_for(c);
-        let x = direct(m, n, s);
-        return execute(m, c, x, wide(l), 1);
+    let length = length_for(code);
+    let b = wrapped(address, 2);
+    if clear(length - 2, b) {
+        let shape = shape_for(code);
+        let x = direct(m, address, shape);
+        return execute(m, code, x, wide(length), 1);
     }
     fault(m, faults::PROTECTED)
 }
 
-fn decoded(m: &mut [u8], n: u16, c: u8) -> Answer
-    requires { ⌜ (length (now m) ≡ 8192) × (n < 8192) ⌝ }
-    ensures { λ r. ⌜ gives r (now (m .exit)) ≡ Model.decoded (now (m .entry)) n c ⌝ }
+fn decoded(m: &mut [u8], address: u16, code: u8) -> Answer
+    requires { ⌜ (List.length (now m) ≡ 8192) × (address < 8192) ⌝ }
+    ensures { λ r. ⌜ gives r (now (m .exit)) ≡ Model.decoded (now (m .entry)) address code ⌝ }
 {
-    let k = kind(m, c);
+    let k = kind(m, code);
     if k == instructions::BUILT_IN {
-        return taken(m, n, c);
+        return taken(m, address, code);
     }
-    let a = wrapped(n, 1);
-    foreign(m, c, a)
+    let a = wrapped(address, 1);
+    foreign(m, code, a)
 }
 
-fn coded(m: &mut [u8], n: u16) -> Answer
-    requires { ⌜ (length (now m) ≡ 8192) × (n < 8192) ⌝ }
-    ensures { λ r. ⌜ gives r (now (m .exit)) ≡ Model.coded (now (m .entry)) n ⌝ }
+fn coded(m: &mut [u8], address: u16) -> Answer
+    requires { ⌜ (List.length (now m) ≡ 8192) × (address < 8192) ⌝ }
+    ensures { λ r. ⌜ gives r (now (m .exit)) ≡ Model.coded (now (m .entry)) address ⌝ }
 {
-    let a = wrapped(n, 1);
+    let a = wrapped(address, 1);
     if guarded(a) {
         return fault(m, faults::PROTECTED);
     }
     let w = at(m, a);
-    decoded(m, n, w / map::FIELD)
+    decoded(m, address, w / map::FIELD)
 }
 
-// The instruction at n.
-pub fn fetched(m: &mut [u8], n: u16) -> Answer
-    requires { ⌜ (length (now m) ≡ 8192) × (n < 8192) ⌝ }
-    ensures { λ r. ⌜ gives r (now (m .exit)) ≡ Model.fetched (now (m .entry)) n ⌝ }
+// The instruction at the address.
+pub fn fetched(m: &mut [u8], address: u16) -> Answer
+    requires { ⌜ (List.length (now m) ≡ 8192) × (address < 8192) ⌝ }
+    ensures { λ r. ⌜ gives r (now (m .exit)) ≡ Model.fetched (now (m .entry)) address ⌝ }
 {
-    if guarded(n) {
+    if guarded(address) {
         return fault(m, faults::PROTECTED);
     }
-    let w = at(m, n);
+    let w = at(m, address);
     if w == instructions::FIRST_WORD {
-        return coded(m, n);
+        return coded(m, address);
     }
     Answer::Refused(refusals::NO_INSTRUCTION)
 }

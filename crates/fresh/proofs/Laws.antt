@@ -1,9 +1,9 @@
 -- A law for each way through a fresh start.
-use Prim.Native.Nat.{ℕ, zero, suc, _+_, _*_, _-_}
+use Prim.Native.Nat.{ℕ, zero, suc, _+_, _-_}
 use mathlib.Core.Path.{_≡_, refl}
 use native.Mathlib.Numerals.{sub-one}
 use native.Mathlib.Omega.{arith}
-use Rattle.model.specs.Map.{pair, topped, firstControl, controlPages, link, label, freeList, freeSemaphore, processorList, codeWord, builtInCodes}
+use Rattle.model.specs.Map.{pair, topped, firstControl, link, label, processorList, codeWord, builtInCodes}
 use Rattle.model.specs.Map.{firstUnused}
 use Rattle.model.specs.Map.{firstName, firstPriority, startAddress}
 use Rattle.model.specs.declared.Registers.{Registers}

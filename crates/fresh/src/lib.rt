@@ -8,15 +8,14 @@ use turn::runs;
 use words::write;
 use words::zero;
 ghost use mathlib.Core.Path.{_≡_};
-ghost use Prim.Native.Nat.{_<_, _≤_, _+_, _*_, _/_, _%_};
+ghost use Prim.Native.Nat.{_≤_, _+_};
 ghost use lib.ListN.{length};
-ghost use Rattle.model.specs.Processor as Processor;
 ghost use Rattle.model.specs.Fresh as Fresh;
 ghost use Rattle.model.specs.Bytes as Model;
 
 // Whether clock line and divider are in range.
-pub fn startable(line: u16, d: u16) -> bool
-    ensures { λ r. ⌜ r ≡ Fresh.startable line d ⌝ }
+pub fn startable(line: u16, divider: u16) -> bool
+    ensures { λ r. ⌜ r ≡ Fresh.startable line divider ⌝ }
 {
     if line < map::FIRST_OUTER_WIDE {
         return false;
@@ -24,10 +23,10 @@ pub fn startable(line: u16, d: u16) -> bool
     if map::LAST_LINE_WIDE < line {
         return false;
     }
-    if d == 0 {
+    if divider == 0 {
         return false;
     }
-    if map::A_WORD_WIDE < d {
+    if map::A_WORD_WIDE < divider {
         return false;
     }
     true
@@ -43,12 +42,12 @@ fn clear_pages(m: &mut [u8])
     zero(m, map::CONTROL_PAGE, map::CONTROL_WORDS);
 }
 
-fn set_clock(m: &mut [u8], line: u8, d: u8)
+fn set_clock(m: &mut [u8], line: u8, divider: u8)
     requires { ⌜ length (now m) ≡ 8192 ⌝ }
-    ensures { λ _. ⌜ now (m .exit) ≡ Model.timed (now (m .entry)) line d ⌝ }
+    ensures { λ _. ⌜ now (m .exit) ≡ Model.timed (now (m .entry)) line divider ⌝ }
 {
     write(m, map::CLOCK_LINE, line);
-    write(m, map::DIVIDER, d);
+    write(m, map::DIVIDER, divider);
 }
 
 // Processor 1, priority 1, on page 236, running.
@@ -64,17 +63,17 @@ fn first_processor(m: &mut [u8])
     runs(m, p);
 }
 
-// Each of n pages from p on links to the next.
-fn chain(m: &mut [u8], p: ControlPage, n: u8)
-    requires { ⌜ (length (now m) ≡ 8192) × (p .0 + n ≤ 255) ⌝ }
-    ensures { λ _. ⌜ now (m .exit) ≡ Model.chained n (now (m .entry)) (p .0) ⌝ }
+// Each of so many pages from the page on links to the next.
+fn chain(m: &mut [u8], page: ControlPage, count: u8)
+    requires { ⌜ (length (now m) ≡ 8192) × (page .0 + count ≤ 255) ⌝ }
+    ensures { λ _. ⌜ now (m .exit) ≡ Model.chained count (now (m .entry)) (page .0) ⌝ }
 {
-    if n == 0 {
+    if count == 0 {
         return;
     }
-    let next = p.0 + 1;
-    p.store(m, map::LINK, next);
-    chain(m, ControlPage(next), n - 1);
+    let next = page.0 + 1;
+    page.store(m, map::LINK, next);
+    chain(m, ControlPage(next), count - 1);
 }
 
 // Pages 237-255 are free in order.
@@ -87,28 +86,28 @@ fn free_pages(m: &mut [u8])
     chain(m, ControlPage(map::FIRST_FREE), map::FREE_LINKS);
 }
 
-// The first c codes are built in.
-fn build_in(m: &mut [u8], c: u8)
+// So many codes, from the first on, are built in.
+fn build_in(m: &mut [u8], count: u8)
     requires { ⌜ length (now m) ≡ 8192 ⌝ }
-    ensures { λ _. ⌜ now (m .exit) ≡ Model.allBuiltIn c (now (m .entry)) ⌝ }
+    ensures { λ _. ⌜ now (m .exit) ≡ Model.allBuiltIn count (now (m .entry)) ⌝ }
 {
-    if c == 0 {
+    if count == 0 {
         return;
     }
     write(
         m,
-        map::CODE_WORDS + 2 * wide(c - 1),
+        map::CODE_WORDS + 2 * wide(count - 1),
         instructions::BUILT_IN_WORD,
     );
-    build_in(m, c - 1);
+    build_in(m, count - 1);
 }
 
-pub fn start(m: &mut [u8], line: u8, d: u8)
+pub fn start(m: &mut [u8], line: u8, divider: u8)
     requires { ⌜ length (now m) ≡ 8192 ⌝ }
-    ensures { λ _. ⌜ now (m .exit) ≡ Model.started (now (m .entry)) line d ⌝ }
+    ensures { λ _. ⌜ now (m .exit) ≡ Model.started (now (m .entry)) line divider ⌝ }
 {
     clear_pages(m);
-    set_clock(m, line, d);
+    set_clock(m, line, divider);
     first_processor(m);
     free_pages(m);
     build_in(m, map::BUILT_IN_CODES);

@@ -7,7 +7,7 @@ use native.Mathlib.Numerals.{sub-one}
 use native.Mathlib.Omega.{arith}
 use Rattle.model.specs.Map.{raised, lowered, link, reason, semaphoreOf, clockLine}
 use Rattle.model.specs.Interrupt as Interrupt
-use Rattle.model.specs.Bytes.{Memory, word, store, at, wake, classed, struck, servedFrom, serve, counts, ends, turns, c0Counts, delivered}
+use Rattle.model.specs.Bytes.{Memory, word, store, at, write, wake, classed, struck, servedFrom, serve, counts, ends, turns, c0Counts, delivered}
 
 -- i is k made wide
 module _ (m : Memory) (k c p w : ℕ) (ew : w ≡ word m p reason) where
@@ -46,6 +46,14 @@ module _ (m : Memory) (c e w v : ℕ) (ew : w ≡ at m c) (ev : v ≡ raised w) 
   unfolding Interrupt.ends
   ends-no z = rw (← ew, ← ev, ne-eqb v e z)
 
+pub turns-is : (m m₁ m₂ : Memory) (c k : ℕ) → m₁ ≡ write m c 0 → m₂ ≡ serve m₁ k 0 → m₂ ≡ turns m c k
+unfolding Interrupt.turns
+turns-is m m₁ m₂ c k e₁ e₂ = rw (← e₁) e₂
+
+pub counts-is : (m m₁ : Memory) (c w v : ℕ) → w ≡ at m c → v ≡ raised w → m₁ ≡ write m c v → m₁ ≡ counts m c
+unfolding Interrupt.counts
+counts-is m m₁ c w v ew ev e₁ = rw (← ew, ← ev) e₁
+
 -- b is whether counter c came to its end e, which was found as d, and m₁ the memory after that; at the end the next counter counts, and C3 has none
 module _ (next : Memory → Memory) (m m₁ : Memory) (c d e k : ℕ) (b : Bool) where
   module _ (eb : b ≡ ends m c d) (ed : d ≡ e) (e₁ : m₁ ≡ cond b (turns m c k) (counts m c)) where
@@ -76,6 +84,8 @@ pub ruleset interrupts = (
   served-on,
   ends-yes,
   ends-no,
+  turns-is,
+  counts-is,
   counter-last,
   delivered-clock,
   delivered-plain,

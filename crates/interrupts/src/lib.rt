@@ -14,72 +14,72 @@ ghost use Prim.Native.Nat.{_<_, _≤_};
 ghost use lib.ListN.{length};
 ghost use Rattle.model.specs.Bytes as Model;
 
-// The class number goes into A of page p, for interrupts 48-50.
-fn class(m: &mut [u8], k: u8, c: u8, p: ControlPage)
+// The class number goes into A of the page, for interrupts 48-50.
+fn put_class(m: &mut [u8], interrupt: u8, class: u8, page: ControlPage)
     requires { ⌜ length (now m) ≡ 8192 ⌝ }
-    ensures { λ _. ⌜ now (m .exit) ≡ Model.classed (now (m .entry)) k c (p .0) ⌝ }
+    ensures { λ _. ⌜ now (m .exit) ≡ Model.classed (now (m .entry)) interrupt class (page .0) ⌝ }
 {
-    if k < map::FIRST_CLASSED {
+    if interrupt < map::FIRST_CLASSED {
         return;
     }
-    if map::LAST_OUTER < k {
+    if map::LAST_OUTER < interrupt {
         return;
     }
-    accumulate(m, p, c);
+    accumulate(m, page, class);
 }
 
-// A waiter on page p: reason 1 wakes and leaves, else the reason falls by one.
-fn strike(m: &mut [u8], k: u8, c: u8, p: ControlPage)
-    requires { ⌜ (length (now m) ≡ 8192) × (k ≤ 54) ⌝ }
-    ensures { λ _. ⌜ now (m .exit) ≡ Model.struck (now (m .entry)) k c (p .0) ⌝ }
+// A waiter: reason 1 wakes and leaves, else the reason falls by one.
+fn strike(m: &mut [u8], interrupt: u8, class: u8, page: ControlPage)
+    requires { ⌜ (length (now m) ≡ 8192) × (interrupt ≤ 54) ⌝ }
+    ensures { λ _. ⌜ now (m .exit) ≡ Model.struck (now (m .entry)) interrupt class (page .0) ⌝ }
 {
-    let w = p.word(m, map::REASON);
-    if w == 1 {
-        wake(m, map::SEMAPHORES + 2 * wide(k), p);
-        class(m, k, c, p);
+    let reason = page.word(m, map::REASON);
+    if reason == 1 {
+        wake(m, map::SEMAPHORES + 2 * wide(interrupt), page);
+        put_class(m, interrupt, class, page);
         return;
     }
-    p.store(m, map::REASON, lowered(w));
+    page.store(m, map::REASON, lowered(reason));
 }
 
-// The waiters from page p on; the next is read before p leaves.
-fn serve_from(m: &mut [u8], k: u8, c: u8, p: ControlPage, left: u8)
-    requires { ⌜ (length (now m) ≡ 8192) × (k ≤ 54) ⌝ }
-    ensures { λ _. ⌜ now (m .exit) ≡ Model.servedFrom left (now (m .entry)) k c (p .0) ⌝ }
+// The waiters from the page on; the next is read before it leaves.
+fn serve_from(m: &mut [u8], interrupt: u8, class: u8, page: ControlPage, left: u8)
+    requires { ⌜ (length (now m) ≡ 8192) × (interrupt ≤ 54) ⌝ }
+    ensures { λ _. ⌜ now (m .exit) ≡ Model.servedFrom left (now (m .entry)) interrupt class (page .0) ⌝ }
 {
     if left == 0 {
         return;
     }
-    if p.0 == 0 {
+    if page.0 == 0 {
         return;
     }
-    let next = p.word(m, map::LINK);
-    strike(m, k, c, p);
-    serve_from(m, k, c, ControlPage(next), left - 1);
+    let next = page.word(m, map::LINK);
+    strike(m, interrupt, class, page);
+    serve_from(m, interrupt, class, ControlPage(next), left - 1);
 }
 
-// Interrupt k is served, with class number c.
-pub fn serve(m: &mut [u8], k: u8, c: u8)
-    requires { ⌜ (length (now m) ≡ 8192) × (k ≤ 54) ⌝ }
-    ensures { λ _. ⌜ now (m .exit) ≡ Model.serve (now (m .entry)) k c ⌝ }
+// The interrupt is served, with its class number.
+pub fn serve(m: &mut [u8], interrupt: u8, class: u8)
+    requires { ⌜ (length (now m) ≡ 8192) × (interrupt ≤ 54) ⌝ }
+    ensures { λ _. ⌜ now (m .exit) ≡ Model.serve (now (m .entry)) interrupt class ⌝ }
 {
-    let p = at(m, map::HEADERS + 2 * wide(k));
-    serve_from(m, k, c, ControlPage(p), map::CONTROL_PAGES);
+    let p = at(m, map::HEADERS + 2 * wide(interrupt));
+    serve_from(m, interrupt, class, ControlPage(p), map::CONTROL_PAGES);
 }
 
-// A counter counts. Whether it came to its end: there it is 0 and interrupt k is served.
-fn tick(m: &mut [u8], c: u16, end: u8, k: u8) -> bool
-    requires { ⌜ (length (now m) ≡ 8192) × (c < 8192) × (k ≤ 54) ⌝ }
-    ensures { λ r. ⌜ (r ≡ Model.ends (now (m .entry)) c end)
-        × (now (m .exit) ≡ cond r (Model.turns (now (m .entry)) c k) (Model.counts (now (m .entry)) c)) ⌝ }
+// A counter counts. Whether it came to its end: there it is 0 and the interrupt is served.
+fn tick(m: &mut [u8], counter: u16, end: u8, interrupt: u8) -> bool
+    requires { ⌜ (length (now m) ≡ 8192) × (counter < 8192) × (interrupt ≤ 54) ⌝ }
+    ensures { λ r. ⌜ (r ≡ Model.ends (now (m .entry)) counter end)
+        × (now (m .exit) ≡ cond r (Model.turns (now (m .entry)) counter interrupt) (Model.counts (now (m .entry)) counter)) ⌝ }
 {
-    let v = raised(at(m, c));
-    if v == end {
-        write(m, c, 0);
-        serve(m, k, 0);
+    let count = raised(at(m, counter));
+    if count == end {
+        write(m, counter, 0);
+        serve(m, interrupt, 0);
         return true;
     }
-    write(m, c, v);
+    write(m, counter, count);
     false
 }
 
@@ -119,16 +119,16 @@ fn c0_counts(m: &mut [u8])
     }
 }
 
-// Interrupt k from outside; on the clock line it is served, then C0 counts.
-pub fn deliver(m: &mut [u8], k: u8, c: u8)
-    requires { ⌜ (length (now m) ≡ 8192) × (k ≤ 54) ⌝ }
-    ensures { λ _. ⌜ now (m .exit) ≡ Model.delivered (now (m .entry)) k c ⌝ }
+// An interrupt from outside; on the clock line it is served, then C0 counts.
+pub fn deliver(m: &mut [u8], interrupt: u8, class: u8)
+    requires { ⌜ (length (now m) ≡ 8192) × (interrupt ≤ 54) ⌝ }
+    ensures { λ _. ⌜ now (m .exit) ≡ Model.delivered (now (m .entry)) interrupt class ⌝ }
 {
     let line = at(m, map::CLOCK_LINE);
-    if k == line {
-        serve(m, k, c);
+    if interrupt == line {
+        serve(m, interrupt, class);
         c0_counts(m);
         return;
     }
-    serve(m, k, c);
+    serve(m, interrupt, class);
 }

@@ -75,38 +75,38 @@ pub fn instruction(m: &mut [u8]) -> Answer
     Answer::Refused(k)
 }
 
-// Whether k is an interrupt from outside, and c a class number that it may have.
-fn is_outer(k: u16) -> bool
-    ensures { λ r. ⌜ r ≡ Call.isOuter k ⌝ }
+// Whether the number is that of an interrupt from outside, and the class one that it may have.
+fn is_outer(number: u16) -> bool
+    ensures { λ r. ⌜ r ≡ Call.isOuter number ⌝ }
 {
-    if k < map::FIRST_OUTER_WIDE {
+    if number < map::FIRST_OUTER_WIDE {
         return false;
     }
-    if map::LAST_OUTER_WIDE < k {
+    if map::LAST_OUTER_WIDE < number {
         return false;
     }
     true
 }
 
-fn is_class(k: u16, c: u16) -> bool
-    ensures { λ r. ⌜ r ≡ Call.isClass k c ⌝ }
+fn is_class(number: u16, class: u16) -> bool
+    ensures { λ r. ⌜ r ≡ Call.isClass number class ⌝ }
 {
-    if map::LAST_CLASS < c {
+    if map::LAST_CLASS < class {
         return false;
     }
-    if k < map::FIRST_CLASSED_WIDE {
-        return c == 0;
+    if number < map::FIRST_CLASSED_WIDE {
+        return class == 0;
     }
     true
 }
 
-fn interrupt_judged(m: &mut [u8], k: u16, c: u16) -> Answer
+fn interrupt_judged(m: &mut [u8], number: u16, class: u16) -> Answer
     requires { ⌜ length (now m) ≡ 8192 ⌝ }
-    ensures { λ r. ⌜ gives r (now (m .exit)) ≡ Model.interruptJudged (now (m .entry)) k c ⌝ }
+    ensures { λ r. ⌜ gives r (now (m .exit)) ≡ Model.interruptJudged (now (m .entry)) number class ⌝ }
 {
-    if is_outer(k) {
-        if is_class(k, c) {
-            deliver(m, low(k % map::INTERRUPT_NUMBERS), low(c));
+    if is_outer(number) {
+        if is_class(number, class) {
+            deliver(m, low(number % map::INTERRUPT_NUMBERS), low(class));
             who_runs(m);
             return Answer::Done;
         }
@@ -115,16 +115,16 @@ fn interrupt_judged(m: &mut [u8], k: u16, c: u16) -> Answer
     Answer::Refused(refusals::NO_INTERRUPT)
 }
 
-// Delivery of interrupt k with class number c.
-pub fn interrupt(m: &mut [u8], k: u16, c: u16) -> Answer
-    ensures { λ r. ⌜ gives r (now (m .exit)) ≡ Model.interrupt (now (m .entry)) k c ⌝ }
-    ensures { λ r. ⌜ gives (numbers r) (now (m .exit)) ≡ spoken numbers (Model.interrupt (now (m .entry)) k c) ⌝ }
+// Delivery of an interrupt with its class number.
+pub fn interrupt(m: &mut [u8], number: u16, class: u16) -> Answer
+    ensures { λ r. ⌜ gives r (now (m .exit)) ≡ Model.interrupt (now (m .entry)) number class ⌝ }
+    ensures { λ r. ⌜ gives (numbers r) (now (m .exit)) ≡ spoken numbers (Model.interrupt (now (m .entry)) number class) ⌝ }
 {
-    let f = refusal(m);
-    if f == refusals::NONE {
-        return interrupt_judged(m, k, c);
+    let k = refusal(m);
+    if k == refusals::NONE {
+        return interrupt_judged(m, number, class);
     }
-    Answer::Refused(f)
+    Answer::Refused(k)
 }
 
 fn read_judged(m: &[u8]) -> Held
@@ -150,29 +150,29 @@ pub fn read_registers(m: &[u8]) -> Held
     Held::Refused(k)
 }
 
-fn set_judged(m: &mut [u8], r: Registers) -> Answer
+fn set_judged(m: &mut [u8], registers: Registers) -> Answer
     requires { ⌜ length (now m) ≡ 8192 ⌝ }
-    ensures { λ o. ⌜ gives o (now (m .exit)) ≡ Model.setJudged (now (m .entry)) r ⌝ }
+    ensures { λ o. ⌜ gives o (now (m .exit)) ≡ Model.setJudged (now (m .entry)) registers ⌝ }
 {
     let p = running(m);
     if p.0 == 0 {
         return Answer::Refused(refusals::IDLE);
     }
-    if r.in_range() {
-        r.set_on(m, p);
+    if registers.in_range() {
+        registers.set_on(m, p);
         return Answer::Done;
     }
     Answer::Refused(refusals::OUT_OF_RANGE)
 }
 
-// The running processor's registers become r.
-pub fn set_registers(m: &mut [u8], r: Registers) -> Answer
-    ensures { λ o. ⌜ gives o (now (m .exit)) ≡ Model.setRegisters (now (m .entry)) r ⌝ }
-    ensures { λ o. ⌜ gives (numbers o) (now (m .exit)) ≡ spoken numbers (Model.setRegisters (now (m .entry)) r) ⌝ }
+// The running processor's registers become these.
+pub fn set_registers(m: &mut [u8], registers: Registers) -> Answer
+    ensures { λ o. ⌜ gives o (now (m .exit)) ≡ Model.setRegisters (now (m .entry)) registers ⌝ }
+    ensures { λ o. ⌜ gives (numbers o) (now (m .exit)) ≡ spoken numbers (Model.setRegisters (now (m .entry)) registers) ⌝ }
 {
     let k = refusal(m);
     if k == refusals::NONE {
-        return set_judged(m, r);
+        return set_judged(m, registers);
     }
     Answer::Refused(k)
 }

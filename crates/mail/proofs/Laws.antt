@@ -1,4 +1,4 @@
--- A law for each way through sending and testing.
+-- A law for each way through matching, sending and testing.
 use Prim.Native.Nat.{ℕ, zero, suc, _-_}
 use mathlib.Core.Path.{_≡_, refl}
 use mathlib.Core.Bool.{Bool, true, false}
@@ -7,10 +7,18 @@ use native.Mathlib.Numerals.{sub-one}
 use native.Mathlib.Omega.{arith}
 use Rattle.model.specs.Map.{place, pair, upper, lower, text, reason, ownSemaphore, ownQueue, q1, note, size}
 use Rattle.model.specs.Mail as Mail
-use Rattle.model.specs.Mail.{Tested}
+use Rattle.model.specs.Mail.{Tested, asks, fits}
 use Rattle.model.specs.Mail.Tested.{tested}
 use Rattle.model.specs.Bytes.{Memory, word, store, copy, running, name, wake}
 use Rattle.model.specs.Bytes.{matches, awaits, heard, move, testQ1, writeMessage}
+
+pub fits-asks : (n f w : ℕ) (b c : Bool) → b ≡ asks n (upper w) → b ≡ true → c ≡ asks f (lower w) → c ≡ fits n f w
+unfolding Mail.fits
+fits-asks n f w b c eb h ec = rw (← eb, h) ec
+
+pub fits-not : (n f w : ℕ) (b : Bool) → b ≡ asks n (upper w) → b ≡ false → false ≡ fits n f w
+unfolding Mail.fits
+fits-not n f w b eb h = rw (← eb, h)
 
 module _ (m : Memory) (p q o : ℕ) (eo : o ≡ word m p ownQueue) where
   pub awaits-none : o ≡ 0 → false ≡ awaits m p q
@@ -59,4 +67,4 @@ pub write-is : (m m₁ m₂ m₃ : Memory) (q f a l p n b : ℕ) → p ≡ runni
 unfolding Mail.writeMessage
 write-is m m₁ m₂ m₃ q f a l p n b ep en e₁ e₂ eb e₃ = rw (← ep, ← en, ← e₁, ← e₂, ← eb) e₃
 
-pub ruleset mails = (awaits-none, awaits-is, heard-wakes, heard-not, tests-none, tests-end, tests-here, tests-on, write-is)
+pub ruleset mails = (fits-asks, fits-not, awaits-none, awaits-is, heard-wakes, heard-not, tests-none, tests-end, tests-here, tests-on, write-is)

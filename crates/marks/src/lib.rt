@@ -21,21 +21,21 @@ ghost use Rattle.marks.specs.Marks.{marked, markedAll, markedLists, bits
 
 pub type Marks = [u8; map::MARKS];
 
-// Where page x has its mark; the last is for what is no control page.
-fn slot(x: u16) -> usize
-    requires { ⌜ x < 256 ⌝ }
-    ensures { λ r. ⌜ (r ≡ Marks.slot x) × (r < 21) ⌝ }
+// Where a page has its mark; the last is for what is no control page.
+fn slot(page: u16) -> usize
+    requires { ⌜ page < 256 ⌝ }
+    ensures { λ r. ⌜ (r ≡ Marks.slot page) × (r < 21) ⌝ }
 {
-    if x < map::FIRST_CONTROL_WIDE {
+    if page < map::FIRST_CONTROL_WIDE {
         return map::NO_CONTROL;
     }
-    (x - map::FIRST_CONTROL_WIDE) as usize
+    (page - map::FIRST_CONTROL_WIDE) as usize
 }
 
-fn more(v: u8) -> u8
-    ensures { λ r. ⌜ r ≡ Marks.more v ⌝ }
+fn more(mark: u8) -> u8
+    ensures { λ r. ⌜ r ≡ Marks.more mark ⌝ }
 {
-    if v == 0 {
+    if mark == 0 {
         return 1;
     }
     2
@@ -48,75 +48,82 @@ fn unmarked() -> Marks
     [0; map::MARKS]
 }
 
-// Page x is marked once more.
-fn mark(t: Marks, x: u8) -> Marks
-    ensures { λ r. ⌜ r ≡ marked t x ⌝ }
+// The page is marked once more.
+fn mark(t: Marks, page: u8) -> Marks
+    ensures { λ r. ⌜ r ≡ marked t page ⌝ }
 {
     let mut u = t;
-    let i = slot(wide(x));
+    let i = slot(wide(page));
     let v = more(u[i]);
     u[i] = v;
     u
 }
 
-// How often page x was marked.
-fn times(t: Marks, x: u16) -> u8
-    requires { ⌜ x < 256 ⌝ }
-    ensures { λ r. ⌜ r ≡ Marks.times t x ⌝ }
+// How often the page was marked.
+fn times(t: Marks, page: u16) -> u8
+    requires { ⌜ page < 256 ⌝ }
+    ensures { λ r. ⌜ r ≡ Marks.times t page ⌝ }
 {
-    let i = slot(x);
+    let i = slot(page);
     t[i]
 }
 
-// The marks with the pages that hang from the cell at a.
-fn mark_all(m: &[u8], t: Marks, k: u16, a: u16, left: u8) -> Marks
-    requires { ⌜ (length (now m) ≡ 8192) × (k < 32) × (a < 8192) ⌝ }
-    ensures { λ r. ⌜ r ≡ markedAll t (Model.walk left (now (m .entry)) k a) ⌝ }
+// The marks with the pages that hang from the cell.
+fn mark_all(m: &[u8], t: Marks, link: u16, cell: u16, left: u8) -> Marks
+    requires { ⌜ (length (now m) ≡ 8192) × (link < 32) × (cell < 8192) ⌝ }
+    ensures { λ r. ⌜ r ≡ markedAll t (Model.walk left (now (m .entry)) link cell) ⌝ }
 {
     if left == 0 {
         return t;
     }
-    let w = at(m, a);
+    let w = at(m, cell);
     if w == 0 {
         return t;
     }
-    mark_all(m, mark(t, w), k, ControlPage(w).place(k), left - 1)
+    mark_all(m, mark(t, w), link, ControlPage(w).place(link), left - 1)
 }
 
-// With the list of the head at a.
-fn mark_list(m: &[u8], t: Marks, a: u16) -> Marks
-    requires { ⌜ (length (now m) ≡ 8192) × (a < 8192) ⌝ }
-    ensures { λ r. ⌜ r ≡ markedAll t (Model.lists (now (m .entry)) a) ⌝ }
+// With the list of the head.
+fn mark_list(m: &[u8], t: Marks, head: u16) -> Marks
+    requires { ⌜ (length (now m) ≡ 8192) × (head < 8192) ⌝ }
+    ensures { λ r. ⌜ r ≡ markedAll t (Model.lists (now (m .entry)) head) ⌝ }
 {
-    mark_all(m, t, link_of(a), a, left_of(a))
+    mark_all(m, t, link_of(head), head, left_of(head))
 }
 
-// With the lists of n heads from a on, by steps of d.
-fn mark_range(m: &[u8], t: Marks, n: u8, d: u16, a: u16) -> Marks
-    requires { ⌜ (length (now m) ≡ 8192) × (d ≤ 2) × (a + 2 * n < 8192) ⌝ }
-    ensures { λ r. ⌜ r ≡ markedLists t (Model.lists (now (m .entry))) (range n d a) ⌝ }
+// With the lists of so many heads, by steps.
+fn mark_range(m: &[u8], t: Marks, count: u8, step: u16, head: u16) -> Marks
+    requires { ⌜ (length (now m) ≡ 8192) × (step ≤ 2) × (head + 2 * count < 8192) ⌝ }
+    ensures { λ r. ⌜ r ≡ markedLists t (Model.lists (now (m .entry))) (range count step head) ⌝ }
 {
-    if n == 0 {
+    if count == 0 {
         return t;
     }
-    let u = mark_list(m, t, a);
-    mark_range(m, u, n - 1, d, a + d)
+    let u = mark_list(m, t, head);
+    mark_range(m, u, count - 1, step, head + step)
 }
 
-// With the lists of n words from k on, of each processor from the cell at a on.
-fn mark_words(m: &[u8], t: Marks, n: u8, k: u16, a: u16, left: u8) -> Marks
-    requires { ⌜ (length (now m) ≡ 8192) × (k + 2 * n < 32) × (a < 8192) ⌝ }
-    ensures { λ r. ⌜ r ≡ markedLists t (Model.lists (now (m .entry))) (headsOf n k (Model.walk left (now (m .entry)) Map.listLink a)) ⌝ }
+// With the lists of so many words, of each processor from the cell on.
+fn mark_words(m: &[u8], t: Marks, count: u8, word: u16, cell: u16, left: u8) -> Marks
+    requires { ⌜ (length (now m) ≡ 8192) × (word + 2 * count < 32) × (cell < 8192) ⌝ }
+    ensures { λ r. ⌜ r ≡ markedLists t (Model.lists (now (m .entry))) (headsOf count word (Model.walk left (now (m .entry)) Map.listLink cell)) ⌝ }
 {
     if left == 0 {
         return t;
     }
-    let w = at(m, a);
+    let w = at(m, cell);
     if w == 0 {
         return t;
     }
-    let u = mark_range(m, t, n, 1, ControlPage(w).place(k));
-    mark_words(m, u, n, k, ControlPage(w).place(map::LIST_LINK), left - 1)
+    let u = mark_range(m, t, count, 1, ControlPage(w).place(word));
+    mark_words(
+        m,
+        u,
+        count,
+        word,
+        ControlPage(w).place(map::LIST_LINK),
+        left - 1,
+    )
 }
 
 // The marks of all that is used, and of all that wait.
@@ -139,24 +146,24 @@ fn queue_marks(m: &[u8]) -> Marks
     mark_range(m, u, map::INTERRUPTS, 2, map::HEADERS_AFTER)
 }
 
-// Whether page z is used once by the marks t, and each of the n pages from z on.
-fn once(t: Marks, z: u16) -> bool
-    requires { ⌜ z < 256 ⌝ }
-    ensures { λ r. ⌜ r ≡ holds (onceBy t z) ⌝ }
+// Whether the page is used once by the marks t, and each of so many pages from it on.
+fn once(t: Marks, page: u16) -> bool
+    requires { ⌜ page < 256 ⌝ }
+    ensures { λ r. ⌜ r ≡ holds (onceBy t page) ⌝ }
 {
-    let n = times(t, z);
+    let n = times(t, page);
     n == 1
 }
 
-fn all_once(t: Marks, n: u16, z: u16) -> bool
-    requires { ⌜ z + n ≤ 256 ⌝ }
-    ensures { λ r. ⌜ r ≡ holds (each (range n 1 z) (onceBy t)) ⌝ }
+fn all_once(t: Marks, count: u16, page: u16) -> bool
+    requires { ⌜ page + count ≤ 256 ⌝ }
+    ensures { λ r. ⌜ r ≡ holds (each (range count 1 page) (onceBy t)) ⌝ }
 {
-    if n == 0 {
+    if count == 0 {
         return true;
     }
-    if once(t, z) {
-        return all_once(t, n - 1, z + 1);
+    if once(t, page) {
+        return all_once(t, count - 1, page + 1);
     }
     false
 }
@@ -169,24 +176,24 @@ pub fn used_once(m: &[u8]) -> bool
     all_once(t, map::CONTROL_PAGES_WIDE, map::FIRST_CONTROL_WIDE)
 }
 
-// Whether page p has its waiting bit by the marks t, and each processor from the cell at a on.
-fn bit(m: &[u8], t: Marks, p: ControlPage) -> bool
+// Whether the page has its waiting bit by the marks t, and each processor from the cell on.
+fn bit(m: &[u8], t: Marks, page: ControlPage) -> bool
     requires { ⌜ length (now m) ≡ 8192 ⌝ }
-    ensures { λ r. ⌜ r ≡ holds (bitBy (now (m .entry)) t (p .0)) ⌝ }
+    ensures { λ r. ⌜ r ≡ holds (bitBy (now (m .entry)) t (page .0)) ⌝ }
 {
-    let n = times(t, wide(p.0));
-    let w = p.word(m, map::STATE);
+    let n = times(t, wide(page.0));
+    let w = page.word(m, map::STATE);
     n == w % map::STOP_BIT / map::WAIT_BIT
 }
 
-fn all_bits(m: &[u8], t: Marks, a: u16, left: u8) -> bool
-    requires { ⌜ (length (now m) ≡ 8192) × (a < 8192) ⌝ }
-    ensures { λ r. ⌜ r ≡ holds (each (Model.walk left (now (m .entry)) Map.listLink a) (bitBy (now (m .entry)) t)) ⌝ }
+fn all_bits(m: &[u8], t: Marks, cell: u16, left: u8) -> bool
+    requires { ⌜ (length (now m) ≡ 8192) × (cell < 8192) ⌝ }
+    ensures { λ r. ⌜ r ≡ holds (each (Model.walk left (now (m .entry)) Map.listLink cell) (bitBy (now (m .entry)) t)) ⌝ }
 {
     if left == 0 {
         return true;
     }
-    let w = at(m, a);
+    let w = at(m, cell);
     if w == 0 {
         return true;
     }
@@ -196,25 +203,25 @@ fn all_bits(m: &[u8], t: Marks, a: u16, left: u8) -> bool
     false
 }
 
-// Whether page z waits (t) only as a processor (u), and each of the n pages from z on.
-fn waiter(t: Marks, u: Marks, z: u16) -> bool
-    requires { ⌜ z < 256 ⌝ }
-    ensures { λ r. ⌜ r ≡ holds (waiterBy t u z) ⌝ }
+// Whether the page waits (t) only as a processor (u), and each of so many pages from it on.
+fn waiter(t: Marks, u: Marks, page: u16) -> bool
+    requires { ⌜ page < 256 ⌝ }
+    ensures { λ r. ⌜ r ≡ holds (waiterBy t u page) ⌝ }
 {
-    let n = times(t, z);
-    let k = times(u, z);
+    let n = times(t, page);
+    let k = times(u, page);
     n <= k
 }
 
-fn all_waiters(t: Marks, u: Marks, n: u16, z: u16) -> bool
-    requires { ⌜ z + n ≤ 256 ⌝ }
-    ensures { λ r. ⌜ r ≡ holds (each (range n 1 z) (waiterBy t u)) ⌝ }
+fn all_waiters(t: Marks, u: Marks, count: u16, page: u16) -> bool
+    requires { ⌜ page + count ≤ 256 ⌝ }
+    ensures { λ r. ⌜ r ≡ holds (each (range count 1 page) (waiterBy t u)) ⌝ }
 {
-    if n == 0 {
+    if count == 0 {
         return true;
     }
-    if waiter(t, u, z) {
-        return all_waiters(t, u, n - 1, z + 1);
+    if waiter(t, u, page) {
+        return all_waiters(t, u, count - 1, page + 1);
     }
     false
 }

@@ -66,32 +66,32 @@ pub enum Verdict {
 }
 
 impl ControlPage {
-    // Word k of the page.
-    pub fn word(self, m: &[u8], k: u16) -> u8
-        requires { ⌜ (length (now m) ≡ 8192) × (k < 32) ⌝ }
-        ensures { λ r. ⌜ r ≡ Model.word (now (m .entry)) (self .0) k ⌝ }
+    // A word of the page, by its number.
+    pub fn word(self, m: &[u8], number: u16) -> u8
+        requires { ⌜ (length (now m) ≡ 8192) × (number < 32) ⌝ }
+        ensures { λ r. ⌜ r ≡ Model.word (now (m .entry)) (self .0) number ⌝ }
     {
         let n = self.0;
-        let a = (n as usize) * map::PAGE_WORDS + (k as usize);
+        let a = (n as usize) * map::PAGE_WORDS + (number as usize);
         m[a]
     }
 
-    // v becomes word k of the page.
-    pub fn store(self, m: &mut [u8], k: u16, v: u8)
-        requires { ⌜ (length (now m) ≡ 8192) × (k < 32) ⌝ }
-        ensures { λ _. ⌜ now (m .exit) ≡ Model.store (now (m .entry)) (self .0) k v ⌝ }
+    // The value becomes that word of the page.
+    pub fn store(self, m: &mut [u8], word: u16, value: u8)
+        requires { ⌜ (length (now m) ≡ 8192) × (word < 32) ⌝ }
+        ensures { λ _. ⌜ now (m .exit) ≡ Model.store (now (m .entry)) (self .0) word value ⌝ }
     {
         let n = self.0;
-        let a = (n as usize) * map::PAGE_WORDS + (k as usize);
-        m[a] = v;
+        let a = (n as usize) * map::PAGE_WORDS + (word as usize);
+        m[a] = value;
     }
 
-    // The address of word k of the page.
-    pub fn place(self, k: u16) -> u16
-        requires { ⌜ k < 32 ⌝ }
-        ensures { λ r. ⌜ (r ≡ self .0 * 32 + k) × (r < 8192) ⌝ }
+    // The address of a word of the page.
+    pub fn place(self, word: u16) -> u16
+        requires { ⌜ word < 32 ⌝ }
+        ensures { λ r. ⌜ (r ≡ self .0 * 32 + word) × (r < 8192) ⌝ }
     {
-        wide(self.0) * map::PAGE_SIZE + k
+        wide(self.0) * map::PAGE_SIZE + word
     }
 }
 
@@ -103,16 +103,16 @@ pub fn wide(x: u8) -> u16
 }
 
 impl Registers {
-    // The registers of the processor of page p.
-    pub fn of(m: &[u8], p: ControlPage) -> Self
+    // The registers of the processor of a page.
+    pub fn of(m: &[u8], page: ControlPage) -> Self
         requires { ⌜ length (now m) ≡ 8192 ⌝ }
-        ensures { λ r. ⌜ (r ≡ Model.registersOf (now (m .entry)) (p .0)) × (r .lr < 8192) × (r .a < 256) ⌝ }
+        ensures { λ r. ⌜ (r ≡ Model.registersOf (now (m .entry)) (page .0)) × (r .lr < 8192) × (r .a < 256) ⌝ }
     {
-        let a = wide(p.word(m, map::WORD_A));
-        let s = wide(p.word(m, map::WORD_S));
-        let f = wide(p.word(m, map::HIGH_LR));
-        let l = wide(p.word(m, map::LOW_LR));
-        let x = wide(p.word(m, map::STATE));
+        let a = wide(page.word(m, map::WORD_A));
+        let s = wide(page.word(m, map::WORD_S));
+        let f = wide(page.word(m, map::HIGH_LR));
+        let l = wide(page.word(m, map::LOW_LR));
+        let x = wide(page.word(m, map::STATE));
         Self {
             a,
             s,
@@ -141,35 +141,35 @@ impl Registers {
         }
     }
 
-    // LR grows by n, modulo 8,192.
-    pub fn advance(mut self, n: u16) -> Self
-        requires { ⌜ (self .lr < 8192) × (n < 8192) ⌝ }
-        ensures { λ r. ⌜ (r ≡ Processor.advanced self n) × (r .lr < 8192) ⌝ }
+    // LR grows by the length, modulo 8,192.
+    pub fn advance(mut self, length: u16) -> Self
+        requires { ⌜ (self .lr < 8192) × (length < 8192) ⌝ }
+        ensures { λ r. ⌜ (r ≡ Processor.advanced self length) × (r .lr < 8192) ⌝ }
     {
-        self.lr = (self.lr + n) % map::MEMORY_SIZE;
+        self.lr = (self.lr + length) % map::MEMORY_SIZE;
         self
     }
 
-    pub fn set_accumulator(mut self, v: u16) -> Self
-        ensures { λ r. ⌜ r ≡ Processor.accumulated self v ⌝ }
+    pub fn set_accumulator(mut self, value: u16) -> Self
+        ensures { λ r. ⌜ r ≡ Processor.accumulated self value ⌝ }
     {
-        self.a = v;
+        self.a = value;
         self
     }
 
-    // LR becomes a.
-    pub fn jump(mut self, a: u16) -> Self
-        ensures { λ r. ⌜ r ≡ record { a = self .a; s = self .s; p = self .p; z = self .z; ci = self .ci; lr = a; w = self .w; stopped = self .stopped } ⌝ }
+    // LR becomes the target.
+    pub fn jump(mut self, target: u16) -> Self
+        ensures { λ r. ⌜ r ≡ record { a = self .a; s = self .s; p = self .p; z = self .z; ci = self .ci; lr = target; w = self .w; stopped = self .stopped } ⌝ }
     {
-        self.lr = a;
+        self.lr = target;
         self
     }
 
     // P becomes the carry.
-    pub fn set_carry(mut self, v: u16) -> Self
-        ensures { λ r. ⌜ r ≡ record { a = self .a; s = self .s; p = v; z = self .z; ci = self .ci; lr = self .lr; w = self .w; stopped = self .stopped } ⌝ }
+    pub fn set_carry(mut self, carry: u16) -> Self
+        ensures { λ r. ⌜ r ≡ record { a = self .a; s = self .s; p = carry; z = self .z; ci = self .ci; lr = self .lr; w = self .w; stopped = self .stopped } ⌝ }
     {
-        self.p = v;
+        self.p = carry;
         self
     }
 
@@ -187,43 +187,43 @@ impl Registers {
         self
     }
 
-    // P, Z, CI and LR, words 10 and 11 of page p, each modulo its field.
-    fn set_flags_lr(self, m: &mut [u8], p: ControlPage)
+    // P, Z, CI and LR, words 10 and 11 of a page, each modulo its field.
+    fn set_flags_lr(self, m: &mut [u8], page: ControlPage)
         requires { ⌜ length (now m) ≡ 8192 ⌝ }
-        ensures { λ _. ⌜ now (m .exit) ≡ Model.setFlagsLr (now (m .entry)) (p .0) self ⌝ }
+        ensures { λ _. ⌜ now (m .exit) ≡ Model.setFlagsLr (now (m .entry)) (page .0) self ⌝ }
     {
         let h = self.p % map::BITS * map::P_BIT
             + self.z % map::BITS * map::Z_BIT
             + self.ci % map::BITS * map::CI_BIT
             + self.lr / map::WORD_VALUES % map::HIGHS_WIDE;
-        p.store(m, map::HIGH_LR, h as u8);
-        p.store(m, map::LOW_LR, (self.lr % map::WORD_VALUES) as u8);
+        page.store(m, map::HIGH_LR, h as u8);
+        page.store(m, map::LOW_LR, (self.lr % map::WORD_VALUES) as u8);
     }
 
-    // The seven registers go to page p: words 8-11 and the low four bits of word 12.
-    pub fn set_on(self, m: &mut [u8], p: ControlPage)
+    // The seven registers go to a page: words 8-11 and the low four bits of word 12.
+    pub fn set_on(self, m: &mut [u8], page: ControlPage)
         requires { ⌜ length (now m) ≡ 8192 ⌝ }
-        ensures { λ _. ⌜ now (m .exit) ≡ Model.setRegistersOf (now (m .entry)) (p .0) self ⌝ }
+        ensures { λ _. ⌜ now (m .exit) ≡ Model.setRegistersOf (now (m .entry)) (page .0) self ⌝ }
     {
-        p.store(m, map::WORD_A, (self.a % map::WORD_VALUES) as u8);
-        p.store(m, map::WORD_S, (self.s % map::WORD_VALUES) as u8);
-        self.set_flags_lr(m, p);
-        let x = p.word(m, map::STATE);
-        p.store(
+        page.store(m, map::WORD_A, (self.a % map::WORD_VALUES) as u8);
+        page.store(m, map::WORD_S, (self.s % map::WORD_VALUES) as u8);
+        self.set_flags_lr(m, page);
+        let x = page.word(m, map::STATE);
+        page.store(
             m,
             map::STATE,
             x / map::FIELD * map::FIELD + (self.w % map::W_VALUES) as u8,
         );
     }
 
-    // The record is handed back to page p whole, the stopped bit too.
-    pub fn hand_back(self, m: &mut [u8], p: ControlPage)
+    // The record is handed back to its page whole, the stopped bit too.
+    pub fn hand_back(self, m: &mut [u8], page: ControlPage)
         requires { ⌜ length (now m) ≡ 8192 ⌝ }
-        ensures { λ _. ⌜ now (m .exit) ≡ Model.handBack (now (m .entry)) (p .0) self ⌝ }
+        ensures { λ _. ⌜ now (m .exit) ≡ Model.handBack (now (m .entry)) (page .0) self ⌝ }
     {
-        self.set_on(m, p);
-        let x = p.word(m, map::STATE);
-        p.store(
+        self.set_on(m, page);
+        let x = page.word(m, map::STATE);
+        page.store(
             m,
             map::STATE,
             (self.stopped % map::BITS) as u8 * map::STOP_BIT + x % map::STOP_BIT,

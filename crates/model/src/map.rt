@@ -70,12 +70,18 @@ pub const GUARDED_TO: u16 = 11 * 32;
 
 pub const GUARDED_LAST: u16 = 236 * 32;
 
-// Page 0: "words 4-6 and 16-31" are kept, nineteen; VEP's return words; "X register XN (words 24+2XN, 25+2XN)".
+// Page 0: "words 4-6 and 16-31" are kept, nineteen, three before the rest; VEP's return words; "X register XN (words 24+2XN, 25+2XN)".
 pub const PAGE_ZERO: u16 = 0;
 
 pub const KEPT_COUNT: u16 = 19;
 
 pub const KEPT_WORDS: usize = 19;
+
+pub const EARLY_WORDS: u16 = 4;
+
+pub const EARLY_COUNT: u16 = 3;
+
+pub const LATER_WORDS: u16 = 16 - 3;
 
 pub const RETURN_HIGH: u16 = 5;
 

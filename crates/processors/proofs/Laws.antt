@@ -1,16 +1,19 @@
--- A law for each way through waiting, and through the entry of a fault.
-use Prim.Native.Nat.{ℕ, zero, suc, _+_, _-_, _≤_, _<_}
+-- A law for each way through waiting.
+use Prim.Native.Nat.{ℕ, zero, suc, _+_, _-_}
 use mathlib.Core.Path.{_≡_, refl}
 use mathlib.Core.Bool.{Bool, true, false}
-use borrow.Author.Tests.{lt-ltb, le-ltb}
 use native.Mathlib.Numerals.{sub-one}
 use native.Mathlib.Omega.{arith}
-use Rattle.model.specs.Map.{place, waitCleared, reason, state, ownSemaphore, freeSemaphore, semaphoreAfter, interrupts, firstUnused, entryAt, entriesFull}
+use Rattle.model.specs.Map.{place, lowered, link, waitCleared, reason, state, ownSemaphore, freeSemaphore, semaphoreAfter, interrupts}
 use Rattle.model.specs.Wait as Wait
-use Rattle.model.specs.Fault as Fault
-use Rattle.model.specs.Bytes.{Memory, at, write, word, store, wake, queued, seat, unqueue, leaveWait, entered}
+use Rattle.model.specs.Bytes.{Memory, at, write, word, store, join, enqueue, wake, queued, seat, unqueue, leaveWait}
 
 -- ---- straight lines
+-- v is the semaphore that was read, w what is stored
+pub enqueue-is : (m m₁ m₂ : Memory) (s p v w : ℕ) → v ≡ at m s → w ≡ lowered v → m₁ ≡ write m s w → m₂ ≡ join m₁ (s + 1) link p → m₂ ≡ enqueue m s p
+unfolding Wait.enqueue
+enqueue-is m m₁ m₂ s p v w ev ew e₁ e₂ = rw (← ev, ← ew, ← e₁) e₂
+
 pub wake-is : (m m₁ m₂ m₃ : Memory) (s p x : ℕ) → m₁ ≡ unqueue m s p → x ≡ word m₁ p state → m₂ ≡ store m₁ p state (waitCleared x) → m₃ ≡ store m₂ p reason 0
     → m₃ ≡ wake m s p
 unfolding Wait.wake
@@ -49,14 +52,4 @@ module _ (m : Memory) (p s : ℕ) (b : Bool) (es : s ≡ seat interrupts m p) (e
   unfolding Wait.leaveWait
   wait-none h = rw (← es, ← eb, h)
 
--- w is n made wide
-module _ (m : Memory) (e n : ℕ) (en : n ≡ at m firstUnused) where
-  pub enter-room : (m₁ m₂ : Memory) (w : ℕ) → n < entriesFull → w ≡ n → m₁ ≡ write m (entryAt w) e → m₂ ≡ write m₁ firstUnused (n + 1) → m₂ ≡ entered m e
-  unfolding Fault.entered
-  enter-room m₁ m₂ w h ew e₁ e₂ = rw (← en, lt-ltb n entriesFull h, ← ew, ← e₁, ew) e₂
-
-  pub enter-full : entriesFull ≤ n → m ≡ entered m e
-  unfolding Fault.entered
-  enter-full h = rw (← en, le-ltb n entriesFull h)
-
-pub ruleset waiting = (wake-is, seat-page, seat-own, seat-here, seat-on, wait-left, wait-none, enter-room, enter-full)
+pub ruleset waiting = (enqueue-is, wake-is, seat-page, seat-own, seat-here, seat-on, wait-left, wait-none)

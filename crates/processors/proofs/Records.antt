@@ -139,25 +139,26 @@ module _ (m : Memory) (p : ℕ) (b : Bytes m) where
   back-jumped a =
       let n : Memory = store m p highLr (flagsKept (word m p highLr) (high a)) in
       let o : Memory = store n p lowLr (low a) in
-      let e : word o p state ≡ word m p state = past n lowLr state (low a) (omega arith) ∙ past m highLr state (flagsKept (word m p highLr) (high a)) (omega arith) in
-      handed m m m n o o o p (jumped (registersOf m p) a) (low-kept m wordA refl) (low-kept m wordS refl) (rw (flags-jump (word m p highLr) a (byte highLr))) refl
-      (w-kept o e) (stop-kept o e)
+      let e : word o p state ≡ word m p state =
+      past n lowLr state (low a) (omega arith) ∙ past m highLr state (flagsKept (word m p highLr) (high a)) (omega arith) in
+      handed m m m n o o o p (jumped (registersOf m p) a) (low-kept m wordA refl) (low-kept m wordS refl)
+      (rw (flags-jump (word m p highLr) a (byte highLr))) refl (w-kept o e) (stop-kept o e)
 
   pub back-stopped : handBack m p (stoppedOnce (registersOf m p)) ≡ stop m p
   unfolding Processor.registersOf Processor.stop
   back-stopped =
       let n : Memory = store m p state (stopSet (word m p state)) in
       let e : stopSet (word m p state) ≡ stopPut (word m p state) 1 = omega arith in
-      handed m m m m m m n p (stoppedOnce (registersOf m p)) (low-kept m wordA refl) (low-kept m wordS refl) (flags-kept m refl) (lr-kept m refl) (w-kept m refl)
-      (rw e)
+      handed m m m m m m n p (stoppedOnce (registersOf m p)) (low-kept m wordA refl) (low-kept m wordS refl) (flags-kept m refl) (lr-kept m refl)
+      (w-kept m refl) (rw e)
 
   pub back-started : handBack m p (startedOnce (registersOf m p)) ≡ start m p
   unfolding Processor.registersOf Processor.start
   back-started =
       let n : Memory = store m p state (stopCleared (word m p state)) in
       let e : stopPut (word m p state) 0 ≡ stopCleared (word m p state) = omega arith in
-      handed m m m m m m n p (startedOnce (registersOf m p)) (low-kept m wordA refl) (low-kept m wordS refl) (flags-kept m refl) (lr-kept m refl) (w-kept m refl)
-      (rw e)
+      handed m m m m m m n p (startedOnce (registersOf m p)) (low-kept m wordA refl) (low-kept m wordS refl) (flags-kept m refl) (lr-kept m refl)
+      (w-kept m refl) (rw e)
 
   -- code 13's sum: A and P
   pub back-added : (v c : ℕ) → v < 256 → c < 2
@@ -169,8 +170,8 @@ module _ (m : Memory) (p : ℕ) (b : Bytes m) where
       let e : low v ≡ v = omega arith in
       let x : word o p state ≡ word m p state = past n highLr state _ (omega arith) ∙ past m wordA state v (omega arith) in
       handed m n n o o o o p (carried (accumulated (registersOf m p) v) c) (rw e) (low-kept n wordS (past m wordA wordS v (omega arith)))
-      (rw (flags-carry (word m p highLr) (word m p lowLr) c (byte lowLr) k)) (lr-kept o (past n highLr lowLr _ (omega arith) ∙ past m wordA lowLr v (omega arith)))
-      (w-kept o x) (stop-kept o x)
+      (rw (flags-carry (word m p highLr) (word m p lowLr) c (byte lowLr) k))
+      (lr-kept o (past n highLr lowLr _ (omega arith) ∙ past m wordA lowLr v (omega arith))) (w-kept o x) (stop-kept o x)
 
 -- ---- what the code does with a record r of page p: n is what it hands back
 module _ (m m₁ : Memory) (p : ℕ) (r n : Registers) (b : Bytes m) (er : r ≡ registersOf m p) where

@@ -1,6 +1,7 @@
-// Memory map: "Processor page": state bits, LR, waiting and waking. A wait queue is known by the address s of its semaphore; its header is the
-// next word.
+// Memory map: "Processor page": names, state bits, LR, waiting and waking. A wait queue is known by the address of its semaphore; its header is
+// the next word.
 use model::ControlPage;
+use model::Name;
 use model::Registers;
 use model::map;
 use model::wide;
@@ -13,67 +14,118 @@ use words::raised;
 use words::write;
 ghost use mathlib.Core.Path.{_≡_};
 ghost use Prim.Native.Nat.{_<_, _≤_};
-ghost use lib.ListN.{length};
+ghost use lib.ListN as List;
+ghost use Rattle.model.specs.Queue as Queue;
 ghost use Rattle.model.specs.Map as Map;
 ghost use Rattle.model.specs.Bytes as Model;
 
 // The running processor's page; page 0: nobody runs.
 pub fn running(m: &[u8]) -> ControlPage
-    requires { ⌜ length (now m) ≡ 8192 ⌝ }
+    requires { ⌜ List.length (now m) ≡ 8192 ⌝ }
     ensures { λ r. ⌜ r .0 ≡ Model.running (now (m .entry)) ⌝ }
 {
     ControlPage(at(m, map::RUNNING_PAGE))
 }
 
-// The name of the processor of page p.
-pub fn name(m: &[u8], p: ControlPage) -> u8
-    requires { ⌜ length (now m) ≡ 8192 ⌝ }
-    ensures { λ r. ⌜ (r ≡ Model.name (now (m .entry)) (p .0)) × (r < 16) ⌝ }
+// The name, the priority of the processor of a page.
+pub fn name(m: &[u8], page: ControlPage) -> Name
+    requires { ⌜ List.length (now m) ≡ 8192 ⌝ }
+    ensures { λ r. ⌜ (r .0 ≡ Model.name (now (m .entry)) (page .0)) × (r .0 < 16) ⌝ }
 {
-    let w = p.word(m, map::LABEL);
-    w % map::FIELD
+    let w = page.word(m, map::LABEL);
+    Name(w % map::FIELD)
 }
 
-// By the record, on page p: A becomes v; the stopped bit is set, is cleared; LR becomes a.
-pub fn accumulate(m: &mut [u8], p: ControlPage, v: u8)
-    requires { ⌜ length (now m) ≡ 8192 ⌝ }
-    ensures { λ _. ⌜ now (m .exit) ≡ Model.store (now (m .entry)) (p .0) Map.wordA v ⌝ }
+pub fn priority(m: &[u8], page: ControlPage) -> u8
+    requires { ⌜ List.length (now m) ≡ 8192 ⌝ }
+    ensures { λ r. ⌜ r ≡ Model.priority (now (m .entry)) (page .0) ⌝ }
 {
-    let r = Registers::of(m, p);
-    let n = r.set_accumulator(wide(v));
-    n.hand_back(m, p);
+    page.word(m, map::LABEL) / map::FIELD
 }
 
-pub fn stop(m: &mut [u8], p: ControlPage)
-    requires { ⌜ length (now m) ≡ 8192 ⌝ }
-    ensures { λ _. ⌜ now (m .exit) ≡ Model.stop (now (m .entry)) (p .0) ⌝ }
+// Whether it is ready: neither bit is set.
+pub fn ready(m: &[u8], page: ControlPage) -> bool
+    requires { ⌜ List.length (now m) ≡ 8192 ⌝ }
+    ensures { λ r. ⌜ r ≡ Model.ready (now (m .entry)) (page .0) ⌝ }
 {
-    let r = Registers::of(m, p);
+    page.word(m, map::STATE) < map::WAIT_BIT
+}
+
+// Whether the processor of a page has the name.
+pub fn is_named(m: &[u8], name: Name, page: ControlPage) -> bool
+    requires { ⌜ List.length (now m) ≡ 8192 ⌝ }
+    ensures { λ r. ⌜ r ≡ Model.isNamed (now (m .entry)) (name .0) (page .0) ⌝ }
+{
+    let w = page.word(m, map::LABEL);
+    w % map::FIELD == name.0
+}
+
+// The first page of that name of those that hang from the cell along the processor list; page 0: none.
+pub fn find_name(m: &[u8], name: Name, cell: u16, left: u8) -> ControlPage
+    requires { ⌜ (List.length (now m) ≡ 8192) × (cell < 8192) ⌝ }
+    ensures { λ r. ⌜ r .0 ≡ Queue.first (Model.isNamed (now (m .entry)) (name .0)) (Model.walk left (now (m .entry)) Map.listLink cell) ⌝ }
+{
+    if left == 0 {
+        return ControlPage(0);
+    }
+    let w = at(m, cell);
+    if w == 0 {
+        return ControlPage(0);
+    }
+    if is_named(m, name, ControlPage(w)) {
+        return ControlPage(w);
+    }
+    find_name(m, name, ControlPage(w).place(map::LIST_LINK), left - 1)
+}
+
+// The page of the processor of that name; page 0: there is none.
+pub fn page_of(m: &[u8], name: Name) -> ControlPage
+    requires { ⌜ List.length (now m) ≡ 8192 ⌝ }
+    ensures { λ r. ⌜ r .0 ≡ Model.pageOf (now (m .entry)) (name .0) ⌝ }
+{
+    find_name(m, name, map::PROCESSOR_LIST, map::CONTROL_PAGES)
+}
+
+// By the record of a page: A becomes the value; the stopped bit is set, is cleared; LR becomes the address.
+pub fn accumulate(m: &mut [u8], page: ControlPage, value: u8)
+    requires { ⌜ List.length (now m) ≡ 8192 ⌝ }
+    ensures { λ _. ⌜ now (m .exit) ≡ Model.store (now (m .entry)) (page .0) Map.wordA value ⌝ }
+{
+    let r = Registers::of(m, page);
+    let n = r.set_accumulator(wide(value));
+    n.hand_back(m, page);
+}
+
+pub fn stop(m: &mut [u8], page: ControlPage)
+    requires { ⌜ List.length (now m) ≡ 8192 ⌝ }
+    ensures { λ _. ⌜ now (m .exit) ≡ Model.stop (now (m .entry)) (page .0) ⌝ }
+{
+    let r = Registers::of(m, page);
     let n = r.set_stopped();
-    n.hand_back(m, p);
+    n.hand_back(m, page);
 }
 
-pub fn start(m: &mut [u8], p: ControlPage)
-    requires { ⌜ length (now m) ≡ 8192 ⌝ }
-    ensures { λ _. ⌜ now (m .exit) ≡ Model.start (now (m .entry)) (p .0) ⌝ }
+pub fn start(m: &mut [u8], page: ControlPage)
+    requires { ⌜ List.length (now m) ≡ 8192 ⌝ }
+    ensures { λ _. ⌜ now (m .exit) ≡ Model.start (now (m .entry)) (page .0) ⌝ }
 {
-    let r = Registers::of(m, p);
+    let r = Registers::of(m, page);
     let n = r.clear_stopped();
-    n.hand_back(m, p);
+    n.hand_back(m, page);
 }
 
-pub fn set_lr(m: &mut [u8], p: ControlPage, a: u16)
-    requires { ⌜ length (now m) ≡ 8192 ⌝ }
-    ensures { λ _. ⌜ now (m .exit) ≡ Model.setLr (now (m .entry)) (p .0) a ⌝ }
+pub fn set_lr(m: &mut [u8], page: ControlPage, address: u16)
+    requires { ⌜ List.length (now m) ≡ 8192 ⌝ }
+    ensures { λ _. ⌜ now (m .exit) ≡ Model.setLr (now (m .entry)) (page .0) address ⌝ }
 {
-    let r = Registers::of(m, p);
-    let n = r.jump(a);
-    n.hand_back(m, p);
+    let r = Registers::of(m, page);
+    let n = r.jump(address);
+    n.hand_back(m, page);
 }
 
-// LR of the running processor, and LR grown by len.
+// LR of the running processor, and LR grown by the length.
 pub fn lr(m: &[u8]) -> u16
-    requires { ⌜ length (now m) ≡ 8192 ⌝ }
+    requires { ⌜ List.length (now m) ≡ 8192 ⌝ }
     ensures { λ r. ⌜ (r ≡ Model.lr (now (m .entry))) × (r < 8192) ⌝ }
 {
     let p = running(m);
@@ -81,111 +133,99 @@ pub fn lr(m: &[u8]) -> u16
     r.lr
 }
 
-pub fn advance(m: &mut [u8], len: u16)
-    requires { ⌜ (length (now m) ≡ 8192) × (len < 8192) ⌝ }
-    ensures { λ _. ⌜ now (m .exit) ≡ Model.advance (now (m .entry)) len ⌝ }
+pub fn advance(m: &mut [u8], length: u16)
+    requires { ⌜ (List.length (now m) ≡ 8192) × (length < 8192) ⌝ }
+    ensures { λ _. ⌜ now (m .exit) ≡ Model.advance (now (m .entry)) length ⌝ }
 {
     let p = running(m);
     let r = Registers::of(m, p);
-    let n = r.advance(len);
+    let n = r.advance(length);
     n.hand_back(m, p);
 }
 
-// p joins, leaves the wait queue at s.
-pub fn enqueue(m: &mut [u8], s: u16, p: ControlPage)
-    requires { ⌜ (length (now m) ≡ 8192) × (s < 8191) ⌝ }
-    ensures { λ _. ⌜ now (m .exit) ≡ Model.enqueue (now (m .entry)) s (p .0) ⌝ }
+// The page joins, leaves the wait queue of the semaphore.
+pub fn enqueue(m: &mut [u8], semaphore: u16, page: ControlPage)
+    requires { ⌜ (List.length (now m) ≡ 8192) × (semaphore < 8191) ⌝ }
+    ensures { λ _. ⌜ now (m .exit) ≡ Model.enqueue (now (m .entry)) semaphore (page .0) ⌝ }
 {
-    let v = at(m, s);
-    write(m, s, lowered(v));
-    join(m, s + 1, map::LINK, p);
+    let v = at(m, semaphore);
+    write(m, semaphore, lowered(v));
+    join(m, semaphore + 1, map::LINK, page);
 }
 
-pub fn unqueue(m: &mut [u8], s: u16, p: ControlPage)
-    requires { ⌜ (length (now m) ≡ 8192) × (s < 8191) ⌝ }
-    ensures { λ _. ⌜ now (m .exit) ≡ Model.unqueue (now (m .entry)) s (p .0) ⌝ }
+pub fn unqueue(m: &mut [u8], semaphore: u16, page: ControlPage)
+    requires { ⌜ (List.length (now m) ≡ 8192) × (semaphore < 8191) ⌝ }
+    ensures { λ _. ⌜ now (m .exit) ≡ Model.unqueue (now (m .entry)) semaphore (page .0) ⌝ }
 {
-    let v = at(m, s);
-    write(m, s, raised(v));
-    leave(m, s + 1, map::LINK, p);
+    let v = at(m, semaphore);
+    write(m, semaphore, raised(v));
+    leave(m, semaphore + 1, map::LINK, page);
 }
 
-// p is put to wait in the queue at s, for a reason.
-pub fn put_to_wait(m: &mut [u8], s: u16, p: ControlPage, reason: u8)
-    requires { ⌜ (length (now m) ≡ 8192) × (s < 8191) ⌝ }
-    ensures { λ _. ⌜ now (m .exit) ≡ Model.putToWait (now (m .entry)) s (p .0) reason ⌝ }
+// It is put to wait in that queue, for a reason.
+pub fn put_to_wait(m: &mut [u8], semaphore: u16, page: ControlPage, reason: u8)
+    requires { ⌜ (List.length (now m) ≡ 8192) × (semaphore < 8191) ⌝ }
+    ensures { λ _. ⌜ now (m .exit) ≡ Model.putToWait (now (m .entry)) semaphore (page .0) reason ⌝ }
 {
-    let x = p.word(m, map::STATE);
-    p.store(
+    let x = page.word(m, map::STATE);
+    page.store(
         m,
         map::STATE,
         x / map::STOP_BIT * map::STOP_BIT + map::WAIT_BIT + x % map::WAIT_BIT,
     );
-    p.store(m, map::REASON, reason);
-    enqueue(m, s, p);
+    page.store(m, map::REASON, reason);
+    enqueue(m, semaphore, page);
 }
 
-// p wakes: it leaves the queue at s, its waiting bit and reason are cleared.
-pub fn wake(m: &mut [u8], s: u16, p: ControlPage)
-    requires { ⌜ (length (now m) ≡ 8192) × (s < 8191) ⌝ }
-    ensures { λ _. ⌜ now (m .exit) ≡ Model.wake (now (m .entry)) s (p .0) ⌝ }
+// It wakes: it leaves that queue, its waiting bit and reason are cleared.
+pub fn wake(m: &mut [u8], semaphore: u16, page: ControlPage)
+    requires { ⌜ (List.length (now m) ≡ 8192) × (semaphore < 8191) ⌝ }
+    ensures { λ _. ⌜ now (m .exit) ≡ Model.wake (now (m .entry)) semaphore (page .0) ⌝ }
 {
-    unqueue(m, s, p);
-    let x = p.word(m, map::STATE);
-    p.store(
+    unqueue(m, semaphore, page);
+    let x = page.word(m, map::STATE);
+    page.store(
         m,
         map::STATE,
         x / map::STOP_BIT * map::STOP_BIT + x % map::WAIT_BIT,
     );
-    p.store(m, map::REASON, 0);
+    page.store(m, map::REASON, 0);
 }
 
-// Whether the wait queue at s holds page p.
-pub fn queued(m: &[u8], s: u16, p: ControlPage) -> bool
-    requires { ⌜ (length (now m) ≡ 8192) × (s < 8191) ⌝ }
-    ensures { λ r. ⌜ r ≡ Model.queued (now (m .entry)) s (p .0) ⌝ }
+// Whether the wait queue of the semaphore holds the page.
+pub fn queued(m: &[u8], semaphore: u16, page: ControlPage) -> bool
+    requires { ⌜ (List.length (now m) ≡ 8192) × (semaphore < 8191) ⌝ }
+    ensures { λ r. ⌜ r ≡ Model.queued (now (m .entry)) semaphore (page .0) ⌝ }
 {
-    let q = find_page(m, p, s + 1, map::CONTROL_PAGES);
-    q.0 == p.0
+    let q = find_page(m, page, semaphore + 1, map::CONTROL_PAGES);
+    q.0 == page.0
 }
 
-// Where p waits: in one of the first n interrupt queues, else for a page, else for a message.
-pub fn seat(m: &[u8], p: ControlPage, n: u8) -> u16
-    requires { ⌜ (length (now m) ≡ 8192) × (n ≤ 54) ⌝ }
-    ensures { λ r. ⌜ (r ≡ Model.seat n (now (m .entry)) (p .0)) × (r < 8191) ⌝ }
+// Where it waits: in one of so many interrupt queues, else for a page, else for a message.
+pub fn seat(m: &[u8], page: ControlPage, queues: u8) -> u16
+    requires { ⌜ (List.length (now m) ≡ 8192) × (queues ≤ 54) ⌝ }
+    ensures { λ r. ⌜ (r ≡ Model.seat queues (now (m .entry)) (page .0)) × (r < 8191) ⌝ }
 {
-    if n == 0 {
-        if queued(m, map::FREE_SEMAPHORE, p) {
+    if queues == 0 {
+        if queued(m, map::FREE_SEMAPHORE, page) {
             return map::FREE_SEMAPHORE;
         }
-        return p.place(map::OWN_SEMAPHORE);
+        return page.place(map::OWN_SEMAPHORE);
     }
-    let s = map::SEMAPHORES_AFTER + 2 * wide(n - 1);
-    if queued(m, s, p) {
-        return s;
+    let semaphore = map::SEMAPHORES_AFTER + 2 * wide(queues - 1);
+    if queued(m, semaphore, page) {
+        return semaphore;
     }
-    seat(m, p, n - 1)
+    seat(m, page, queues - 1)
 }
 
-// p leaves any wait queue, not woken.
-pub fn leave_wait(m: &mut [u8], p: ControlPage)
-    requires { ⌜ length (now m) ≡ 8192 ⌝ }
-    ensures { λ _. ⌜ now (m .exit) ≡ Model.leaveWait (now (m .entry)) (p .0) ⌝ }
+// It leaves any wait queue, not woken.
+pub fn leave_wait(m: &mut [u8], page: ControlPage)
+    requires { ⌜ List.length (now m) ≡ 8192 ⌝ }
+    ensures { λ _. ⌜ now (m .exit) ≡ Model.leaveWait (now (m .entry)) (page .0) ⌝ }
 {
-    let s = seat(m, p, map::INTERRUPTS);
-    if queued(m, s, p) {
-        unqueue(m, s, p);
-    }
-}
-
-// e is entered on page 9, while that has room.
-pub fn enter(m: &mut [u8], e: u8)
-    requires { ⌜ length (now m) ≡ 8192 ⌝ }
-    ensures { λ _. ⌜ now (m .exit) ≡ Model.entered (now (m .entry)) e ⌝ }
-{
-    let n = at(m, map::FIRST_UNUSED);
-    if n < map::ENTRIES_FULL {
-        write(m, map::FIRST_UNUSED + wide(n), e);
-        write(m, map::FIRST_UNUSED, n + 1);
+    let semaphore = seat(m, page, map::INTERRUPTS);
+    if queued(m, semaphore, page) {
+        unqueue(m, semaphore, page);
     }
 }

@@ -1,17 +1,15 @@
 -- A law for each way through the walks along links. Those of `walk` and `first` serve every recursion that looks for a page.
-use Prim.Native.Nat.{ℕ, zero, suc, _+_, _*_, _-_, _/_, _%_}
+use Prim.Native.Nat.{ℕ, zero, suc, _-_}
 use mathlib.Core.Path.{_≡_, refl}
 use mathlib.Core.Bool.{Bool, true, false}
-use mathlib.Core.List.{List, [], _∷_}
+use mathlib.Core.List.{[], _∷_}
 use borrow.Author.Tests.{eq-eqb, ne-eqb}
 use native.Mathlib.Numerals.{sub-one}
 use native.Mathlib.Omega.{arith}
-use Rattle.model.specs.Map.{place, upper, lower}
+use Rattle.model.specs.Map.{place, controlPages}
 use Rattle.model.specs.Queue as Queue
 use Rattle.model.specs.Queue.{first}
-use Rattle.model.specs.Mail as Mail
-use Rattle.model.specs.Mail.{asks, fits}
-use Rattle.model.specs.Bytes.{Memory, at, word, walk, cellOf, matches}
+use Rattle.model.specs.Bytes.{Memory, at, write, store, walk, cellOf, join}
 
 pub cell-none : (n : ℕ) (m : Memory) (k a v : ℕ) → n ≡ 0 → a ≡ cellOf n m k a v
 unfolding Queue.cellOf
@@ -28,6 +26,11 @@ pub cell-on : (n : ℕ) (m : Memory) (k a v w b r : ℕ) → w ≡ at m a → (n
 unfolding Queue.cellOf
 cell-on zero m k a v w b r e o z eb h = absurd (o refl)
 cell-on (suc n) m k a v w b r e o z eb h = rw (← e, ne-eqb w v z, Queue.cellOf, ← e, ← eb) (simp sub-one at h)
+
+-- ---- joining at the cell c
+pub join-is : (m m₁ m₂ : Memory) (h k q c : ℕ) → m₁ ≡ store m q k 0 → c ≡ cellOf controlPages m₁ k h 0 → m₂ ≡ write m₁ c q → m₂ ≡ join m h k q
+unfolding Queue.join
+join-is m m₁ m₂ h k q c e₁ ec e₂ = rw (← e₁, ← ec) e₂
 
 -- ---- the list that hangs from a cell
 pub walk-none : (n : ℕ) (m : Memory) (k a : ℕ) → n ≡ 0 → walk n m k a ≡ []
@@ -63,13 +66,4 @@ module _ (t : ℕ → Bool) (n : ℕ) (m : Memory) (k a : ℕ) where
   unfolding Queue.first
   first-on w b r c o e z ec h eb er = rw (walk-on n m k a w b o e z eb, ← ec, h, first) er
 
--- ---- a match
-pub fits-asks : (n f w : ℕ) (b c : Bool) → b ≡ asks n (upper w) → b ≡ true → c ≡ asks f (lower w) → c ≡ fits n f w
-unfolding Mail.fits
-fits-asks n f w b c eb h ec = rw (← eb, h) ec
-
-pub fits-not : (n f w : ℕ) (b : Bool) → b ≡ asks n (upper w) → b ≡ false → false ≡ fits n f w
-unfolding Mail.fits
-fits-not n f w b eb h = rw (← eb, h)
-
-pub ruleset walks = (cell-none, cell-here, cell-on, first-none, first-end, first-here, first-on, fits-asks, fits-not)
+pub ruleset walks = (cell-none, cell-here, cell-on, join-is, first-none, first-end, first-here, first-on)

@@ -6,11 +6,12 @@ use counts::length_of;
 use counts::less;
 use counts::lies;
 use counts::link_of;
+use mail::fits;
 use model::ControlPage;
+use model::Name;
 use model::instructions;
 use model::map;
 use model::wide;
-use queues::fits;
 use words::at;
 ghost use mathlib.Core.Path.{_≡_};
 ghost use Prim.Native.Nat.{_<_, _+_, _*_};
@@ -96,7 +97,7 @@ fn unasked(m: &[u8], p: ControlPage, q: ControlPage) -> bool
 {
     let w = p.word(m, map::REASON);
     let x = q.word(m, map::NOTE);
-    !fits(w / map::FIELD, w % map::FIELD, x)
+    !fits(Name(w / map::FIELD), w % map::FIELD, x)
 }
 
 fn message_semaphore(m: &[u8], p: ControlPage) -> bool

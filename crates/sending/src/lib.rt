@@ -1,4 +1,4 @@
-// Instructions: SME, WNM, RME and TME. len is what LR grows by.
+// Instructions: SME, WNM, RME and TME. The length is what LR grows by.
 use answers::done;
 use answers::fault;
 use answers::jump;
@@ -19,139 +19,139 @@ use model::faults;
 use model::map;
 use pages::give_back;
 use pages::take_page;
+use processors::page_of;
 use processors::running;
 use queues::leave;
-use queues::page_of;
 use words::at;
 use words::clear;
 use words::guarded;
 use words::wrapped;
 ghost use mathlib.Core.Path.{_≡_};
 ghost use Prim.Native.Nat.{_<_};
-ghost use lib.ListN.{length};
+ghost use lib.ListN as List;
 ghost use Rattle.model.specs.Answer.Outcome.{gives};
 ghost use Rattle.model.specs.Bytes as Model;
 
-// Page q is posted to processor n with flag f and l words of text behind a; where there is none, it comes back as a notice.
-fn post(m: &mut [u8], q: ControlPage, n: Name, f: u8, a: u16, l: u8)
-    requires { ⌜ (length (now m) ≡ 8192) × (n .0 < 16) × (f < 16) × (a < 8192) ⌝ }
-    ensures { λ _. ⌜ now (m .exit) ≡ Model.posted (now (m .entry)) (q .0) (n .0) f a l ⌝ }
+// The page is posted to the processor of that name, with the text of that size behind the address; where there is none, it comes back as a notice.
+fn post(m: &mut [u8], page: ControlPage, name: Name, flag: u8, address: u16, size: u8)
+    requires { ⌜ (List.length (now m) ≡ 8192) × (name .0 < 16) × (flag < 16) × (address < 8192) ⌝ }
+    ensures { λ _. ⌜ now (m .exit) ≡ Model.posted (now (m .entry)) (page .0) (name .0) flag address size ⌝ }
 {
-    let p = page_of(m, n);
+    let p = page_of(m, name);
     if p.0 == 0 {
         let r = running(m);
-        make_notice(m, q, n, f);
-        deliver(m, r, q);
+        make_notice(m, page, name, flag);
+        deliver(m, r, page);
         return;
     }
-    write_message(m, q, f, wrapped(a, 1), l);
-    deliver(m, p, q);
+    write_message(m, page, flag, wrapped(address, 1), size);
+    deliver(m, p, page);
 }
 
 // A page is taken and posted; with none, the runner waits for one.
-fn send(m: &mut [u8], n: Name, f: u8, a: u16, l: u8, len: u16) -> Answer
-    requires { ⌜ (length (now m) ≡ 8192) × (n .0 < 16) × (f < 16) × (a < 8192) × (len < 8192) ⌝ }
-    ensures { λ r. ⌜ gives r (now (m .exit)) ≡ Model.sent (now (m .entry)) (n .0) f a l len ⌝ }
+fn send(m: &mut [u8], name: Name, flag: u8, address: u16, size: u8, length: u16) -> Answer
+    requires { ⌜ (List.length (now m) ≡ 8192) × (name .0 < 16) × (flag < 16) × (address < 8192) × (length < 8192) ⌝ }
+    ensures { λ r. ⌜ gives r (now (m .exit)) ≡ Model.sent (now (m .entry)) (name .0) flag address size length ⌝ }
 {
     let r = running(m);
     let q = take_page(m, r);
     if q.0 == 0 {
         return wait_for_page(m);
     }
-    post(m, q, n, f, a, l);
-    done(m, len)
+    post(m, q, name, flag, address, size);
+    done(m, length)
 }
 
-fn sme_text(m: &mut [u8], n: Name, f: u8, a: u16, len: u16) -> Answer
-    requires { ⌜ (length (now m) ≡ 8192) × (n .0 < 16) × (f < 16) × (a < 8192) × (len < 8192) ⌝ }
-    ensures { λ r. ⌜ gives r (now (m .exit)) ≡ Model.smeText (now (m .entry)) (n .0) f a len ⌝ }
+fn sme_text(m: &mut [u8], name: Name, flag: u8, address: u16, length: u16) -> Answer
+    requires { ⌜ (List.length (now m) ≡ 8192) × (name .0 < 16) × (flag < 16) × (address < 8192) × (length < 8192) ⌝ }
+    ensures { λ r. ⌜ gives r (now (m .exit)) ≡ Model.smeText (now (m .entry)) (name .0) flag address length ⌝ }
 {
-    let l = at(m, a);
-    if map::LONGEST < l {
+    let size = at(m, address);
+    if map::LONGEST < size {
         return fault(m, faults::BAD_ARGUMENT);
     }
-    let b = wrapped(a, 1);
-    if clear(l, b) {
-        return send(m, n, f, a, l, len);
+    let b = wrapped(address, 1);
+    if clear(size, b) {
+        return send(m, name, flag, address, size, length);
     }
     fault(m, faults::PROTECTED)
 }
 
-pub fn sme(m: &mut [u8], n: Name, f: u8, a: u16, len: u16) -> Answer
-    requires { ⌜ (length (now m) ≡ 8192) × (n .0 < 16) × (f < 16) × (a < 8192) × (len < 8192) ⌝ }
-    ensures { λ r. ⌜ gives r (now (m .exit)) ≡ Model.sme (now (m .entry)) (n .0) f a len ⌝ }
+pub fn sme(m: &mut [u8], name: Name, flag: u8, address: u16, length: u16) -> Answer
+    requires { ⌜ (List.length (now m) ≡ 8192) × (name .0 < 16) × (flag < 16) × (address < 8192) × (length < 8192) ⌝ }
+    ensures { λ r. ⌜ gives r (now (m .exit)) ≡ Model.sme (now (m .entry)) (name .0) flag address length ⌝ }
 {
-    if n.0 == 0 {
+    if name.0 == 0 {
         return fault(m, faults::BAD_ARGUMENT);
     }
-    if f == 0 {
+    if flag == 0 {
         return fault(m, faults::BAD_ARGUMENT);
     }
-    if guarded(a) {
+    if guarded(address) {
         return fault(m, faults::PROTECTED);
     }
-    sme_text(m, n, f, a, len)
+    sme_text(m, name, flag, address, length)
 }
 
-pub fn wnm(m: &mut [u8], n: Name, f: u8, len: u16) -> Answer
-    requires { ⌜ (length (now m) ≡ 8192) × (n .0 < 16) × (f < 16) × (len < 8192) ⌝ }
-    ensures { λ r. ⌜ gives r (now (m .exit)) ≡ Model.wnm (now (m .entry)) (n .0) f len ⌝ }
+pub fn wnm(m: &mut [u8], name: Name, flag: u8, length: u16) -> Answer
+    requires { ⌜ (List.length (now m) ≡ 8192) × (name .0 < 16) × (flag < 16) × (length < 8192) ⌝ }
+    ensures { λ r. ⌜ gives r (now (m .exit)) ≡ Model.wnm (now (m .entry)) (name .0) flag length ⌝ }
 {
     let r = running(m);
-    let q = in_q1(m, n, f);
+    let q = in_q1(m, name, flag);
     if q.0 == 0 {
-        let a = n.0;
-        return wait(m, r.place(map::OWN_SEMAPHORE), a * map::FIELD + f);
+        let asked = name.0;
+        return wait(m, r.place(map::OWN_SEMAPHORE), asked * map::FIELD + flag);
     }
     move_message(m, r, q);
-    done(m, len)
+    done(m, length)
 }
 
-// Message q is read: copied out to a on, unlinked, its page given back.
-fn receive(m: &mut [u8], q: ControlPage, a: u16)
-    requires { ⌜ (length (now m) ≡ 8192) × (a < 8192) ⌝ }
-    ensures { λ _. ⌜ now (m .exit) ≡ Model.received (now (m .entry)) (q .0) a ⌝ }
+// The message is read: copied out, unlinked, its page given back.
+fn receive(m: &mut [u8], message: ControlPage, address: u16)
+    requires { ⌜ (List.length (now m) ≡ 8192) × (address < 8192) ⌝ }
+    ensures { λ _. ⌜ now (m .exit) ≡ Model.received (now (m .entry)) (message .0) address ⌝ }
 {
     let r = running(m);
-    copy_out(m, q, a);
-    leave(m, r.place(map::Q2), map::LINK, q);
-    give_back(m, q);
+    copy_out(m, message, address);
+    leave(m, r.place(map::Q2), map::LINK, message);
+    give_back(m, message);
 }
 
-pub fn rme(m: &mut [u8], n: Name, f: u8, a: u16, len: u16) -> Answer
-    requires { ⌜ (length (now m) ≡ 8192) × (a < 8192) × (len < 8192) ⌝ }
-    ensures { λ r. ⌜ gives r (now (m .exit)) ≡ Model.rme (now (m .entry)) (n .0) f a len ⌝ }
+pub fn rme(m: &mut [u8], name: Name, flag: u8, address: u16, length: u16) -> Answer
+    requires { ⌜ (List.length (now m) ≡ 8192) × (address < 8192) × (length < 8192) ⌝ }
+    ensures { λ r. ⌜ gives r (now (m .exit)) ≡ Model.rme (now (m .entry)) (name .0) flag address length ⌝ }
 {
-    let q = in_q2(m, n, f);
-    if q.0 == 0 {
+    let message = in_q2(m, name, flag);
+    if message.0 == 0 {
         return fault(m, faults::NO_MATCH);
     }
-    let l = q.word(m, map::SIZE);
-    if clear(map::HEAD_WORDS + l % map::NOTICE, a) {
-        receive(m, q, a);
-        return done(m, len);
+    let size = message.word(m, map::SIZE);
+    if clear(map::HEAD_WORDS + size % map::NOTICE, address) {
+        receive(m, message, address);
+        return done(m, length);
     }
     fault(m, faults::PROTECTED)
 }
 
-fn tme_q1(m: &mut [u8], n: Name, f: u8, a: u16, len: u16) -> Answer
-    requires { ⌜ (length (now m) ≡ 8192) × (len < 8192) ⌝ }
-    ensures { λ r. ⌜ gives r (now (m .exit)) ≡ Model.tmeQ1 (now (m .entry)) (n .0) f a len ⌝ }
+fn tme_q1(m: &mut [u8], name: Name, flag: u8, address: u16, length: u16) -> Answer
+    requires { ⌜ (List.length (now m) ≡ 8192) × (length < 8192) ⌝ }
+    ensures { λ r. ⌜ gives r (now (m .exit)) ≡ Model.tmeQ1 (now (m .entry)) (name .0) flag address length ⌝ }
 {
     let r = running(m);
-    if test_q1(m, r, n, f, map::CONTROL_PAGES) {
-        return jump(m, a);
+    if test_q1(m, r, name, flag, map::CONTROL_PAGES) {
+        return jump(m, address);
     }
-    done(m, len)
+    done(m, length)
 }
 
-pub fn tme(m: &mut [u8], n: Name, f: u8, a: u16, len: u16) -> Answer
-    requires { ⌜ (length (now m) ≡ 8192) × (len < 8192) ⌝ }
-    ensures { λ r. ⌜ gives r (now (m .exit)) ≡ Model.tme (now (m .entry)) (n .0) f a len ⌝ }
+pub fn tme(m: &mut [u8], name: Name, flag: u8, address: u16, length: u16) -> Answer
+    requires { ⌜ (List.length (now m) ≡ 8192) × (length < 8192) ⌝ }
+    ensures { λ r. ⌜ gives r (now (m .exit)) ≡ Model.tme (now (m .entry)) (name .0) flag address length ⌝ }
 {
-    let q = in_q2(m, n, f);
+    let q = in_q2(m, name, flag);
     if q.0 == 0 {
-        return tme_q1(m, n, f, a, len);
+        return tme_q1(m, name, flag, address, length);
     }
-    jump(m, a)
+    jump(m, address)
 }

@@ -3,7 +3,7 @@ use Prim.Native.Nat.{ℕ, zero, suc, _+_, _-_, _≤_, _<_}
 use mathlib.Core.Path.{_≡_, refl, _∙_}
 use mathlib.Core.List.{List}
 use lib.Dec.{ltb}
-use lib.ListN.{getD}
+use lib.ListN.{getD, set, replicate}
 use borrow.Author.Tests.{lt-ltb, le-ltb}
 use native.Mathlib.Numerals.{sub-one}
 use native.Mathlib.Omega.{arith}
@@ -11,8 +11,10 @@ use Rattle.model.specs.declared.Context.{Context}
 use Rattle.model.specs.Map.{place, zeroPlace, keeps, keptCount}
 use Rattle.model.specs.Turn as Turn
 use Rattle.model.specs.Turn.{fold}
-use Rattle.model.specs.Bytes.{Memory, running, processors, chosen, at, store, write, walk, priority, stays, better, contextOf}
+use Rattle.model.specs.Bytes.{Memory, running, processors, chosen, at, word, store, write, walk, priority, stays, better, contextOf}
 use Rattle.model.specs.Bytes.{savedOf, onPage0, keptOn, kept, restored, save, load, runs, handBack}
+use Rattle.turn.specs.Words as Words
+use Rattle.turn.specs.Words.{readZero, readKept}
 use Rattle.queues.proofs.Laws.{walk-none, walk-end, walk-on}
 use Rattle.processors.proofs.Records.{Bytes, back-same}
 
@@ -44,6 +46,37 @@ zero-first i h = rw (lt-ltb i 3 h)
 
 pub zero-later : (i : ℕ) → 3 ≤ i → 13 + i ≡ zeroPlace i
 zero-later i h = rw (le-ltb i 3 h)
+
+pub zero-none : (n : ℕ) (m : Memory) (w : List ℕ) → n ≡ 0 → w ≡ readZero n m w
+unfolding Words.readZero
+zero-none zero m w e = refl
+zero-none (suc n) m w e = absurd (omega arith)
+
+pub zero-on : (n a v : ℕ) (m : Memory) (w u r : List ℕ) → (n ≡ 0 → ⊥) → a ≡ zeroPlace (n - 1) → v ≡ at m a → u ≡ set w (n - 1) v → r ≡ readZero (n - 1) m u
+    → r ≡ readZero n m w
+unfolding Words.readZero
+zero-on zero a v m w u r o ea ev eu er = absurd (o refl)
+zero-on (suc n) a v m w u r o ea ev eu er =
+    rw (← (simp sub-one at ea), ← ev, ← (simp sub-one at eu)) (simp sub-one at er)
+
+pub zero-read : (m : Memory) (r : List ℕ) → r ≡ readZero keptCount m (replicate keptCount 0) → r ≡ onPage0 m
+unfolding Words.readZero Turn.onPage0
+zero-read m r e = e
+
+pub keeping-none : (n : ℕ) (m : Memory) (p : ℕ) (w : List ℕ) → n ≡ 0 → w ≡ readKept n m p w
+unfolding Words.readKept
+keeping-none zero m p w e = refl
+keeping-none (suc n) m p w e = absurd (omega arith)
+
+pub keeping-on : (n v : ℕ) (m : Memory) (p : ℕ) (w u r : List ℕ) → (n ≡ 0 → ⊥) → v ≡ word m p (keeps (n - 1)) → u ≡ set w (n - 1) v
+    → r ≡ readKept (n - 1) m p u → r ≡ readKept n m p w
+unfolding Words.readKept
+keeping-on zero v m p w u r o ev eu er = absurd (o refl)
+keeping-on (suc n) v m p w u r o ev eu er = rw (← (simp sub-one at ev), ← (simp sub-one at eu)) (simp sub-one at er)
+
+pub keeping-read : (m : Memory) (p : ℕ) (r : List ℕ) → r ≡ readKept keptCount m p (replicate keptCount 0) → r ≡ keptOn m p
+unfolding Words.readKept Turn.keptOn
+keeping-read m p r e = e
 
 pub kept-none : (n : ℕ) (m : Memory) (p : ℕ) (w : List ℕ) → n ≡ 0 → m ≡ kept n m p w
 unfolding Turn.kept
@@ -98,3 +131,5 @@ pub ruleset turns = (
   load-is,
   switch-is,
 )
+
+pub ruleset reads = (zero-none, zero-on, zero-read, keeping-none, keeping-on, keeping-read)

@@ -3,6 +3,8 @@ use model::Context;
 use model::ControlPage;
 use model::Registers;
 use model::map;
+use processors::priority;
+use processors::ready;
 use processors::running;
 use words::at;
 use words::write;
@@ -10,77 +12,64 @@ ghost use mathlib.Core.Path.{_≡_};
 ghost use mathlib.Core.Bool.{cond};
 ghost use Prim.Native.Nat.{_<_, _≤_};
 ghost use lib.Dec.{eqb};
-ghost use lib.ListN.{length};
+ghost use lib.ListN.{length, set};
 ghost use Rattle.model.specs.Map as Map;
 ghost use Rattle.model.specs.Turn as Turn;
 ghost use Rattle.model.specs.Bytes as Model;
-
-fn priority(m: &[u8], p: ControlPage) -> u8
-    requires { ⌜ length (now m) ≡ 8192 ⌝ }
-    ensures { λ r. ⌜ r ≡ Model.priority (now (m .entry)) (p .0) ⌝ }
-{
-    p.word(m, map::LABEL) / map::FIELD
-}
-
-fn ready(m: &[u8], p: ControlPage) -> bool
-    requires { ⌜ length (now m) ≡ 8192 ⌝ }
-    ensures { λ r. ⌜ r ≡ Model.ready (now (m .entry)) (p .0) ⌝ }
-{
-    p.word(m, map::STATE) < map::WAIT_BIT
-}
+ghost use Rattle.turn.specs.Words.{readZero, readKept};
 
 // The running one if it is ready, else page 0.
-fn stays(m: &[u8], r: ControlPage) -> ControlPage
+fn stays(m: &[u8], page: ControlPage) -> ControlPage
     requires { ⌜ length (now m) ≡ 8192 ⌝ }
-    ensures { λ q. ⌜ q .0 ≡ Model.stays (now (m .entry)) (r .0) ⌝ }
+    ensures { λ q. ⌜ q .0 ≡ Model.stays (now (m .entry)) (page .0) ⌝ }
 {
-    if r.0 == 0 {
+    if page.0 == 0 {
         return ControlPage(0);
     }
-    if ready(m, r) {
-        return r;
+    if ready(m, page) {
+        return page;
     }
     ControlPage(0)
 }
 
-// Whether p's priority is above b's; page 0 is below all.
-fn above(m: &[u8], b: ControlPage, p: ControlPage) -> bool
+// Whether its priority is above the leader's; page 0 is below all.
+fn above(m: &[u8], leader: ControlPage, page: ControlPage) -> bool
     requires { ⌜ length (now m) ≡ 8192 ⌝ }
-    ensures { λ r. ⌜ r ≡ Model.above (now (m .entry)) (b .0) (p .0) ⌝ }
+    ensures { λ r. ⌜ r ≡ Model.above (now (m .entry)) (leader .0) (page .0) ⌝ }
 {
-    if b.0 == 0 {
+    if leader.0 == 0 {
         return true;
     }
-    priority(m, b) < priority(m, p)
+    priority(m, leader) < priority(m, page)
 }
 
-// p if it is ready and above b, else b.
-fn better(m: &[u8], b: ControlPage, p: ControlPage) -> ControlPage
+// The page if it is ready and above the leader, else that.
+fn better(m: &[u8], leader: ControlPage, page: ControlPage) -> ControlPage
     requires { ⌜ length (now m) ≡ 8192 ⌝ }
-    ensures { λ r. ⌜ r .0 ≡ Model.better (now (m .entry)) (b .0) (p .0) ⌝ }
+    ensures { λ r. ⌜ r .0 ≡ Model.better (now (m .entry)) (leader .0) (page .0) ⌝ }
 {
-    if ready(m, p) {
-        if above(m, b, p) {
-            return p;
+    if ready(m, page) {
+        if above(m, leader, page) {
+            return page;
         }
-        return b;
+        return leader;
     }
-    b
+    leader
 }
 
-// The best of b and those that hang from the cell at a along the processor list.
-fn best(m: &[u8], b: ControlPage, a: u16, left: u8) -> ControlPage
-    requires { ⌜ (length (now m) ≡ 8192) × (a < 8192) ⌝ }
-    ensures { λ r. ⌜ r .0 ≡ Turn.fold (Model.better (now (m .entry))) (b .0) (Model.walk left (now (m .entry)) Map.listLink a) ⌝ }
+// The best of the leader and those that hang from the cell along the processor list.
+fn best(m: &[u8], leader: ControlPage, cell: u16, left: u8) -> ControlPage
+    requires { ⌜ (length (now m) ≡ 8192) × (cell < 8192) ⌝ }
+    ensures { λ r. ⌜ r .0 ≡ Turn.fold (Model.better (now (m .entry))) (leader .0) (Model.walk left (now (m .entry)) Map.listLink cell) ⌝ }
 {
     if left == 0 {
-        return b;
+        return leader;
     }
-    let w = at(m, a);
+    let w = at(m, cell);
     if w == 0 {
-        return b;
+        return leader;
     }
-    let c = better(m, b, ControlPage(w));
+    let c = better(m, leader, ControlPage(w));
     best(m, c, ControlPage(w).place(map::LIST_LINK), left - 1)
 }
 
@@ -94,165 +83,165 @@ fn chosen(m: &[u8]) -> ControlPage
     best(m, s, map::PROCESSOR_LIST, map::CONTROL_PAGES)
 }
 
-// The nineteen words on page 0, and those that page p keeps.
+// Where one of the nineteen words stands on page 0.
+fn zero_place(index: u16) -> u16
+    requires { ⌜ index < 19 ⌝ }
+    ensures { λ r. ⌜ (r ≡ Map.zeroPlace index) × (r < 8192) ⌝ }
+{
+    if index < map::EARLY_COUNT {
+        return map::EARLY_WORDS + index;
+    }
+    map::LATER_WORDS + index
+}
+
+// The value becomes one of the nineteen words.
+fn with_word(words: [u8; map::KEPT_WORDS], index: u16, value: u8) -> [u8; map::KEPT_WORDS]
+    requires { ⌜ index < 19 ⌝ }
+    ensures { λ r. ⌜ r ≡ set words index value ⌝ }
+{
+    let mut more = words;
+    let i = index as usize;
+    more[i] = value;
+    more
+}
+
+// So many of the words, from the first on, as they stand on page 0, on the page.
+fn read_zero(m: &[u8], words: [u8; map::KEPT_WORDS], count: u16) -> [u8; map::KEPT_WORDS]
+    requires { ⌜ (length (now m) ≡ 8192) × (count ≤ 19) ⌝ }
+    ensures { λ r. ⌜ r ≡ readZero count (now (m .entry)) words ⌝ }
+{
+    if count == 0 {
+        return words;
+    }
+    let i = count - 1;
+    let v = at(m, zero_place(i));
+    read_zero(m, with_word(words, i, v), i)
+}
+
+fn read_kept(
+    m: &[u8],
+    page: ControlPage,
+    words: [u8; map::KEPT_WORDS],
+    count: u16,
+) -> [u8; map::KEPT_WORDS]
+    requires { ⌜ (length (now m) ≡ 8192) × (count ≤ 19) ⌝ }
+    ensures { λ r. ⌜ r ≡ readKept count (now (m .entry)) (page .0) words ⌝ }
+{
+    if count == 0 {
+        return words;
+    }
+    let i = count - 1;
+    let v = page.word(m, map::KEEPS + i);
+    read_kept(m, page, with_word(words, i, v), i)
+}
+
+// The nineteen words on page 0, and those that a page keeps.
 fn on_page0(m: &[u8]) -> [u8; map::KEPT_WORDS]
     requires { ⌜ length (now m) ≡ 8192 ⌝ }
     ensures { λ r. ⌜ r ≡ Model.onPage0 (now (m .entry)) ⌝ }
 {
-    [
-        m[4],
-        m[5],
-        m[6],
-        m[16],
-        m[17],
-        m[18],
-        m[19],
-        m[20],
-        m[21],
-        m[22],
-        m[23],
-        m[24],
-        m[25],
-        m[26],
-        m[27],
-        m[28],
-        m[29],
-        m[30],
-        m[31],
-    ]
+    read_zero(m, [0; map::KEPT_WORDS], map::KEPT_COUNT)
 }
 
-fn kept_on(m: &[u8], p: ControlPage) -> [u8; map::KEPT_WORDS]
+fn kept_on(m: &[u8], page: ControlPage) -> [u8; map::KEPT_WORDS]
     requires { ⌜ length (now m) ≡ 8192 ⌝ }
-    ensures { λ r. ⌜ r ≡ Model.keptOn (now (m .entry)) (p .0) ⌝ }
+    ensures { λ r. ⌜ r ≡ Model.keptOn (now (m .entry)) (page .0) ⌝ }
 {
-    let n = p.0;
-    let b = (n as usize) * map::PAGE_WORDS;
-    [
-        m[b + 13],
-        m[b + 14],
-        m[b + 15],
-        m[b + 16],
-        m[b + 17],
-        m[b + 18],
-        m[b + 19],
-        m[b + 20],
-        m[b + 21],
-        m[b + 22],
-        m[b + 23],
-        m[b + 24],
-        m[b + 25],
-        m[b + 26],
-        m[b + 27],
-        m[b + 28],
-        m[b + 29],
-        m[b + 30],
-        m[b + 31],
-    ]
+    read_kept(m, page, [0; map::KEPT_WORDS], map::KEPT_COUNT)
 }
 
-// The context of the processor of page p, while it runs and while another runs.
-pub fn context_of(m: &[u8], p: ControlPage) -> Context
+// The context of the processor of a page, while it runs and while another runs.
+pub fn context_of(m: &[u8], page: ControlPage) -> Context
     requires { ⌜ length (now m) ≡ 8192 ⌝ }
-    ensures { λ r. ⌜ r ≡ Model.contextOf (now (m .entry)) (p .0) ⌝ }
+    ensures { λ r. ⌜ r ≡ Model.contextOf (now (m .entry)) (page .0) ⌝ }
 {
-    let registers = Registers::of(m, p);
+    let registers = Registers::of(m, page);
     let words = on_page0(m);
     Context { registers, words }
 }
 
-pub fn saved_of(m: &[u8], p: ControlPage) -> Context
+pub fn saved_of(m: &[u8], page: ControlPage) -> Context
     requires { ⌜ length (now m) ≡ 8192 ⌝ }
-    ensures { λ r. ⌜ r ≡ Model.savedOf (now (m .entry)) (p .0) ⌝ }
+    ensures { λ r. ⌜ r ≡ Model.savedOf (now (m .entry)) (page .0) ⌝ }
 {
-    let registers = Registers::of(m, p);
-    let words = kept_on(m, p);
+    let registers = Registers::of(m, page);
+    let words = kept_on(m, page);
     Context { registers, words }
 }
 
-// The first n of the words go to page p, to page 0.
-fn keep(m: &mut [u8], p: ControlPage, w: [u8; map::KEPT_WORDS], n: u16)
-    requires { ⌜ (length (now m) ≡ 8192) × (n ≤ 19) ⌝ }
-    ensures { λ _. ⌜ now (m .exit) ≡ Model.kept n (now (m .entry)) (p .0) w ⌝ }
+// So many of the words, from the first on, go to the page, to page 0.
+fn keep(m: &mut [u8], page: ControlPage, words: [u8; map::KEPT_WORDS], count: u16)
+    requires { ⌜ (length (now m) ≡ 8192) × (count ≤ 19) ⌝ }
+    ensures { λ _. ⌜ now (m .exit) ≡ Model.kept count (now (m .entry)) (page .0) words ⌝ }
 {
-    if n == 0 {
+    if count == 0 {
         return;
     }
-    let i = n - 1;
-    p.store(m, map::KEEPS + i, w[i as usize]);
-    keep(m, p, w, i);
+    let i = count - 1;
+    page.store(m, map::KEEPS + i, words[i as usize]);
+    keep(m, page, words, i);
 }
 
-fn zero_place(i: u16) -> u16
-    requires { ⌜ i < 19 ⌝ }
-    ensures { λ r. ⌜ (r ≡ Map.zeroPlace i) × (r < 8192) ⌝ }
+fn restore(m: &mut [u8], words: [u8; map::KEPT_WORDS], count: u16)
+    requires { ⌜ (length (now m) ≡ 8192) × (count ≤ 19) ⌝ }
+    ensures { λ _. ⌜ now (m .exit) ≡ Model.restored count (now (m .entry)) words ⌝ }
 {
-    if i < 3 {
-        return 4 + i;
-    }
-    13 + i
-}
-
-fn restore(m: &mut [u8], w: [u8; map::KEPT_WORDS], n: u16)
-    requires { ⌜ (length (now m) ≡ 8192) × (n ≤ 19) ⌝ }
-    ensures { λ _. ⌜ now (m .exit) ≡ Model.restored n (now (m .entry)) w ⌝ }
-{
-    if n == 0 {
+    if count == 0 {
         return;
     }
-    let i = n - 1;
+    let i = count - 1;
     let a = zero_place(i);
-    write(m, a, w[i as usize]);
-    restore(m, w, i);
+    write(m, a, words[i as usize]);
+    restore(m, words, i);
 }
 
-// Page 0's words are saved to page p, are loaded from it.
-fn save(m: &mut [u8], p: ControlPage)
+// A context is taken and put back whole: page 0's words are saved to the page, are loaded from it, and its registers go back to it.
+fn save(m: &mut [u8], page: ControlPage)
     requires { ⌜ length (now m) ≡ 8192 ⌝ }
-    ensures { λ _. ⌜ now (m .exit) ≡ Model.save (now (m .entry)) (p .0) ⌝ }
+    ensures { λ _. ⌜ now (m .exit) ≡ Model.save (now (m .entry)) (page .0) ⌝ }
 {
-    if p.0 == 0 {
+    if page.0 == 0 {
         return;
     }
-    let c = context_of(m, p);
+    let c = context_of(m, page);
     let r = c.registers;
-    let w = c.words;
-    r.hand_back(m, p);
-    keep(m, p, w, map::KEPT_COUNT);
+    let words = c.words;
+    r.hand_back(m, page);
+    keep(m, page, words, map::KEPT_COUNT);
 }
 
-fn load(m: &mut [u8], p: ControlPage)
+fn load(m: &mut [u8], page: ControlPage)
     requires { ⌜ length (now m) ≡ 8192 ⌝ }
-    ensures { λ _. ⌜ now (m .exit) ≡ Model.load (now (m .entry)) (p .0) ⌝ }
+    ensures { λ _. ⌜ now (m .exit) ≡ Model.load (now (m .entry)) (page .0) ⌝ }
 {
-    if p.0 == 0 {
+    if page.0 == 0 {
         return;
     }
-    let c = saved_of(m, p);
+    let c = saved_of(m, page);
     let r = c.registers;
-    let w = c.words;
-    r.hand_back(m, p);
-    restore(m, w, map::KEPT_COUNT);
+    let words = c.words;
+    r.hand_back(m, page);
+    restore(m, words, map::KEPT_COUNT);
 }
 
-// The priority and name of page p; of page 0, 0.
-fn label(m: &[u8], p: ControlPage) -> u8
+// The priority and name of a page; of page 0, 0.
+fn label(m: &[u8], page: ControlPage) -> u8
     requires { ⌜ length (now m) ≡ 8192 ⌝ }
-    ensures { λ r. ⌜ r ≡ cond (eqb (p .0) 0) 0 (Model.word (now (m .entry)) (p .0) Map.label) ⌝ }
+    ensures { λ r. ⌜ r ≡ cond (eqb (page .0) 0) 0 (Model.word (now (m .entry)) (page .0) Map.label) ⌝ }
 {
-    if p.0 == 0 {
+    if page.0 == 0 {
         return 0;
     }
-    p.word(m, map::LABEL)
+    page.word(m, map::LABEL)
 }
 
-// Page p runs; page 0: nobody.
-pub fn runs(m: &mut [u8], p: ControlPage)
+// The page runs; page 0: nobody.
+pub fn runs(m: &mut [u8], page: ControlPage)
     requires { ⌜ length (now m) ≡ 8192 ⌝ }
-    ensures { λ _. ⌜ now (m .exit) ≡ Model.runs (now (m .entry)) (p .0) ⌝ }
+    ensures { λ _. ⌜ now (m .exit) ≡ Model.runs (now (m .entry)) (page .0) ⌝ }
 {
-    let w = label(m, p);
-    write(m, map::RUNNING_PAGE, p.0);
+    let w = label(m, page);
+    write(m, map::RUNNING_PAGE, page.0);
     write(m, map::RUNNING_LABEL, w);
 }
 

@@ -1,5 +1,5 @@
 use borrow.Author.Needs.{needs}
-use Rattle.codes.proofs.Laws.{codes}
+use Rattle.codes.proofs.Laws.{add-is}
 use Rattle.codes.proofs.add.Statement.{statement}
 use Rattle.codes.proofs.add.Tie as tie
 
@@ -9,4 +9,4 @@ add-spec = tie.close (tie.spec
     (λ c κs. search needs)
     (λ c κs. search needs)
     (λ c. search needs)
-    (λ c. search (needs, codes)))
+    (λ c. search add-is))

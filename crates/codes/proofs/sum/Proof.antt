@@ -1,5 +1,5 @@
 use borrow.Author.Needs.{needs}
-use Rattle.codes.proofs.Laws.{codes}
+use Rattle.codes.proofs.Laws.{sum-is}
 use Rattle.codes.proofs.sum.Statement.{statement}
 use Rattle.codes.proofs.sum.Tie as tie
 
@@ -11,4 +11,4 @@ sum-spec = tie.close (tie.spec
     (λ c. search needs)
     (λ c κs. search needs)
     (λ c κs. search needs)
-    (λ c. search (needs, codes)))
+    (λ c. search sum-is))

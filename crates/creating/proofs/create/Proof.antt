@@ -1,5 +1,5 @@
 use borrow.Author.Needs.{needs}
-use Rattle.creating.proofs.Laws.{creates}
+use Rattle.creating.proofs.Laws.{created-is}
 use Rattle.creating.proofs.create.Statement.{statement}
 use Rattle.creating.proofs.create.Tie as tie
 
@@ -10,4 +10,4 @@ create-spec = tie.close (tie.spec
     (λ c κs. search needs)
     (λ c κs. search needs)
     (λ c. search needs)
-    (λ c. search (needs, creates)))
+    (λ c. search created-is))

@@ -1,5 +1,5 @@
 use borrow.Author.Needs.{needs}
-use Rattle.execute.proofs.Laws.{executing}
+use Rattle.execute.proofs.Laws.{fetched-guarded, fetched-coded, fetched-refused}
 use Rattle.execute.proofs.fetched.Statement.{statement}
 use Rattle.execute.proofs.fetched.Tie as tie
 
@@ -8,10 +8,10 @@ fetched-spec = tie.close (tie.spec
     (λ c κs. search needs)
     (λ c κs. search needs)
     (λ c. search needs)
-    (λ c. search (needs, executing))
+    (λ c. search (fetched-guarded, fetched-coded, fetched-refused))
     (λ c κs. search needs)
     (λ c κs. search needs)
     (λ c. search needs)
-    (λ c. search (needs, executing))
+    (λ c. search (fetched-guarded, fetched-coded, fetched-refused))
     (λ c. search needs)
-    (λ c. search (needs, executing)))
+    (λ c. search (fetched-guarded, fetched-coded, fetched-refused)))

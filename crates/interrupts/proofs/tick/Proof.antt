@@ -1,16 +1,13 @@
 use borrow.Author.Needs.{needs}
-use Rattle.model.specs.Interrupt as Interrupt
-use Rattle.interrupts.proofs.Laws.{interrupts}
+use Rattle.interrupts.proofs.Laws.{ends-yes, ends-no, turns-is, counts-is}
 use Rattle.interrupts.proofs.tick.Statement.{statement}
 use Rattle.interrupts.proofs.tick.Tie as tie
 
 returns : tie.Need-returns
-unfolding Interrupt.turns
-returns c = (search (needs, interrupts), cc)
+returns c = (search ends-yes, search turns-is)
 
 returns-2 : tie.Need-returns-2
-unfolding Interrupt.counts
-returns-2 c = (search (needs, interrupts), cc)
+returns-2 c = (search ends-no, search counts-is)
 
 pub tick-spec : {M : Type 1} → statement M
 tick-spec = tie.close (tie.spec

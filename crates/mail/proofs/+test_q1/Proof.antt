@@ -7,7 +7,7 @@ use Rattle.mail.proofs.test_q1.Kinds as kinds
 use Rattle.mail.proofs.+test_q1.Lts-test_q1 as lts
 use Rattle.mail.proofs.move_message.Reads as move-message-reads
 use Rattle.model.proofs.ControlPage.word.Reads as word-reads
-use Rattle.queues.proofs.matches.Reads as matches-reads
+use Rattle.mail.proofs.matches.Reads as matches-reads
 use Rattle.mail.proofs.+test_q1.{statement}
 use Rattle.mail.proofs.+test_q1.Tie.{close}
 

@@ -1,5 +1,5 @@
 use borrow.Author.Needs.{needs}
-use Rattle.processors.proofs.Laws.{waiting}
+use Rattle.processors.proofs.Laws.{wake-is}
 use Rattle.processors.proofs.wake.Statement.{statement}
 use Rattle.processors.proofs.wake.Tie as tie
 
@@ -12,4 +12,4 @@ wake-spec = tie.close (tie.spec
     (λ c κs. search needs)
     (λ c κs. search needs)
     (λ c. search needs)
-    (λ c. search (needs, waiting)))
+    (λ c. search wake-is))

@@ -1,5 +1,5 @@
 use borrow.Author.Needs.{needs}
-use Rattle.sending.proofs.Laws.{sends}
+use Rattle.sending.proofs.Laws.{received-is}
 use Rattle.sending.proofs.receive.Statement.{statement}
 use Rattle.sending.proofs.receive.Tie as tie
 
@@ -11,4 +11,4 @@ receive-spec = tie.close (tie.spec
     (λ c κs. search needs)
     (λ c κs. search needs)
     (λ c. search needs)
-    (λ c. search (needs, sends)))
+    (λ c. search received-is))

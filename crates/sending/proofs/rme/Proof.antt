@@ -1,5 +1,5 @@
 use borrow.Author.Needs.{needs}
-use Rattle.sending.proofs.Laws.{sends}
+use Rattle.sending.proofs.Laws.{rme-none, rme-done, rme-guarded}
 use Rattle.sending.proofs.rme.Statement.{statement}
 use Rattle.sending.proofs.rme.Tie as tie
 
@@ -8,14 +8,14 @@ rme-spec = tie.close (tie.spec
     (λ c κs. search needs)
     (λ c κs. search needs)
     (λ c. search needs)
-    (λ c. search (needs, sends))
+    (λ c. search (rme-none, rme-done, rme-guarded))
     (λ c κs. search needs)
     (λ c. search needs)
     (λ c κs. search needs)
     (λ c κs. search needs)
     (λ c κs. search needs)
     (λ c. search needs)
-    (λ c. search (needs, sends))
+    (λ c. search (rme-none, rme-done, rme-guarded))
     (λ c κs. search needs)
     (λ c. search needs)
-    (λ c. search (needs, sends)))
+    (λ c. search (rme-none, rme-done, rme-guarded)))

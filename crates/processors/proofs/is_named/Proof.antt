@@ -1,7 +1,7 @@
 use borrow.Author.Needs.{needs}
 use Rattle.model.specs.Processor as Processor
-use Rattle.queues.proofs.is_named.Statement.{statement}
-use Rattle.queues.proofs.is_named.Tie as tie
+use Rattle.processors.proofs.is_named.Statement.{statement}
+use Rattle.processors.proofs.is_named.Tie as tie
 
 returns : tie.Need-returns
 unfolding Processor.isNamed

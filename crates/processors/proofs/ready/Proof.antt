@@ -1,6 +1,6 @@
 use borrow.Author.Needs.{needs}
-use Rattle.turn.proofs.ready.Statement.{statement}
-use Rattle.turn.proofs.ready.Tie as tie
+use Rattle.processors.proofs.ready.Statement.{statement}
+use Rattle.processors.proofs.ready.Tie as tie
 
 returns : tie.Need-returns
 returns c = cc

@@ -1,7 +1,7 @@
 use borrow.Author.Needs.{needs}
 use Rattle.model.specs.Mail as Mail
-use Rattle.queues.proofs.matches.Statement.{statement}
-use Rattle.queues.proofs.matches.Tie as tie
+use Rattle.mail.proofs.matches.Statement.{statement}
+use Rattle.mail.proofs.matches.Tie as tie
 
 returns : tie.Need-returns
 unfolding Mail.matches

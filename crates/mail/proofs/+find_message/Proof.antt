@@ -1,15 +1,15 @@
 use borrow.Author.Needs.{needs}
 use Rattle.queues.proofs.Laws.{walks}
 use Prim.Native.Nat.{ℕ, _<_, _+_}
 use borrow.Fn.PlainCycle.{Measures, is, falls, and}
-use Rattle.queues.proofs.find_message.Reads as own
-use Rattle.queues.proofs.find_message.Kinds as kinds
-use Rattle.queues.proofs.+find_message.Lts-find_message as lts
+use Rattle.mail.proofs.find_message.Reads as own
+use Rattle.mail.proofs.find_message.Kinds as kinds
+use Rattle.mail.proofs.+find_message.Lts-find_message as lts
 use Rattle.model.proofs.ControlPage.place.Reads as place-reads
-use Rattle.queues.proofs.matches.Reads as matches-reads
+use Rattle.mail.proofs.matches.Reads as matches-reads
 use Rattle.words.proofs.at.Reads as at-reads
-use Rattle.queues.proofs.+find_message.{statement}
-use Rattle.queues.proofs.+find_message.Tie.{close}
+use Rattle.mail.proofs.+find_message.{statement}
+use Rattle.mail.proofs.+find_message.Tie.{close}
 
 -- what is left falls
 abbrev μ : Measures 1 kinds.ps ℕ

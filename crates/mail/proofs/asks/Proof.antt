@@ -1,8 +1,8 @@
 use borrow.Author.Needs.{needs}
 use Rattle.model.specs.Mail as Mail
 use Rattle.model.proofs.Tests.{tests}
-use Rattle.queues.proofs.asks.Statement.{statement}
-use Rattle.queues.proofs.asks.Tie as tie
+use Rattle.mail.proofs.asks.Statement.{statement}
+use Rattle.mail.proofs.asks.Tie as tie
 
 pub asks-spec : {M : Type 1} → statement M
 unfolding Mail.asks

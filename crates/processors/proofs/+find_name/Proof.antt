@@ -1,15 +1,15 @@
 use borrow.Author.Needs.{needs}
 use Rattle.queues.proofs.Laws.{walks}
 use Prim.Native.Nat.{ℕ, _<_, _+_}
 use borrow.Fn.PlainCycle.{Measures, is, falls, and}
-use Rattle.queues.proofs.find_name.Reads as own
-use Rattle.queues.proofs.find_name.Kinds as kinds
-use Rattle.queues.proofs.+find_name.Lts-find_name as lts
+use Rattle.processors.proofs.find_name.Reads as own
+use Rattle.processors.proofs.find_name.Kinds as kinds
+use Rattle.processors.proofs.+find_name.Lts-find_name as lts
 use Rattle.model.proofs.ControlPage.place.Reads as place-reads
-use Rattle.queues.proofs.is_named.Reads as is-named-reads
+use Rattle.processors.proofs.is_named.Reads as is-named-reads
 use Rattle.words.proofs.at.Reads as at-reads
-use Rattle.queues.proofs.+find_name.{statement}
-use Rattle.queues.proofs.+find_name.Tie.{close}
+use Rattle.processors.proofs.+find_name.{statement}
+use Rattle.processors.proofs.+find_name.Tie.{close}
 
 -- what is left falls
 abbrev μ : Measures 1 kinds.ps ℕ
