@@ -1,12 +1,12 @@
--- Rows that refute wrong models: one for each edit of crates/table/slips that no worked sum refutes, by the edit's name. On the model as it is each
--- holds; with the edit it does not.
+-- Rows that refute wrong models: one for each edit of crates/*/slips that no worked sum and no other row refutes, by the edit's name. On the model as it is
+-- each holds; with the edit it does not.
 use Prim.Native.Nat.{ℕ, _+_, _*_, _/_, _%_}
 use mathlib.Core.Path.{_≡_, refl}
 use mathlib.Core.Bool.{Bool, true}
 use mathlib.Core.List.{List, [], _∷_, _++_}
 use Rattle.model.specs.Store.{bytes}
 use Rattle.model.specs.Same.{by-trees}
-use Rattle.table.specs.Program.{win, sme, rme, tme, st1, crp, dep, exi}
+use Rattle.table.specs.Program.{win, sme, wnm, rme, tme, st1, crp, dep, exi}
 use Rattle.table.specs.Script as Script
 use Rattle.table.specs.Script.{playsFromZero, Script, ok, put-to-wait, registers, begins, mailed}
 use Rattle.table.specs.Script.Line.{step, signal, sets, judges, host, made, has}
@@ -19,6 +19,16 @@ forgets-q1 = begins (crp 2 1 0 3000 ++ sme 2 3 3100 ++ dep 2) (step ok ∷ step 
 pub forgets-q1-holds : playsFromZero bytes forgets-q1 ≡ true
 unfolding Script.playsFromZero forgets-q1
 forgets-q1-holds = by-trees (λ S. playsFromZero S forgets-q1) refl
+
+-- "A notice has 128 in word 2": also one that was mail with a text
+unfoldable pub notice-keeps-the-text : Script
+notice-keeps-the-text =
+    begins (crp 2 1 0 3000 ++ sme 2 3 3100 ++ dep 2)
+    (host 3100 (1 ∷ 65 ∷ []) ∷ step ok ∷ step ok ∷ step ok ∷ has (238 * 32 + 1) ((2 * 16 + 3) ∷ 128 ∷ []) ∷ [])
+
+pub notice-keeps-the-text-holds : playsFromZero bytes notice-keeps-the-text ≡ true
+unfolding Script.playsFromZero notice-keeps-the-text
+notice-keeps-the-text-holds = by-trees (λ S. playsFromZero S notice-keeps-the-text) refl
 
 -- "all others and all notices are given back": a notice from 1, which exists
 unfoldable pub returned-notice : Script
@@ -53,6 +63,30 @@ deliver-at-the-front = begins (sme 1 1 3000 ++ sme 1 2 3000) (step ok ∷ step o
 pub deliver-at-the-front-holds : playsFromZero bytes deliver-at-the-front ≡ true
 unfolding Script.playsFromZero deliver-at-the-front
 deliver-at-the-front-holds = by-trees (λ S. playsFromZero S deliver-at-the-front) refl
+
+-- "The page joins NI's Q1": 2 gets it, and not 1, which sent it
+unfoldable pub mail-to-the-wrong-processor : Script
+mail-to-the-wrong-processor = begins (crp 2 1 0 3000 ++ sme 2 3 3100) (step ok ∷ step ok ∷ has (237 * 32 + 5) (238 ∷ []) ∷ has (236 * 32 + 5) (0 ∷ []) ∷ [])
+
+pub mail-to-the-wrong-processor-holds : playsFromZero bytes mail-to-the-wrong-processor ≡ true
+unfolding Script.playsFromZero mail-to-the-wrong-processor
+mail-to-the-wrong-processor-holds = by-trees (λ S. playsFromZero S mail-to-the-wrong-processor) refl
+
+-- "text length at A, text from A+1"
+unfoldable pub text-a-word-late : Script
+text-a-word-late = begins (sme 1 3 3000) (host 3000 (2 ∷ 65 ∷ 66 ∷ []) ∷ step ok ∷ has (237 * 32 + 1) ((1 * 16 + 3) ∷ 2 ∷ 65 ∷ 66 ∷ []) ∷ [])
+
+pub text-a-word-late-holds : playsFromZero bytes text-a-word-late ≡ true
+unfolding Script.playsFromZero text-a-word-late
+text-a-word-late-holds = by-trees (λ S. playsFromZero S text-a-word-late) refl
+
+-- "first match in Q1 to the end of Q2"
+unfoldable pub wnm-takes-the-last : Script
+wnm-takes-the-last = begins (sme 1 1 3000 ++ sme 1 1 3000 ++ wnm 1 1) (step ok ∷ step ok ∷ step ok ∷ has (236 * 32 + 5) (238 ∷ 237 ∷ []) ∷ [])
+
+pub wnm-takes-the-last-holds : playsFromZero bytes wnm-takes-the-last ≡ true
+unfolding Script.playsFromZero wnm-takes-the-last
+wnm-takes-the-last-holds = by-trees (λ S. playsFromZero S wnm-takes-the-last) refl
 
 -- "Q1 messages tested, the found one too, go to Q2 in order": the first is found, the second is not tested and stays
 unfoldable pub tail-moved : Script
