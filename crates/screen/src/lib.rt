@@ -30,7 +30,8 @@ fn runner(m: &[u8])
     }
     let registers = Registers::of(m, page);
     text(b"processor ");
-    word(name(m, page));
+    let who = name(m, page);
+    word(who.0);
     text(b" runs, its next instruction is at ");
     address(registers.lr);
     text(b"\n");
