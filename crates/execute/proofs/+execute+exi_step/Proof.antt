@@ -1,7 +1,7 @@
 use mathlib.Core.Logic.{⊎-elim}
 use borrow.Author.Needs.{needs}
 use Rattle.model.specs.Execute as Execute
-use Rattle.execute.proofs.Laws.{executing, run-at, run-12, run-low, run-absent}
+use Rattle.execute.proofs.Laws.{exi-none, exi-foreign, exi-runs, exi-fault, run-at, run-12, run-low, run-absent}
 use Prim.Native.Nat.{ℕ, _<_, _+_}
 use borrow.Fn.Kinds.{In}
 use borrow.Fn.PlainCycle.{Measures, is, falls, and}
@@ -156,12 +156,12 @@ unfolding Execute.run
     exi-step.Post
     (λ c κs. search needs)
     (λ c. search needs)
-    (λ c. search (needs, executing))
+    (λ c. search exi-none)
     (λ c κs. search needs)
     (λ c κs. search needs)
     (λ c κs. search needs)
     (λ c. search needs)
-    (λ c. search (needs, executing))
+    (λ c. search exi-foreign)
     (λ c κs. search needs)
     (λ c κs. search needs)
     (λ c κs. search needs)
@@ -170,7 +170,7 @@ unfolding Execute.run
     (λ c. search needs)
     (λ c κs. search needs)
     (λ c. search needs)
-    (λ c. search (needs, executing))
+    (λ c. search exi-runs)
     (λ c κs. search needs)
     (λ c. search needs)
-    (λ c. search (needs, executing))
+    (λ c. search exi-fault)
