@@ -94,13 +94,12 @@ module _ (m : Memory) (o : Step) (x : Arguments) where
       exi-fault zero y z w h = absurd (y refl)
       exi-fault (suc d) y z w h = rw (← ee, ← eb, z, ← ef, ne-eqb f 0 w) h
 
-      -- l is EXI's own length, k the same made wide
-      pub exi-runs : (d s l k : ℕ) (v : Arguments) → (d ≡ 0 → ⊥) → b ≡ false → f ≡ 0 → s ≡ shapeFor (x .field) → v ≡ pointed m e s → l ≡ lengthFor exiCode
-          → k ≡ l → o ≡ execute (d - 1) m (x .field) v k
+      pub exi-runs : (d s k : ℕ) (v : Arguments) → (d ≡ 0 → ⊥) → b ≡ false → f ≡ 0 → s ≡ shapeFor (x .field) → v ≡ pointed m e s → k ≡ lengthFor exiCode
+          → o ≡ execute (d - 1) m (x .field) v k
           → o ≡ exi d m x
       unfolding Execute.exi Execute.argued
-      exi-runs zero s l k v y z w es ev el ek h = absurd (y refl)
-      exi-runs (suc d) s l k v y z w es ev el ek h = rw (← ee, ← eb, z, ← ef, eq-eqb f 0 w, ← es, ← ev) (rw (ek, el) at (simp sub-one at h))
+      exi-runs zero s k v y z w es ev ek h = absurd (y refl)
+      exi-runs (suc d) s k v y z w es ev ek h = rw (← ee, ← eb, z, ← ef, eq-eqb f 0 w, ← es, ← ev) (rw ek at (simp sub-one at h))
 
 -- ---- the decoder
 module _ (m : Memory) (c : ℕ) (x : Arguments) (len d : ℕ) (o : Step) where

@@ -34,9 +34,10 @@ use words::clear;
 use words::guarded;
 use words::wrapped;
 ghost use mathlib.Core.Path.{_≡_};
-ghost use Prim.Native.Nat.{_<_};
+ghost use Prim.Native.Nat.{_<_, _≤_};
 ghost use lib.ListN as List;
 ghost use Rattle.model.specs.Answer.Outcome.{gives};
+ghost use Rattle.model.specs.Instruction as Instruction;
 ghost use Rattle.model.specs.Bytes as Model;
 
 // A code that is not built in: an own one is handed out, with its program's address and this one; else it is absent.
@@ -84,6 +85,13 @@ fn argument_fault(m: &[u8], code: u8, start: u16) -> u8
         return faults::BAD_ARGUMENT;
     }
     faults::PROTECTED
+}
+
+// What EXI advances by, whatever it runs.
+fn exi_length() -> u16
+    ensures { λ r. ⌜ (r ≡ Instruction.lengthFor Instruction.exiCode) × (r ≤ 5) ⌝ }
+{
+    wide(length_for(instructions::EXI))
 }
 
 // The instruction with the code and what it is given; depth more EXIs are allowed.
@@ -138,8 +146,7 @@ fn exi_step(m: &mut [u8], given: Arguments, depth: u8) -> Answer
     if f == faults::NONE {
         let shape = shape_for(code);
         let y = pointed(m, start, shape);
-        let l = length_for(instructions::EXI);
-        return execute(m, code, y, wide(l), depth - 1);
+        return execute(m, code, y, exi_length(), depth - 1);
     }
     fault(m, f)
 }

@@ -14,10 +14,13 @@ pub enqueue-is : (m m₁ m₂ : Memory) (s p v w : ℕ) → v ≡ at m s → w �
 unfolding Wait.enqueue
 enqueue-is m m₁ m₂ s p v w ev ew e₁ e₂ = rw (← ev, ← ew, ← e₁) e₂
 
-pub wake-is : (m m₁ m₂ m₃ : Memory) (s p x : ℕ) → m₁ ≡ unqueue m s p → x ≡ word m₁ p state → m₂ ≡ store m₁ p state (waitCleared x) → m₃ ≡ store m₂ p reason 0
+pub clear-is : (m m₁ : Memory) (p x : ℕ) → x ≡ word m p state → m₁ ≡ store m p state (waitCleared x) → m₁ ≡ store m p state (waitCleared (word m p state))
+clear-is m m₁ p x ex e₁ = rw (← ex) e₁
+
+pub wake-is : (m m₁ m₂ m₃ : Memory) (s p : ℕ) → m₁ ≡ unqueue m s p → m₂ ≡ store m₁ p state (waitCleared (word m₁ p state)) → m₃ ≡ store m₂ p reason 0
     → m₃ ≡ wake m s p
 unfolding Wait.wake
-wake-is m m₁ m₂ m₃ s p x e₁ ex e₂ e₃ = rw (← e₁, ← ex, ← e₂) e₃
+wake-is m m₁ m₂ m₃ s p e₁ e₂ e₃ = rw (← e₁, ← e₂) e₃
 
 -- ---- waiting
 pub seat-page : (n : ℕ) (m : Memory) (p : ℕ) (b : Bool) → n ≡ 0 → b ≡ queued m freeSemaphore p → b ≡ true → freeSemaphore ≡ seat n m p

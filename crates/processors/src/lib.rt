@@ -177,18 +177,26 @@ pub fn put_to_wait(m: &mut [u8], semaphore: u16, page: ControlPage, reason: u8)
     enqueue(m, semaphore, page);
 }
 
-// It wakes: it leaves that queue, its waiting bit and reason are cleared.
-pub fn wake(m: &mut [u8], semaphore: u16, page: ControlPage)
-    requires { ⌜ (List.length (now m) ≡ 8192) × (semaphore < 8191) ⌝ }
-    ensures { λ _. ⌜ now (m .exit) ≡ Model.wake (now (m .entry)) semaphore (page .0) ⌝ }
+// Its waiting bit is cleared.
+fn clear_waiting(m: &mut [u8], page: ControlPage)
+    requires { ⌜ List.length (now m) ≡ 8192 ⌝ }
+    ensures { λ _. ⌜ now (m .exit) ≡ Model.store (now (m .entry)) (page .0) Map.state (Map.waitCleared (Model.word (now (m .entry)) (page .0) Map.state)) ⌝ }
 {
-    unqueue(m, semaphore, page);
     let x = page.word(m, map::STATE);
     page.store(
         m,
         map::STATE,
         x / map::STOP_BIT * map::STOP_BIT + x % map::WAIT_BIT,
     );
+}
+
+// It wakes: it leaves that queue, its waiting bit and reason are cleared.
+pub fn wake(m: &mut [u8], semaphore: u16, page: ControlPage)
+    requires { ⌜ (List.length (now m) ≡ 8192) × (semaphore < 8191) ⌝ }
+    ensures { λ _. ⌜ now (m .exit) ≡ Model.wake (now (m .entry)) semaphore (page .0) ⌝ }
+{
+    unqueue(m, semaphore, page);
+    clear_waiting(m, page);
     page.store(m, map::REASON, 0);
 }
 

@@ -12,7 +12,6 @@ use Rattle.execute.proofs.exi_step.Reads as exi-step
 use Rattle.execute.proofs.exi_step.Kinds as exi-step-kinds
 use Rattle.execute.proofs.+execute+exi_step.Lts-exi_step as exi-step-lts
 use Rattle.answers.proofs.fault.Reads as fault-reads
-use Rattle.arguments.proofs.length_for.Reads as length-for-reads
 use Rattle.arguments.proofs.pointed.Reads as pointed-reads
 use Rattle.arguments.proofs.shape_for.Reads as shape-for-reads
 use Rattle.codes.proofs.cvi.Reads as cvi-reads
@@ -25,13 +24,13 @@ use Rattle.creating.proofs.crp.Reads as crp-reads
 use Rattle.creating.proofs.named.Reads as named-reads
 use Rattle.creating.proofs.st2.Reads as st2-reads
 use Rattle.execute.proofs.argument_fault.Reads as argument-fault-reads
+use Rattle.execute.proofs.exi_length.Reads as exi-length-reads
 use Rattle.execute.proofs.foreign.Reads as foreign-reads
 use Rattle.execute.proofs.is_foreign.Reads as is-foreign-reads
 use Rattle.sending.proofs.rme.Reads as rme-reads
 use Rattle.sending.proofs.sme.Reads as sme-reads
 use Rattle.sending.proofs.tme.Reads as tme-reads
 use Rattle.sending.proofs.wnm.Reads as wnm-reads
-use Rattle.model.proofs.wide.Reads as wide-reads
 use Rattle.execute.proofs.+execute+exi_step.{statement}
 use Rattle.execute.proofs.+execute+exi_step.Tie.{close}
 
@@ -145,10 +144,8 @@ unfolding Execute.run
       shape-for-reads.Learnt,
       pointed-reads.Asked,
       pointed-reads.Learnt,
-      length-for-reads.Asked,
-      length-for-reads.Learnt,
-      wide-reads.Asked,
-      wide-reads.Learnt,
+      exi-length-reads.Asked,
+      exi-length-reads.Learnt,
       execute-below t,
       execute.Post,
     )
@@ -162,7 +159,6 @@ unfolding Execute.run
     (λ c κs. search needs)
     (λ c. search needs)
     (λ c. search exi-foreign)
-    (λ c κs. search needs)
     (λ c κs. search needs)
     (λ c κs. search needs)
     (λ c κs. search needs)
