@@ -9,7 +9,7 @@ use native.Mathlib.Numerals.{sub-one}
 use lib.ListN.{length}
 use lib.Dec.{eqb, leb}
 use borrow.Author.Tests.{eq-eqb, ne-eqb, le-leb, lt-leb}
-use Rattle.model.specs.Map.{place}
+use Rattle.model.specs.Map.{place, grants, grantsEnd, headerAfter, ownQueue, processorList, q1}
 use Rattle.model.specs.Queue as Queue
 use Rattle.model.specs.Rule.{Rule, same, most, both, each, below, whenSame, unlessSame, whenMost, among, holds, all, every}
 use Rattle.model.specs.Lists as Lists
@@ -179,12 +179,12 @@ module _ (m : Memory) (a k n : ℕ) (ek : k ≡ linkOf a) (en : n ≡ leftOf a) 
   lists-length r e = rw (lists-is m a, ← ek, ← en) e
 
 -- Q1 and Q2, and the own queue, as heads in words from 5 and from 4 on
-pub mails-heads : (ps : List ℕ) → mails ps ≡ headsOf 2 5 ps
+pub mails-heads : (ps : List ℕ) → mails ps ≡ headsOf 2 q1 ps
 unfolding range
 mails-heads [] = refl
 mails-heads (p ∷ ps) = let e : place p 5 + 1 ≡ place p 6 = omega arith in rw (e, mails-heads ps)
 
-pub owns-heads : (ps : List ℕ) → owns ps ≡ headsOf 1 4 ps
+pub owns-heads : (ps : List ℕ) → owns ps ≡ headsOf 1 ownQueue ps
 unfolding range
 owns-heads [] = refl
 owns-heads (p ∷ ps) = rw (owns-heads ps)
@@ -193,29 +193,29 @@ owns-heads (p ∷ ps) = rw (owns-heads ps)
 pub place-each : (m : Memory) (c p k : ℕ) (f : ℕ → Rule) (r : Bool) → c ≡ place p k → r ≡ holds (each (lists m c) f) → r ≡ holds (each (lists m (place p k)) f)
 place-each m c p k f r e h = rw (← e) h
 
-pub header-each : (m : Memory) (j i : ℕ) (f : ℕ → Rule) (r : Bool) → j ≡ i → r ≡ holds (each (lists m (132 + 2 * j)) f)
-    → r ≡ holds (each (lists m (132 + 2 * i)) f)
+pub header-each : (m : Memory) (j i : ℕ) (f : ℕ → Rule) (r : Bool) → j ≡ i → r ≡ holds (each (lists m (headerAfter j)) f)
+    → r ≡ holds (each (lists m (headerAfter i)) f)
 header-each m j i f r e h = rw (← e) h
 
-pub link-list : (a : ℕ) → a ≡ 247 → 1 ≡ linkOf a
+pub link-list : (a : ℕ) → a ≡ processorList → 1 ≡ linkOf a
 unfolding Lists.linkOf
-link-list a h = rw (eq-eqb a 247 h)
+link-list a h = rw (eq-eqb a processorList h)
 
-pub link-other : (a : ℕ) → (a ≡ 247 → ⊥) → 0 ≡ linkOf a
+pub link-other : (a : ℕ) → (a ≡ processorList → ⊥) → 0 ≡ linkOf a
 unfolding Lists.linkOf
-link-other a h = rw (ne-eqb a 247 h)
+link-other a h = rw (ne-eqb a processorList h)
 
-pub left-low : (a : ℕ) → a < 320 → 21 ≡ leftOf a
+pub left-low : (a : ℕ) → a < grants → 21 ≡ leftOf a
 unfolding Reach.leftOf Lists.isGrant
-left-low a h = rw (lt-leb 320 a h)
+left-low a h = rw (lt-leb grants a h)
 
-pub left-grant : (a : ℕ) → 320 ≤ a → a < 352 → 1 ≡ leftOf a
+pub left-grant : (a : ℕ) → grants ≤ a → a < grantsEnd → 1 ≡ leftOf a
 unfolding Reach.leftOf Lists.isGrant
-left-grant a h k = rw (le-leb 320 a h, le-leb (suc a) 352 k)
+left-grant a h k = rw (le-leb grants a h, le-leb (suc a) grantsEnd k)
 
-pub left-high : (a : ℕ) → 352 ≤ a → 21 ≡ leftOf a
+pub left-high : (a : ℕ) → grantsEnd ≤ a → 21 ≡ leftOf a
 unfolding Reach.leftOf Lists.isGrant
-left-high a h = rw (le-leb 320 a (omega arith), lt-leb (suc a) 352 (omega arith))
+left-high a h = rw (le-leb grants a (omega arith), lt-leb (suc a) grantsEnd (omega arith))
 
 -- ---- how long, how often
 module _ (n : ℕ) (m : Memory) (k a : ℕ) where

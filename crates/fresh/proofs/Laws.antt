@@ -1,18 +1,19 @@
 -- A law for each way through a fresh start.
-use Prim.Native.Nat.{ℕ, zero, suc, _+_, _-_}
+use Prim.Native.Nat.{ℕ, zero, suc, _+_, _-_, _*_}
 use mathlib.Core.Path.{_≡_, refl}
 use native.Mathlib.Numerals.{sub-one}
 use native.Mathlib.Omega.{arith}
 use Rattle.model.specs.Map.{pair, topped, firstControl, link, label, processorList, codeWord, builtInCodes}
 use Rattle.model.specs.Map.{firstUnused}
-use Rattle.model.specs.Map.{firstName, firstPriority, startAddress}
+use Rattle.model.specs.Map.{firstName, firstPriority, startAddress, guardedLast, pageSize, kernelPages, interruptPage, controlPages, place}
 use Rattle.model.specs.declared.Registers.{Registers}
 use Rattle.model.specs.Processor.{startingAt}
 use Rattle.model.specs.Instruction.{builtIn}
 use Rattle.model.specs.Fresh as Fresh
 use Rattle.model.specs.Bytes.{Memory, zeroed, store, write, handBack, runs, cleared, timed, firstProcessor, chained, freed, allBuiltIn, started}
 
-pub cleared-is : (m m₁ m₂ m₃ : Memory) → m₁ ≡ zeroed 32 m 0 → m₂ ≡ zeroed 224 m₁ 128 → m₃ ≡ zeroed 640 m₂ 7552 → m₃ ≡ cleared m
+pub cleared-is : (m m₁ m₂ m₃ : Memory) → m₁ ≡ zeroed pageSize m 0 → m₂ ≡ zeroed (kernelPages * pageSize) m₁ (place interruptPage 0)
+    → m₃ ≡ zeroed (controlPages * pageSize) m₂ guardedLast → m₃ ≡ cleared m
 unfolding Fresh.cleared
 cleared-is m m₁ m₂ m₃ e₁ e₂ e₃ = rw (← e₁, ← e₂) e₃
 

@@ -10,6 +10,7 @@ use lib.ListN.{length, getD, length-set, getD-replicate}
 use lib.Seq.{getD-set-same, getD-set-other}
 use lib.Dec.{eqb, leb, ltb}
 use borrow.Author.Tests.{eq-eqb, ne-eqb, le-leb, lt-leb, lt-ltb, le-ltb, eqb-true, eqb-false, leb-true, leb-false, ltb-true, ltb-false}
+use Rattle.model.specs.Map.{controlPages, firstControl, freeList, grants, lastControl, pageSize, processorList}
 use Rattle.model.specs.Store.{bytes}
 use Rattle.model.specs.Rule.{most, both, each, holds, all}
 use Rattle.model.specs.Lists.{Lists, hit, count, sum, range, mails, uses, queues}
@@ -20,27 +21,27 @@ use Rattle.marks.specs.Marks as Marks
 use Rattle.marks.specs.Marks.{Marks, slot, more, unmarked, marked, times, markedAll, markedLists, onceBy, bitBy, waiterBy, marksIn, bits}
 
 -- ---- one mark
-slot-in : (z : ℕ) → 236 ≤ z → slot z ≡ z - 236
+slot-in : (z : ℕ) → firstControl ≤ z → slot z ≡ z - firstControl
 unfolding Marks.slot
-slot-in z h = rw (le-ltb z 236 h)
+slot-in z h = rw (le-ltb z firstControl h)
 
-slot-out : (x : ℕ) → x < 236 → slot x ≡ 20
+slot-out : (x : ℕ) → x < firstControl → slot x ≡ controlPages
 unfolding Marks.slot
-slot-out x h = rw (lt-ltb x 236 h)
+slot-out x h = rw (lt-ltb x firstControl h)
 
-slot-apart : (x z : ℕ) → 236 ≤ z → z < 256 → (z ≡ x → ⊥) → slot z ≢ slot x
-slot-apart x z lo hi ne e = go (ltb x 236) refl
+slot-apart : (x z : ℕ) → firstControl ≤ z → z < 256 → (z ≡ x → ⊥) → slot z ≢ slot x
+slot-apart x z lo hi ne e = go (ltb x firstControl) refl
   where
-    go : (b : Bool) → ltb x 236 ≡ b → ⊥
-    go true h = omega (arith, slot-in z lo, slot-out x (ltb-true x 236 h))
-    go false h = omega (arith, slot-in z lo, slot-in x (ltb-false x 236 h), ltb-false x 236 h)
+    go : (b : Bool) → ltb x firstControl ≡ b → ⊥
+    go true h = omega (arith, slot-in z lo, slot-out x (ltb-true x firstControl h))
+    go false h = omega (arith, slot-in z lo, slot-in x (ltb-false x firstControl h), ltb-false x firstControl h)
 
 more-is : (v : ℕ) → more v ≡ min 2 (v + 1)
 unfolding Marks.more
 more-is zero = refl
 more-is (suc n) = rw (ne-eqb (suc n) 0 (λ e. omega arith)) (omega arith)
 
-module _ (z : ℕ) (lo : 236 ≤ z) (hi : z < 256) where
+module _ (z : ℕ) (lo : firstControl ≤ z) (hi : z < 256) where
   times-marked : (t : Marks) (x : ℕ) → length t ≡ 21 → times t z ≤ 2 → times (marked t x) z ≡ min 2 (times t z + hit (eqb z x))
   unfolding Marks.marked Marks.times
   times-marked t x l b = go (eqb z x) refl
@@ -127,17 +128,17 @@ all-and f g (x ∷ xs) e k =
 
 -- ---- "used once" by marks is the rule
 pages : ℕ → Bool
-pages z = holds (both (most 236 z) (most z 255))
+pages z = holds (both (most firstControl z) (most z lastControl))
 
-in-pages : (z : ℕ) → pages z ≡ true → (236 ≤ z) × (z < 256)
+in-pages : (z : ℕ) → pages z ≡ true → (firstControl ≤ z) × (z < 256)
 unfolding pages holds
 in-pages z e =
-    let p = if-true (leb 236 z) (leb z 255) e in
-    let lo = leb-true 236 z (p .0) in
+    let p = if-true (leb firstControl z) (leb z lastControl) e in
+    let lo = leb-true firstControl z (p .0) in
     let hi = leb-true z 255 (p .1) in
     (lo, omega arith)
 
-all-pages : all pages (range 20 1 236) ≡ true
+all-pages : all pages (range controlPages 1 firstControl) ≡ true
 unfolding pages holds all range
 all-pages = refl
 
@@ -147,24 +148,24 @@ once-is m hs z e =
     let p = in-pages z e in
     rw (marks-count z (p .0) (p .1) (lists m) hs) (cap-same (sum z (lists m) hs) 1 (omega arith))
 
-pub used-once : (m : Memory) (t : Marks) (r : Bool) → t ≡ marksIn m (uses (lists m 247)) → r ≡ holds (each (range 20 1 236) (onceBy t))
+pub used-once : (m : Memory) (t : Marks) (r : Bool) → t ≡ marksIn m (uses (lists m processorList)) → r ≡ holds (each (range controlPages 1 firstControl) (onceBy t))
     → r ≡ holds (rule (Judge.usedOnce bytes) m)
 unfolding holds Judge.usedOnce Judge.once
 used-once m t r et er =
     (rw et at er)
-    ∙ all-cong (λ z. holds (onceBy (marksIn m (uses (lists m 247))) z)) (λ z. eqb (sum z (lists m) (uses (lists m 247))) 1) pages (range 20 1 236)
-    (once-is m (uses (lists m 247))) all-pages
+    ∙ all-cong (λ z. holds (onceBy (marksIn m (uses (lists m processorList))) z)) (λ z. eqb (sum z (lists m) (uses (lists m processorList))) 1) pages (range controlPages 1 firstControl)
+    (once-is m (uses (lists m processorList))) all-pages
 
 -- ---- the waiting bits by marks are the rule, if lists are good and pages used once
 module _ (m : Memory) where
   abbrev ps : List ℕ
-  ps = lists m 247
+  ps = lists m processorList
 
   listed-pages : holds (rule (Judge.listed bytes) m) ≡ true → all pages ps ≡ true
   unfolding pages holds all Judge.listed Judge.list Judge.page
   listed-pages e =
-      let hs = 244 ∷ (mails ps ++ range 32 1 320) ++ queues ps in
-      let p = if-true (holds (rule (Judge.list bytes) m 247)) (all (λ a. holds (rule (Judge.list bytes) m a)) hs) e in
+      let hs = freeList ∷ (mails ps ++ range pageSize 1 grants) ++ queues ps in
+      let p = if-true (holds (rule (Judge.list bytes) m processorList)) (all (λ a. holds (rule (Judge.list bytes) m a)) hs) e in
       if-true (leb (length ps) 20) (all pages ps) (p .0) .1
 
   bit-is : (p : ℕ) → pages p ≡ true → holds (bitBy m (marksIn m (queues ps)) p) ≡ holds (rule (Judge.bit bytes) m p)
@@ -177,14 +178,14 @@ module _ (m : Memory) where
   once-page z = elim (pages z) [ true ↦ eqb (sum z (lists m) (uses ps)) 1 | false ↦ false ]
 
   waiter-is : (z : ℕ) → once-page z ≡ true
-      → holds (waiterBy (marksIn m (queues ps)) (marksIn m (247 ∷ [])) z) ≡ holds (rule (Judge.waiter bytes) m z)
+      → holds (waiterBy (marksIn m (queues ps)) (marksIn m (processorList ∷ [])) z) ≡ holds (rule (Judge.waiter bytes) m z)
   unfolding once-page holds Marks.waiterBy Judge.waiter
   waiter-is z e =
       let p = if-true (pages z) (eqb (sum z (lists m) (uses ps)) 1) e in
       let q = in-pages z (p .0) in
       let o = eqb-true (sum z (lists m) (uses ps)) 1 (p .1) in
-      let k : sum z (lists m) (247 ∷ []) ≡ count z ps = omega arith in
-      rw (marks-count z (q .0) (q .1) (lists m) (queues ps), marks-count z (q .0) (q .1) (lists m) (247 ∷ []), k)
+      let k : sum z (lists m) (processorList ∷ []) ≡ count z ps = omega arith in
+      rw (marks-count z (q .0) (q .1) (lists m) (queues ps), marks-count z (q .0) (q .1) (lists m) (processorList ∷ []), k)
       (cap-most (sum z (lists m) (queues ps)) (count z ps) (omega arith))
 
   pub bits-are : holds (rule (Judge.listed bytes) m) ≡ true → holds (rule (Judge.usedOnce bytes) m) ≡ true
@@ -193,5 +194,5 @@ module _ (m : Memory) where
   bits-are l o =
       arm _ _ _ _
       (all-cong (λ p. holds (bitBy m (marksIn m (queues ps)) p)) (λ p. holds (rule (Judge.bit bytes) m p)) pages ps bit-is (listed-pages l))
-      (all-cong (λ z. holds (waiterBy (marksIn m (queues ps)) (marksIn m (247 ∷ [])) z)) (λ z. holds (rule (Judge.waiter bytes) m z)) once-page
-      (range 20 1 236) waiter-is (all-and pages (λ z. eqb (sum z (lists m) (uses ps)) 1) (range 20 1 236) all-pages o))
+      (all-cong (λ z. holds (waiterBy (marksIn m (queues ps)) (marksIn m (processorList ∷ [])) z)) (λ z. holds (rule (Judge.waiter bytes) m z)) once-page
+      (range controlPages 1 firstControl) waiter-is (all-and pages (λ z. eqb (sum z (lists m) (uses ps)) 1) (range controlPages 1 firstControl) all-pages o))

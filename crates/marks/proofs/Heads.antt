@@ -3,7 +3,8 @@ use Prim.Native.Nat.{ℕ, _+_, _-_}
 use mathlib.Core.Path.{_≡_, refl, sym, _∙_}
 use mathlib.Core.Bool.{Bool, _&&_}
 use mathlib.Core.List.{List, [], _∷_, _++_}
-use Rattle.model.specs.Map.{place}
+use Rattle.model.specs.Map.{place, controlPages, firstControl, freeList, grants, headerAfter, interrupts, listLink, ownQueue, pageQueue, pageSize, processorList}
+use Rattle.model.specs.Map.{q1}
 use Rattle.model.specs.Rule.{each, holds}
 use Rattle.model.specs.Lists as Lists
 use Rattle.model.specs.Lists.{Lists, range, uses, queues, linkOf}
@@ -66,27 +67,27 @@ module _ (n : ℕ) (m : Memory) (j k a : ℕ) (t : Marks) where
 
 -- ---- marks of all that is used, of all that wait
 module _ (m : Memory) (s t u v r : Marks) (es : s ≡ unmarked) where
-  pub uses-marked : t ≡ markedAll s (lists m 247) → u ≡ markedAll t (lists m 244) → v ≡ markedLists u (lists m) (headsOf 2 5 (walk 21 m 1 247))
-      → r ≡ markedLists v (lists m) (range 32 1 320) → r ≡ marksIn m (uses (lists m 247))
+  pub uses-marked : t ≡ markedAll s (lists m processorList) → u ≡ markedAll t (lists m freeList) → v ≡ markedLists u (lists m) (headsOf 2 q1 (walk 21 m listLink processorList))
+      → r ≡ markedLists v (lists m) (range pageSize 1 grants) → r ≡ marksIn m (uses (lists m processorList))
   unfolding Marks.markedLists Lists.lists Lists.isGrant Lists.linkOf
   uses-marked et eu ev er =
       er
-      ∙ rw (mails-heads (lists m 247), ev, eu, et, es)
-      (sym (lists-append (lists m) (headsOf 2 5 (lists m 247)) (range 32 1 320) (markedAll (markedAll unmarked (lists m 247)) (lists m 244))))
+      ∙ rw (mails-heads (lists m processorList), ev, eu, et, es)
+      (sym (lists-append (lists m) (headsOf 2 q1 (lists m processorList)) (range pageSize 1 grants) (markedAll (markedAll unmarked (lists m processorList)) (lists m freeList))))
 
-  pub queues-marked : t ≡ markedAll s (lists m 246) → u ≡ markedLists t (lists m) (headsOf 1 4 (walk 21 m 1 247)) → r ≡ markedLists u (lists m) (range 54 2 132)
-      → r ≡ marksIn m (queues (lists m 247))
+  pub queues-marked : t ≡ markedAll s (lists m pageQueue) → u ≡ markedLists t (lists m) (headsOf 1 ownQueue (walk 21 m listLink processorList)) → r ≡ markedLists u (lists m) (range interrupts 2 (headerAfter 0))
+      → r ≡ marksIn m (queues (lists m processorList))
   unfolding Marks.markedLists Lists.lists Lists.isGrant Lists.linkOf
   queues-marked et eu er =
       er
-      ∙ rw (owns-heads (lists m 247), eu, et, es)
-      (sym (lists-append (lists m) (headsOf 1 4 (lists m 247)) (range 54 2 132) (markedAll unmarked (lists m 246))))
+      ∙ rw (owns-heads (lists m processorList), eu, et, es)
+      (sym (lists-append (lists m) (headsOf 1 ownQueue (lists m processorList)) (range interrupts 2 (headerAfter 0)) (markedAll unmarked (lists m pageQueue))))
 
 -- ---- the waiting bits by marks
-pub bits-is : (m : Memory) (s t u : Marks) (a b r : Bool) → t ≡ marksIn m (queues (lists m 247)) → s ≡ unmarked → u ≡ markedAll s (lists m 247)
-    → a ≡ holds (each (walk 21 m 1 247) (bitBy m t)) → b ≡ holds (each (range 20 1 236) (waiterBy t u)) → r ≡ (a && b) → r ≡ holds (bits m)
+pub bits-is : (m : Memory) (s t u : Marks) (a b r : Bool) → t ≡ marksIn m (queues (lists m processorList)) → s ≡ unmarked → u ≡ markedAll s (lists m processorList)
+    → a ≡ holds (each (walk 21 m listLink processorList) (bitBy m t)) → b ≡ holds (each (range controlPages 1 firstControl) (waiterBy t u)) → r ≡ (a && b) → r ≡ holds (bits m)
 unfolding Marks.bits Marks.markedLists Lists.lists Lists.isGrant Lists.linkOf
-bits-is m s t u a b r et es eu ea eb e = let k : u ≡ marksIn m (247 ∷ []) = rw es at eu in rw (← et, ← k) (both-is _ _ a b r e ea eb)
+bits-is m s t u a b r et es eu ea eb e = let k : u ≡ marksIn m (processorList ∷ []) = rw es at eu in rw (← et, ← k) (both-is _ _ a b r e ea eb)
 
 pub ruleset heads = (
   mark-none,

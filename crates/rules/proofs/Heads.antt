@@ -3,7 +3,7 @@ use Prim.Native.Nat.{ℕ}
 use mathlib.Core.Path.{_≡_, sym, _∙_}
 use mathlib.Core.Bool.{Bool, _&&_, and-assoc}
 use mathlib.Core.List.{List, [], _∷_, _++_}
-use Rattle.model.specs.Map.{place}
+use Rattle.model.specs.Map.{place, listLink, ownQueue, processorList, q1}
 use Rattle.model.specs.Store.{bytes}
 use Rattle.model.specs.Rule.{Rule, each, holds}
 use Rattle.model.specs.Lists as Lists
@@ -34,13 +34,13 @@ module _ (m : Memory) where
   list = rule (Judge.list bytes) m
 
   module _ (b : Bool) where
-    pub mails-listed : b ≡ holds (each (walk 21 m 1 247) (mailLists m)) → b ≡ holds (each (mails (lists m 247)) list)
+    pub mails-listed : b ≡ holds (each (walk 21 m listLink processorList) (mailLists m)) → b ≡ holds (each (mails (lists m processorList)) list)
     unfolding Rules.mailLists Lists.lists Lists.isGrant Lists.linkOf
-    mails-listed e = rw (mails-heads (lists m 247)) (e ∙ heads-each list 2 5 (lists m 247))
+    mails-listed e = rw (mails-heads (lists m processorList)) (e ∙ heads-each list 2 q1 (lists m processorList))
 
-    pub owns-listed : b ≡ holds (each (walk 21 m 1 247) (ownList m)) → b ≡ holds (each (owns (lists m 247)) list)
+    pub owns-listed : b ≡ holds (each (walk 21 m listLink processorList) (ownList m)) → b ≡ holds (each (owns (lists m processorList)) list)
     unfolding Rules.ownList Lists.lists Lists.isGrant Lists.linkOf
-    owns-listed e = rw (owns-heads (lists m 247)) (e ∙ heads-each list 1 4 (lists m 247))
+    owns-listed e = rw (owns-heads (lists m processorList)) (e ∙ heads-each list 1 ownQueue (lists m processorList))
 
     -- at a place, as the code reckons it
     pub mail-lists-at : (c p : ℕ) → c ≡ place p 5 → b ≡ holds (each (range 2 1 c) list) → b ≡ holds (mailLists m p)
@@ -51,9 +51,9 @@ module _ (m : Memory) where
     unfolding Rules.ownList
     own-list-at c p e h = rw e at h
 
-  pub listed-is : (a b c : Bool) → c ≡ (a && b) → a ≡ holds (each (uses (lists m 247)) list) → b ≡ holds (each (queues (lists m 247)) list)
+  pub listed-is : (a b c : Bool) → c ≡ (a && b) → a ≡ holds (each (uses (lists m processorList)) list) → b ≡ holds (each (queues (lists m processorList)) list)
       → c ≡ holds (rule (Judge.listed bytes) m)
   unfolding Judge.listed
-  listed-is a b c e ea eb = append-is list (uses (lists m 247)) (queues (lists m 247)) a b c e ea eb
+  listed-is a b c e ea eb = append-is list (uses (lists m processorList)) (queues (lists m processorList)) a b c e ea eb
 
 pub ruleset heads = (append-is, mails-listed, owns-listed, mail-lists-at, own-list-at, listed-is)

@@ -6,7 +6,7 @@ use mathlib.Core.Bool.{Bool, true, _&&_}
 use native.Mathlib.Omega.{arith}
 use lib.ListN.{length}
 use lib.Dec.{eqb, leb}
-use Rattle.model.specs.Map.{place}
+use Rattle.model.specs.Map.{place, entryAfter, firstUnused, freeList, grantFor, label, listLink, processorList, runningLabel}
 use Rattle.model.specs.Store.{bytes}
 use Rattle.model.specs.Rule.{each, among, holds}
 use Rattle.model.specs.Lists as Lists
@@ -27,7 +27,7 @@ pub deep-at : (m : Memory) (t u : Deep) (x : ℕ) (b : Bool) → t ≡ u → b �
 deep-at m t u x b e h = rw e h
 
 -- ---- names
-pub label-is : (m : Memory) (p w n : ℕ) (b c d r : Bool) → w ≡ word m p 7 → n ≡ count (w % 16) (each-of (name m) (walk 21 m 1 247))
+pub label-is : (m : Memory) (p w n : ℕ) (b c d r : Bool) → w ≡ word m p label → n ≡ count (w % 16) (each-of (name m) (walk 21 m listLink processorList))
     → b ≡ holds (among (w % 16) 1 15) → c ≡ holds (among (w / 16) 1 15) → d ≡ (b && c) → r ≡ (eqb n 1 && d) → r ≡ holds (rule (Judge.label bytes) m p)
 unfolding Judge.label Lists.lists Lists.isGrant Lists.linkOf
 label-is m p w n b c d r ew en eb ec ed er = rw (← ew, ← en) (both-is _ _ (eqb n 1) d r er (same-is n 1) (both-is _ _ b c d ed eb ec))
@@ -49,19 +49,19 @@ unfolding Judge.owner
 owner-is m p x w b d r ew eb ed er = rw (← ew) (both-is _ _ (eqb x p) d r er (same-is x p) (both-is _ _ (leb (w % 16) 7) b d ed (most-is (w % 16) 7) eb))
 
 -- ---- pages
-pub page-wait-is : (m : Memory) (p n w i g : ℕ) (r : Bool) → n ≡ length (lists m 244) → w ≡ word m p 7 → i ≡ w % 16 → g ≡ length (lists m (320 + i))
+pub page-wait-is : (m : Memory) (p n w i g : ℕ) (r : Bool) → n ≡ length (lists m freeList) → w ≡ word m p label → i ≡ w % 16 → g ≡ length (lists m (grantFor i))
     → r ≡ (eqb n 0 && eqb g 0) → r ≡ holds (rule (Judge.pageWait bytes) m p)
 unfolding Judge.pageWait
 page-wait-is m p n w i g r en ew ei eg er = rw (← en, ← ew, ← ei, ← eg) (both-is _ _ (eqb n 0) (eqb g 0) r er (same-is n 0) (same-is g 0))
 
-module _ (m : Memory) (k i g : ℕ) (ei : i ≡ k) (eg : g ≡ length (lists m (320 + i))) where
+module _ (m : Memory) (k i g : ℕ) (ei : i ≡ k) (eg : g ≡ length (lists m (grantFor i))) where
   pub grant-none : g ≡ 0 → true ≡ holds (rule (Judge.grant bytes) m k)
   unfolding Judge.grant
-  grant-none h = let e : g ≡ length (lists m (320 + k)) = rw ei at eg in rw (← e) (unless-yes g 0 _ h)
+  grant-none h = let e : g ≡ length (lists m (grantFor k)) = rw ei at eg in rw (← e) (unless-yes g 0 _ h)
 
-  pub grant-some : (n : ℕ) → (g ≡ 0 → ⊥) → n ≡ count k (each-of (name m) (walk 21 m 1 247)) → eqb n 1 ≡ holds (rule (Judge.grant bytes) m k)
+  pub grant-some : (n : ℕ) → (g ≡ 0 → ⊥) → n ≡ count k (each-of (name m) (walk 21 m listLink processorList)) → eqb n 1 ≡ holds (rule (Judge.grant bytes) m k)
   unfolding Judge.grant Lists.lists Lists.isGrant Lists.linkOf
-  grant-some n h en = let e : g ≡ length (lists m (320 + k)) = rw ei at eg in rw (← e, ← en) (unless-no g 0 _ (eqb n 1) h (same-is n 1))
+  grant-some n h en = let e : g ≡ length (lists m (grantFor k)) = rw ei at eg in rw (← e, ← en) (unless-no g 0 _ (eqb n 1) h (same-is n 1))
 
 -- ---- messages
 module _ (m : Memory) (q w : ℕ) (ew : w ≡ word m q 2) where
@@ -80,7 +80,7 @@ message-is m q w b c d e r ew eb ec ed ee er = rw (← ew) (both-is _ _ b e r er
 
 -- ---- who runs
 module _ (m : Memory) (p s : ℕ) (es : s ≡ word m p 12) where
-  pub higher-ready : (w l : ℕ) → s < 64 → w ≡ word m p 7 → l ≡ at m 249 → leb (w / 16) (l / 16) ≡ holds (rule (Judge.notHigher bytes) m p)
+  pub higher-ready : (w l : ℕ) → s < 64 → w ≡ word m p label → l ≡ at m runningLabel → leb (w / 16) (l / 16) ≡ holds (rule (Judge.notHigher bytes) m p)
   unfolding Judge.notHigher
   higher-ready w l h ew el = rw (← es, ← ew, ← el) (least-yes (suc s) 64 _ (leb (w / 16) (l / 16)) h (most-is (w / 16) (l / 16)))
 
@@ -89,21 +89,21 @@ module _ (m : Memory) (p s : ℕ) (es : s ≡ word m p 12) where
   higher-not h = rw (← es) (least-no (suc s) 64 _ (omega arith))
 
 -- ---- page 9
-pub used-is : (m : Memory) (i j w : ℕ) (b c r : Bool) → j ≡ i → w ≡ at m (289 + j) → b ≡ holds (among (w / 16) 1 15) → c ≡ holds (among (w % 16) 1 12)
+pub used-is : (m : Memory) (i j w : ℕ) (b c r : Bool) → j ≡ i → w ≡ at m (entryAfter j) → b ≡ holds (among (w / 16) 1 15) → c ≡ holds (among (w % 16) 1 12)
     → r ≡ (b && c) → r ≡ holds (rule (Judge.used bytes) m i)
 unfolding Judge.used
 used-is m i j w b c r ej ew eb ec er = rw (← ej, ← ew) (both-is _ _ b c r er eb ec)
 
-module _ (m : Memory) (i f j k : ℕ) (ef : f ≡ at m 288) (ej : j ≡ i) (ek : k ≡ f) where
+module _ (m : Memory) (i f j k : ℕ) (ef : f ≡ at m firstUnused) (ej : j ≡ i) (ek : k ≡ f) where
   pub entry-used : (b : Bool) → j + 2 ≤ k → b ≡ holds (rule (Judge.used bytes) m i) → b ≡ holds (rule (Judge.entry bytes) m i)
   unfolding Judge.entry
   entry-used b h eb =
       rw (← ef) (both-true _ _ b (least-yes (i + 2) f _ b (omega arith) eb) (least-no f (i + 1) _ (omega arith)))
 
-  pub entry-unused : (l w : ℕ) → k < j + 2 → l ≡ i → w ≡ at m (289 + l) → eqb w 0 ≡ holds (rule (Judge.entry bytes) m i)
+  pub entry-unused : (l w : ℕ) → k < j + 2 → l ≡ i → w ≡ at m (entryAfter l) → eqb w 0 ≡ holds (rule (Judge.entry bytes) m i)
   unfolding Judge.entry
   entry-unused l w h el ew =
-      let e : w ≡ at m (289 + i) = rw el at ew in
+      let e : w ≡ at m (entryAfter i) = rw el at ew in
       rw (← ef, ← e) (both-yes _ _ true (least-no (i + 2) f _ (omega arith)) (eqb w 0) refl (least-yes f (i + 1) _ (eqb w 0) (omega arith) (same-is w 0)))
 
 -- ---- that a list ends and holds control pages
