@@ -69,9 +69,9 @@ pub ruleset heads = (unrefused-length, head-goes, head-refused)
 -- ---- what stands behind the refusals
 module _ (m : Memory) where
   -- v and w are line and divider as bytes
-  pub started-is : (m₁ : Memory) (l d v w : ℕ) (b : Bool) → b ≡ startable l d → b ≡ true → v ≡ low l → w ≡ low d → m₁ ≡ started m v w
+  pub started-is : (m₁ : Memory) (l d v w : ℕ) (b : Bool) → b ≡ startable l d → b ≡ true → m₁ ≡ started m v w → v ≡ low l → w ≡ low d
       → gives Done m₁ ≡ gives Done (started m l d)
-  started-is m₁ l d v w b eb h ev ew e₁ =
+  started-is m₁ l d v w b eb h e₁ ev ew =
       let r : (l ≤ 47) × (d ≤ 255) = start-range l d (sym eb ∙ h) in
       let x : v ≡ l = omega (arith, r) in
       let y : w ≡ d = omega (arith, r) in
@@ -81,15 +81,18 @@ module _ (m : Memory) where
   fetched-is o n en e = rw (← en) e
 
   -- v and w are number and class as bytes
-  pub delivered-is : (m₁ m₂ : Memory) (k c v w : ℕ) (a b : Bool) → a ≡ isOuter k → a ≡ true → b ≡ isClass k c → b ≡ true → v ≡ low (k % 55) → w ≡ low c
-      → m₁ ≡ delivered m v w → m₂ ≡ whoRuns m₁
-      → gives Done m₂ ≡ gives Done (whoRuns (delivered m k c))
-  delivered-is m₁ m₂ k c v w a b ea h eb g ev ew e₁ e₂ =
+  pub delivered-is : (m₁ : Memory) (k c v w : ℕ) (a b : Bool) → m₁ ≡ delivered m v w → v ≡ low (k % 55) → w ≡ low c → a ≡ isOuter k → a ≡ true → b ≡ isClass k c
+      → b ≡ true
+      → m₁ ≡ delivered m k c
+  delivered-is m₁ k c v w a b e₁ ev ew ea h eb g =
       let q : k ≤ 50 = outer-range k (sym ea ∙ h) in
       let r : c ≤ 31 = class-range k c (sym eb ∙ g) in
       let x : v ≡ k = omega arith in
       let y : w ≡ c = omega arith in
-      rw (← x, ← y, ← e₁, ← e₂)
+      rw (← x, ← y) e₁
+
+  pub runs-on : (m₁ m₂ : Memory) → m₂ ≡ whoRuns m₁ → m₁ ≡ m → gives Done m₂ ≡ gives Done (whoRuns m)
+  runs-on m₁ m₂ e₂ e₁ = rw (← e₁, ← e₂)
 
   module _ (p : ℕ) (r : Registers) (ep : p ≡ running m) where
     pub registers-are : r ≡ registersOf m p → gives (Held.Has r) m ≡ gives (Held.Has (registersOf m (running m))) m
@@ -118,4 +121,4 @@ said-verdict = by-numbers verdictNumbers
 
 pub ruleset sayings = (said, said-held, said-verdict)
 
-pub ruleset calls = (started-is, fetched-is, delivered-is, registers-are, registers-set)
+pub ruleset calls = (started-is, fetched-is, delivered-is, runs-on, registers-are, registers-set)

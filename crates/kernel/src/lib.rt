@@ -16,7 +16,9 @@ use processors::running;
 use turn::who_runs;
 use words::low;
 ghost use mathlib.Core.Path.{_≡_};
+ghost use Prim.Native.Nat.{_≤_, _%_};
 ghost use lib.ListN.{length};
+ghost use Rattle.model.specs.Map as Map;
 ghost use Rattle.model.specs.Call as Call;
 ghost use Rattle.model.specs.Answer.{numbers, heldNumbers, verdictNumbers};
 ghost use Rattle.model.specs.Answer.Outcome.{gives};
@@ -100,13 +102,20 @@ fn is_class(number: u16, class: u16) -> bool
     true
 }
 
+// Its number in a byte; one of an interrupt stays as it is.
+fn in_byte(number: u16) -> u8
+    ensures { λ r. ⌜ (r ≡ Map.low (number % 55)) × (r ≤ 54) ⌝ }
+{
+    low(number % map::INTERRUPT_NUMBERS)
+}
+
 fn interrupt_judged(m: &mut [u8], number: u16, class: u16) -> Answer
     requires { ⌜ length (now m) ≡ 8192 ⌝ }
     ensures { λ r. ⌜ gives r (now (m .exit)) ≡ Model.interruptJudged (now (m .entry)) number class ⌝ }
 {
     if is_outer(number) {
         if is_class(number, class) {
-            deliver(m, low(number % map::INTERRUPT_NUMBERS), low(class));
+            deliver(m, in_byte(number), low(class));
             who_runs(m);
             return Answer::Done;
         }
