@@ -4,14 +4,14 @@ use mathlib.Core.Path.{_≡_, refl, sym, ap, _∙_}
 use mathlib.Core.Logic.{_≢_}
 use mathlib.Core.Bool.{Bool, true, false}
 use mathlib.Core.List.{List, [], _∷_, _++_, append-nil, map}
-use Prim.Native.Nat.{ℕ, _+_, _-_, _*_, _/_, _%_, _≤_}
+use Prim.Native.Nat.{ℕ, _+_, _≤_}
 use native.Mathlib.Omega.{arith}
-use lib.ListN.{getD, set}
+use lib.ListN.{getD}
 use lib.Dec.{eqb}
 use borrow.Author.Tests.{eq-eqb, ne-eqb}
 use Rattle.model.specs.Map.{entryAt, firstUnused, flagsKept, high, low, state, waitIn}
 use Rattle.model.specs.Address.{wrapped}
-use Rattle.model.specs.Map.{highLr, label, lowLr, memorySize, runningPage}
+use Rattle.model.specs.Map.{highLr, label, lowLr, runningPage}
 use Rattle.model.specs.Bytes.{running, store, word}
 use Rattle.model.specs.Map.{place, q1}
 use Rattle.model.specs.Answer as Answer

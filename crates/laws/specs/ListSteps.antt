@@ -6,7 +6,7 @@ use mathlib.Core.List.{List, [], _∷_, _++_}
 use Prim.Native.Nat.{ℕ, _+_, _≤_}
 use native.Mathlib.Omega.{arith}
 use lib.ListN.{length, length-append}
-use Rattle.model.specs.Map.{freeList, grantFor, label, link, lower, ownQueue, pageQueue, place, processorList, q1, waitIn}
+use Rattle.model.specs.Map.{freeList, grantFor, link, lower, ownQueue, pageQueue, place, processorList, q1, waitIn}
 use Rattle.model.specs.Bytes.{name, lists, join, leave, giveBack, deliver, putToWait, wake}
 use Rattle.model.specs.Lists.{count, Lists, some, queues}
 use Rattle.laws.specs.Count.{count-append}
