@@ -3,7 +3,7 @@ use Prim.Native.Nat.{ℕ, suc}
 use mathlib.Core.Path.{_≡_, refl}
 use mathlib.Core.Bool.{Bool, true, _&&_}
 use lib.Dec.{eqb, ltb}
-use Rattle.model.specs.Map.{label, listLink, processorList, runningLabel, runningPage}
+use Rattle.model.specs.Map.{label, listLink, processorList, runningLabel, runningPage, state}
 use Rattle.model.specs.Store.{bytes}
 use Rattle.model.specs.Rule.{same, each, holds}
 use Rattle.model.specs.Lists as Lists
@@ -13,7 +13,8 @@ use Rattle.model.specs.Bytes.{Memory, at, word, walk, lists}
 use Rattle.counts.specs.Reach.{rule}
 use Rattle.counts.proofs.Folds.{both-yes, both-is, same-is, most-is, when-yes, when-no, unless-yes, unless-no}
 
-pub runner-is : (m : Memory) (p n l w s : ℕ) (d r : Bool) → n ≡ count p (walk 21 m listLink processorList) → l ≡ at m runningLabel → w ≡ word m p label → s ≡ word m p 12
+pub runner-is : (m : Memory) (p n l w s : ℕ) (d r : Bool) → n ≡ count p (walk 21 m listLink processorList)
+    → l ≡ at m runningLabel → w ≡ word m p label → s ≡ word m p state
     → d ≡ (eqb l w && ltb s 64) → r ≡ (eqb n 1 && d) → r ≡ holds (rule (Judge.runner bytes) m p)
 unfolding Judge.runner Lists.lists Lists.isGrant Lists.linkOf
 runner-is m p n l w s d r en el ew es ed er =

@@ -148,12 +148,14 @@ once-is m hs z e =
     let p = in-pages z e in
     rw (marks-count z (p .0) (p .1) (lists m) hs) (cap-same (sum z (lists m) hs) 1 (omega arith))
 
-pub used-once : (m : Memory) (t : Marks) (r : Bool) → t ≡ marksIn m (uses (lists m processorList)) → r ≡ holds (each (range controlPages 1 firstControl) (onceBy t))
+pub used-once : (m : Memory) (t : Marks) (r : Bool) → t ≡ marksIn m (uses (lists m processorList))
+    → r ≡ holds (each (range controlPages 1 firstControl) (onceBy t))
     → r ≡ holds (rule (Judge.usedOnce bytes) m)
 unfolding holds Judge.usedOnce Judge.once
 used-once m t r et er =
     (rw et at er)
-    ∙ all-cong (λ z. holds (onceBy (marksIn m (uses (lists m processorList))) z)) (λ z. eqb (sum z (lists m) (uses (lists m processorList))) 1) pages (range controlPages 1 firstControl)
+    ∙ all-cong (λ z. holds (onceBy (marksIn m (uses (lists m processorList))) z))
+    (λ z. eqb (sum z (lists m) (uses (lists m processorList))) 1) pages (range controlPages 1 firstControl)
     (once-is m (uses (lists m processorList))) all-pages
 
 -- ---- the waiting bits by marks are the rule, if lists are good and pages used once

@@ -3,7 +3,8 @@ use Prim.Native.Nat.{ℕ, _+_, _-_}
 use mathlib.Core.Path.{_≡_, refl, sym, _∙_}
 use mathlib.Core.Bool.{Bool, _&&_}
 use mathlib.Core.List.{List, [], _∷_, _++_}
-use Rattle.model.specs.Map.{place, controlPages, firstControl, freeList, grants, headerAfter, interrupts, listLink, ownQueue, pageQueue, pageSize, processorList}
+use Rattle.model.specs.Map.{place, controlPages, firstControl, freeList, grants, headerAfter, interrupts, listLink}
+use Rattle.model.specs.Map.{ownQueue, pageQueue, pageSize, processorList}
 use Rattle.model.specs.Map.{q1}
 use Rattle.model.specs.Rule.{each, holds}
 use Rattle.model.specs.Lists as Lists
@@ -67,15 +68,19 @@ module _ (n : ℕ) (m : Memory) (j k a : ℕ) (t : Marks) where
 
 -- ---- marks of all that is used, of all that wait
 module _ (m : Memory) (s t u v r : Marks) (es : s ≡ unmarked) where
-  pub uses-marked : t ≡ markedAll s (lists m processorList) → u ≡ markedAll t (lists m freeList) → v ≡ markedLists u (lists m) (headsOf 2 q1 (walk 21 m listLink processorList))
+  pub uses-marked : t ≡ markedAll s (lists m processorList) → u ≡ markedAll t (lists m freeList)
+      → v ≡ markedLists u (lists m) (headsOf 2 q1 (walk 21 m listLink processorList))
       → r ≡ markedLists v (lists m) (range pageSize 1 grants) → r ≡ marksIn m (uses (lists m processorList))
   unfolding Marks.markedLists Lists.lists Lists.isGrant Lists.linkOf
   uses-marked et eu ev er =
       er
       ∙ rw (mails-heads (lists m processorList), ev, eu, et, es)
-      (sym (lists-append (lists m) (headsOf 2 q1 (lists m processorList)) (range pageSize 1 grants) (markedAll (markedAll unmarked (lists m processorList)) (lists m freeList))))
+      (sym (lists-append (lists m) (headsOf 2 q1 (lists m processorList)) (range pageSize 1 grants)
+      (markedAll (markedAll unmarked (lists m processorList)) (lists m freeList))))
 
-  pub queues-marked : t ≡ markedAll s (lists m pageQueue) → u ≡ markedLists t (lists m) (headsOf 1 ownQueue (walk 21 m listLink processorList)) → r ≡ markedLists u (lists m) (range interrupts 2 (headerAfter 0))
+  pub queues-marked : t ≡ markedAll s (lists m pageQueue)
+      → u ≡ markedLists t (lists m) (headsOf 1 ownQueue (walk 21 m listLink processorList))
+      → r ≡ markedLists u (lists m) (range interrupts 2 (headerAfter 0))
       → r ≡ marksIn m (queues (lists m processorList))
   unfolding Marks.markedLists Lists.lists Lists.isGrant Lists.linkOf
   queues-marked et eu er =
@@ -84,8 +89,10 @@ module _ (m : Memory) (s t u v r : Marks) (es : s ≡ unmarked) where
       (sym (lists-append (lists m) (headsOf 1 ownQueue (lists m processorList)) (range interrupts 2 (headerAfter 0)) (markedAll unmarked (lists m pageQueue))))
 
 -- ---- the waiting bits by marks
-pub bits-is : (m : Memory) (s t u : Marks) (a b r : Bool) → t ≡ marksIn m (queues (lists m processorList)) → s ≡ unmarked → u ≡ markedAll s (lists m processorList)
-    → a ≡ holds (each (walk 21 m listLink processorList) (bitBy m t)) → b ≡ holds (each (range controlPages 1 firstControl) (waiterBy t u)) → r ≡ (a && b) → r ≡ holds (bits m)
+pub bits-is : (m : Memory) (s t u : Marks) (a b r : Bool) → t ≡ marksIn m (queues (lists m processorList)) → s ≡ unmarked
+    → u ≡ markedAll s (lists m processorList)
+    → a ≡ holds (each (walk 21 m listLink processorList) (bitBy m t))
+    → b ≡ holds (each (range controlPages 1 firstControl) (waiterBy t u)) → r ≡ (a && b) → r ≡ holds (bits m)
 unfolding Marks.bits Marks.markedLists Lists.lists Lists.isGrant Lists.linkOf
 bits-is m s t u a b r et es eu ea eb e = let k : u ≡ marksIn m (processorList ∷ []) = rw es at eu in rw (← et, ← k) (both-is _ _ a b r e ea eb)
 
