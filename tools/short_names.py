@@ -9,7 +9,7 @@ SPECS = 'crates/model/specs/'
 SCRIPT = 'crates/table/specs/Script.antt'
 FILES = [line.split()[-1] for line in open(SPECS + 'Lib.antt') if line.startswith('pub mod')]
 TYPES = {
-    'Registers': 'declared.Registers', 'Arguments': 'declared.Arguments', 'Held': 'declared.Held', 'Verdict': 'declared.Verdict',
+    'Registers': 'declared.Registers', 'Arguments': 'declared.Arguments', 'Held': 'declared.Held', 'Verdict': 'declared.Verdict', 'Finding': 'declared.Finding',
     'Context': 'declared.Context', 'Taken': 'Page', 'Tested': 'Mail', 'Lists': 'Lists', 'Outcome': 'Answer', 'Rule': 'Rule',
 }
 
@@ -36,6 +36,8 @@ def short_names():
                 found += re.findall(r'^  (?:unfoldable|abbrev) pub (\S+) : (.*)$', text, re.M)
         if file == 'Judge':
             found = [('wellFormed', 'S .M → List ℕ → Lists → Rule'), ('judged', 'S .M → Bool')]
+        if file == 'Classes':
+            found = [('toldOf', 'S .M → Finding')]
         for name, type_ in found:
             if name in seen:
                 sys.exit('%s stands in %s and in %s' % (name, seen[name], file))

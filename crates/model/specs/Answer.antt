@@ -2,7 +2,7 @@
 use Prim.Native.Nat.{ℕ}
 use mathlib.Core.List.{List, [], _∷_}
 use Rattle.model.specs.declared.Answer.{Answer}
-use Rattle.model.specs.declared.Answer.the-variants.{Done, Waits, HandedOut, Fault, Refused}
+use Rattle.model.specs.declared.Answer.the-variants.{Done, Waits, HandedOut, Fault, Refused, RefusedAt}
 use Rattle.model.specs.declared.Held.{Held}
 use Rattle.model.specs.declared.Held.the-variants as Held
 use Rattle.model.specs.declared.Verdict.{Verdict}
@@ -22,13 +22,10 @@ answerOf (gives a m) = a
 unfoldable pub memoryOf : {A M : Type 0} → Outcome A M → M
 memoryOf (gives a m) = m
 
--- ---- "first that applies: 20 length not 8,192; 21 not well-formed; 22 idle; 23 word at LR not 224; 24 interrupt not 16-50; 25 class
--- number ..; 26 fresh or register value out of range"
+-- ---- "first that applies: 20 length not 8,192; .. 22 idle; 23 word at LR not 224; 24 interrupt not 16-50; 25 class number ..; 26 fresh or
+-- register value out of range"
 abbrev pub wrongLength : ℕ
 wrongLength = 20
-
-abbrev pub illFormed : ℕ
-illFormed = 21
 
 abbrev pub idle : ℕ
 idle = 22
@@ -44,6 +41,23 @@ wrongClass = 25
 
 abbrev pub outOfRange : ℕ
 outOfRange = 26
+
+-- ---- document 02, 1/13, for 21: "30 a control page used twice or not at all, 31 a wait queue or semaphore, 32 a processor or message record, 33
+-- the code or error table, 34 counters and the running entry"
+abbrev pub brokenPages : ℕ
+brokenPages = 30
+
+abbrev pub brokenWaits : ℕ
+brokenWaits = 31
+
+abbrev pub brokenRecords : ℕ
+brokenRecords = 32
+
+abbrev pub brokenTables : ℕ
+brokenTables = 33
+
+abbrev pub brokenCounters : ℕ
+brokenCounters = 34
 
 -- ---- "1 absent code; 2 EXI of EXI; 3 code exists; 4 deleting code 0 or 1; 5 WIN ..; 6 no match in Q2; 7 NI doesn't exist; 8 ST2 ..; 9 name
 -- exists; 10 NI isn't stopped; 11 protected word; 12 other bad argument"
@@ -100,14 +114,17 @@ numbers Waits = waitsNumber ∷ []
 numbers (HandedOut p a) = handedOutNumber ∷ p ∷ a ∷ []
 numbers (Fault f n) = f ∷ n ∷ []
 numbers (Refused k) = k ∷ []
+numbers (RefusedAt k a) = k ∷ a ∷ []
 
 unfoldable pub heldNumbers : Held → List ℕ
 heldNumbers (Held.Has r) = doneNumber ∷ r .a ∷ r .s ∷ r .p ∷ r .z ∷ r .ci ∷ r .lr ∷ r .w ∷ []
 heldNumbers (Held.Refused k) = k ∷ []
+heldNumbers (Held.RefusedAt k a) = k ∷ a ∷ []
 
 unfoldable pub verdictNumbers : Verdict → List ℕ
 verdictNumbers Verdict.WellFormed = doneNumber ∷ []
 verdictNumbers (Verdict.Refused k) = k ∷ []
+verdictNumbers (Verdict.RefusedAt k a) = k ∷ a ∷ []
 
 module _ (S : Store) where
   -- what an instruction, fresh, an interrupt and setting registers give

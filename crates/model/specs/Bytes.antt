@@ -6,6 +6,7 @@ use Rattle.model.specs.declared.Registers.{Registers}
 use Rattle.model.specs.declared.Arguments.{Arguments}
 use Rattle.model.specs.declared.Held.{Held}
 use Rattle.model.specs.declared.Verdict.{Verdict}
+use Rattle.model.specs.declared.Finding.{Finding}
 use Rattle.model.specs.declared.Context.{Context}
 use Rattle.model.specs.Page.{Taken}
 use Rattle.model.specs.Mail.{Tested}
@@ -28,6 +29,8 @@ use Rattle.model.specs.Turn as Turn
 use Rattle.model.specs.Fresh as Fresh
 use Rattle.model.specs.Lists as Lists
 use Rattle.model.specs.Judge as Judge
+use Rattle.model.specs.Walks as Walks
+use Rattle.model.specs.Classes as Classes
 use Rattle.model.specs.Answer as Answer
 use Rattle.model.specs.Fault as Fault
 use Rattle.model.specs.Execute as Execute
@@ -38,10 +41,10 @@ Memory = bytes .M
 abbrev pub Step : Type 0
 Step = Answer.Step bytes
 
-abbrev pub refusal : Memory → ℕ
-refusal = Call.refusal bytes
+abbrev pub finding : Memory → Finding
+finding = Call.finding bytes
 
-abbrev pub head : {A : Type 0} → Memory → (ℕ → A) → Outcome A Memory → Outcome A Memory
+abbrev pub head : {A : Type 0} → Memory → (ℕ → A) → (ℕ → ℕ → A) → Outcome A Memory → Outcome A Memory
 head = Call.head bytes
 
 abbrev pub fresh : Memory → ℕ → ℕ → Step
@@ -544,6 +547,15 @@ wellFormed = Judge.wellFormed bytes
 
 abbrev pub judged : Memory → Bool
 judged = Judge.judged bytes
+
+abbrev pub path : ℕ → Memory → ℕ → ℕ → List ℕ
+path = Walks.path bytes
+
+abbrev pub met : Memory → Lists
+met = Walks.met bytes
+
+abbrev pub toldOf : Memory → Finding
+toldOf = Classes.toldOf bytes
 
 abbrev pub refused : Memory → ℕ → Step
 refused = Answer.refused bytes

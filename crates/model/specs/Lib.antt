@@ -20,6 +20,10 @@ pub mod Fresh
 pub mod Rule
 pub mod Lists
 pub mod Judge
+-- Say what is broken (document 02, 1/13)
+pub mod Walks
+pub mod Tell
+pub mod Classes
 -- Refusals and faults
 pub mod Answer
 pub mod Fault

@@ -1,7 +1,7 @@
 -- Fresh start and well-formed memory: "every control page is used once". Lists of pages, how often a number stands in them, and which cells
 -- head them.
 use Prim.Native.Nat.{ℕ, zero, suc, _+_, _*_}
-use mathlib.Core.Bool.{Bool, true, false, _&&_}
+use mathlib.Core.Bool.{Bool, true, false, cond, _&&_}
 use mathlib.Core.List.{List, [], _∷_, _++_}
 use lib.Dec.{leb, ltb, eqb}
 use Rattle.model.specs.Store.{Store}
@@ -68,7 +68,11 @@ queues ps = pageQueue ∷ (owns ps ++ range interrupts 2 (headerAfter 0))
 unfoldable pub isGrant : ℕ → Bool
 isGrant a = leb grants a && ltb a grantsEnd
 
+-- how far the list of a head goes: one page more than there are stands for a list that comes back on itself; a grant is one page
+unfoldable pub reach : ℕ → ℕ
+reach a = cond (isGrant a) 1 (suc controlPages)
+
 module _ (S : Store) where
-  -- the list of each head; one page more than there are stands for a list that comes back on itself
+  -- the list of each head
   unfoldable pub lists : S .M → Lists
   lists m a = elim (isGrant a) [ true ↦ some (at S m a) | false ↦ walk S (suc controlPages) m (linkOf a) a ]

@@ -44,25 +44,36 @@ pub struct Arguments {
     pub count: u8,
 }
 
-// What a call answers. Handed out: the program's address, and that of n+1 or of the arguments. Fault: its number, and the name.
+// What a call answers. Handed out: the program's address, and that of n+1 or of the arguments. Fault: its number, and the name. Refused: its
+// number, and with 30-34 the address.
 pub enum Answer {
     Done,
     Waits,
     HandedOut(u16, u16),
     Fault(u8, u8),
     Refused(u8),
+    RefusedAt(u8, u16),
 }
 
 // What reading the registers answers.
 pub enum Held {
     Has(Registers),
     Refused(u8),
+    RefusedAt(u8, u16),
 }
 
 // What the judge answers.
 pub enum Verdict {
     WellFormed,
     Refused(u8),
+    RefusedAt(u8, u16),
+}
+
+// What is found of a memory before a call goes on: nothing against it, a wrong length, or what is broken by its class and the lowest address.
+pub enum Finding {
+    Nothing,
+    WrongLength,
+    Broken(u8, u16),
 }
 
 impl ControlPage {
