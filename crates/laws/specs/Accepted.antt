@@ -39,7 +39,7 @@ pages-of : (xs : List ℕ) → ((z : ℕ) → 1 ≤ count z xs → (firstControl
 pages-of [] h = tt
 pages-of (x ∷ xs) h = let r = h x (omega (arith, hit-self x)) in ((r .0, omega arith), pages-of xs (λ z i. h z (omega arith)))
 
-page-or : (z : ℕ) → Page z ⊎ (one z ≡ 0)
+pub page-or : (z : ℕ) → Page z ⊎ (one z ≡ 0)
 page-or z = go (zero-or (one z))
   where
     go : (one z ≡ 0) ⊎ (1 ≤ one z) → Page z ⊎ (one z ≡ 0)
@@ -72,7 +72,7 @@ module _ (m : List ℕ) (ps : List ℕ) (L : Lists) (h : means (Judge.listed byt
       go (inr e) = omega (arith, sum-pos z L (queues ps) (λ a i. none z a e (in-queues ps a i)))
 
 -- the parts of two sentences that the invariant says in one
-sems : (m : List ℕ) (L : Lists) {ps : List ℕ} → ((k : ℕ) → k < interrupts → getD m (semaphoreAfter k) 0 ≡ less 0 (length (L (headerAfter k))))
+pub sems : (m : List ℕ) (L : Lists) {ps : List ℕ} → ((k : ℕ) → k < interrupts → getD m (semaphoreAfter k) 0 ≡ less 0 (length (L (headerAfter k))))
     → ((p : ℕ) → 1 ≤ count p ps → Page p) → ((p : ℕ) → 1 ≤ count p ps → word m p ownSemaphore ≡ less 0 (length (L (place p ownQueue))))
     → getD m freeSemaphore 0 ≡ less (length (L freeList)) (length (L pageQueue)) → (s : ℕ) → Seat ps s → getD m s 0 ≡ less (stock L s) (length (L (s + 1)))
 sems m L f pg g h s (line k i e) =
@@ -87,7 +87,7 @@ sems m L f pg g h s (own p i e) =
 abbrev pub MessageRule : ℕ → ℕ → Type 0
 MessageRule n w = ((1 ≤ upper n) × (upper n ≤ lastName)) × (((1 ≤ lower n) × (lower n ≤ lastFlag)) × (w ≢ notice → w ≤ longest))
 
-of-rule : {n w : ℕ} → MessageRule n w → Message n w
+pub of-rule : {n w : ℕ} → MessageRule n w → Message n w
 of-rule t = record { sender = t .0 .0; known = t .0 .1; flag = t .1 .0 .0; small = t .1 .0 .1; long = t .1 .1 }
 
 pub as-rule : {n w : ℕ} → Message n w → MessageRule n w

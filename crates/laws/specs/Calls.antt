@@ -13,6 +13,7 @@ use Rattle.model.specs.Map.{aWord, firstOuter, guardedEnd, guardedFrom, guarded
 use Rattle.model.specs.Map.{place}
 use Rattle.model.specs.Bytes.{running, fresh, instruction, interrupt, readRegisters, setRegisters, judge, judged, lr}
 use Rattle.model.specs.declared.Registers.{Registers}
+use Rattle.model.specs.declared.Finding.the-variants.{Nothing}
 use Rattle.model.specs.Address as Address
 use Rattle.model.specs.Address.{guarded}
 use Rattle.model.specs.Answer as Answer
@@ -25,6 +26,7 @@ use Rattle.model.specs.Call.{isOuter, isClass}
 use Rattle.model.specs.Processor.{inRange}
 use Rattle.model.specs.Bytes as Model
 use Rattle.laws.specs.Judged.{WellFormed}
+use Rattle.laws.specs.Findings.{well-found}
 use Rattle.laws.specs.Frames.{Kept, kept-keeps}
 use Rattle.laws.specs.Start.{Args, started-well}
 use Rattle.laws.specs.Words.{either, Small, small-started, small-delivered, small-turn, small-registers}
@@ -86,21 +88,14 @@ class-of k c h = go (ltb lastClass c) refl
     go true e = let d = rw e at h in let z : _≡_ {A = ℕ} 0 1 = cc in absurd (omega arith)
     go false e = let a = ltb-false lastClass c e in omega arith
 
--- ---- the head of a call: a refusal, on the memory as it was, or what the call does
-pub head-each : {A : Type 0} (P : Outcome A (List ℕ) → Type 0) (m : List ℕ) (refuses : ℕ → A) (o : Outcome A (List ℕ)) → ((k : ℕ) → P (gives (refuses k) m))
-    → P o → P (Model.head m refuses o)
-unfolding Call.head
-head-each P m refuses o h k = either P (eqb (Model.refusal m) 0) k (h (Model.refusal m))
-
 -- ---- the calls
 module _ {m : List ℕ} (h : Sound m) where
   size-is : eqb (length m) memorySize ≡ true
   size-is = eq-eqb (length m) memorySize (h .size)
 
   -- nothing refuses it from the start
-  pub unrefused : Model.refusal m ≡ 0
-  unfolding Call.refusal
-  unrefused = rw (size-is, h .accepted)
+  pub unrefused : Model.finding m ≡ Nothing
+  unrefused = well-found (well h)
 
   pub fresh-sound : (line d : ℕ) → Sound (memoryOf (fresh m line d))
   unfolding Call.fresh Answer.memoryOf

@@ -6,19 +6,19 @@ use mathlib.Core.Bool.{Bool, true, false, cond}
 use mathlib.Core.List.{List, [], _∷_}
 use Prim.Native.Nat.{ℕ, _+_, _≤_}
 use native.Mathlib.Omega.{arith}
-use lib.ListN.{set}
+use lib.ListN.{length, set}
 use lib.Dec.{eqb, ltb}
 use borrow.Author.Tests.{eqb-true, eqb-false}
-use Rattle.model.specs.declared.Answer.{Answer}
-use Rattle.model.specs.declared.Answer.the-variants.{Fault, Refused}
+use Rattle.model.specs.declared.Finding.{Finding}
+use Rattle.model.specs.declared.Finding.the-variants.{Nothing, WrongLength, Broken}
 use Rattle.model.specs.Map.{place, pair, state, stopSet, firstUnused, entryAt, entriesFull, lastFault, processorList, runningPage}
 use Rattle.model.specs.Processor as Processor
 use Rattle.model.specs.Fault as Faults
 use Rattle.model.specs.Answer as Answer
-use Rattle.model.specs.Answer.{answerOf, idle, memoryOf, numbers}
+use Rattle.model.specs.Answer.{answerOf, idle, memoryOf, numbers, wrongLength}
 use Rattle.model.specs.Call as Call
 use Rattle.model.specs.Bytes as Model
-use Rattle.model.specs.Bytes.{lists, instruction, refusal, running, name, at, word, write, store, whoRuns, chosen}
+use Rattle.model.specs.Bytes.{lists, instruction, finding, running, name, at, word, write, store, whoRuns, chosen}
 use Rattle.laws.specs.Chain.{Page}
 use Rattle.laws.specs.Uses.{proc-page}
 use Rattle.laws.specs.Inv.{Base, View, noOne, view}
@@ -28,8 +28,9 @@ use Rattle.laws.specs.Judged.{WellFormed, invariant}
 use Rattle.laws.specs.Who.{chosen-in}
 use Rattle.laws.specs.Ends.{run-page, fault-base}
 use Rattle.laws.specs.Turns.{Turned, who-turns}
-use Rattle.laws.specs.Refusals.{instruction-faults}
-use Rattle.laws.specs.Numbers.{Proper, told, proper-told, instruction-proper, accepted}
+use Rattle.laws.specs.Findings.{found-well, found-broken}
+use Rattle.laws.specs.Kinds.{instruction-kind}
+use Rattle.laws.specs.Refusals.{first-number, kind-fault}
 
 -- ---- the memory with the processor that runs stopped, and with fault f of name n entered while page 9 has room
 abbrev pub halted : List ℕ → List ℕ
@@ -53,56 +54,30 @@ pub record Faulted (m : List ℕ) (f n : ℕ) (m′ : List ℕ) : Type 0 where
   pub stays : running m ≡ chosen (recorded m f n) → m′ ≡ recorded m f n
   pub turns : running m ≢ chosen (recorded m f n) → Turned (recorded m f n) m′ (running m) (chosen (recorded m f n))
 
--- ---- what the answer tells
-fault-of : (a : Answer) (f n : ℕ) → Proper a → numbers a ≡ f ∷ n ∷ [] → a ≡ Fault f n
-unfolding told
-fault-of a f n p e = sym (proper-told a p) ∙ ap told e
+-- ---- who faults runs, on a memory that is well-formed
+two : (k f n : ℕ) → _≡_ {A = List ℕ} (k ∷ []) (f ∷ n ∷ []) → ⊥
+two k f n e = let z = ap length e in omega arith
 
-range-of : (a : Answer) (f n : ℕ) → Proper a → a ≡ Fault f n → (1 ≤ f) × (f ≤ lastFault)
-range-of _ f n Proper.done e = let z : _≡_ {A = ℕ} 0 1 = cc in absurd (omega arith)
-range-of _ f n Proper.waits e = let z : _≡_ {A = ℕ} 0 1 = cc in absurd (omega arith)
-range-of _ f n (Proper.handed p a) e = let z : _≡_ {A = ℕ} 0 1 = cc in absurd (omega arith)
-range-of _ f n (Proper.fault g k l u) e = let z : g ≡ f = cc in (omega arith, omega arith)
-range-of _ f n (Proper.refused k l u) e = let z : _≡_ {A = ℕ} 0 1 = cc in absurd (omega arith)
-
-not-refused : (k f n : ℕ) → Refused k ≡ Fault f n → ⊥
-not-refused k f n e = let z : _≡_ {A = ℕ} 0 1 = cc in omega arith
-
-fault-open : (m : List ℕ) (f n : ℕ) → answerOf (instruction m) ≡ Fault f n → (refusal m ≡ 0) × (running m ≢ 0)
-unfolding Call.instruction Call.instructionJudged Call.head Answer.answerOf
-fault-open m f n = go (eqb (refusal m) 0) (eqb (running m) 0) refl refl
+fault-open : (m : List ℕ) (f n : ℕ) → numbers (answerOf (instruction m)) ≡ f ∷ n ∷ [] → f ≤ lastFault → WellFormed m × (running m ≢ 0)
+unfolding Call.instruction Call.instructionJudged Call.head Answer.answerOf Answer.numbers
+fault-open m f n q l = go (finding m) (eqb (running m) 0) refl refl
   where
-    go : (x y : Bool) → eqb (refusal m) 0 ≡ x → eqb (running m) 0 ≡ y → answerOf (instruction m) ≡ Fault f n → (refusal m ≡ 0) × (running m ≢ 0)
-    go false y e g h = absurd (not-refused (refusal m) f n (rw e at h))
-    go true true e g h = absurd (not-refused idle f n (rw (e, g) at h))
-    go true false e g h = (eqb-true (refusal m) 0 e, eqb-false (running m) 0 g)
-
-name-of : (m : List ℕ) (f n : ℕ) → answerOf (Model.fault m f) ≡ Fault f n → n ≡ name m (running m)
-unfolding Faults.fault Answer.answerOf
-name-of m f n e = cc
+    go : (g : Finding) (y : Bool) → finding m ≡ g → eqb (running m) 0 ≡ y → WellFormed m × (running m ≢ 0)
+    go WrongLength y e h = absurd (two wrongLength f n (rw e at q))
+    go (Broken k a) y e h = let z = first-number (rw e at q) in absurd (omega (arith, found-broken e .2 .from))
+    go Nothing true e h = absurd (two idle f n (rw (e, h) at q))
+    go Nothing false e h = (found-well e, eqb-false (running m) 0 h)
 
 -- ---- the theorem
-module _ (m : List ℕ) (f n : ℕ) (e : numbers (answerOf (instruction m)) ≡ f ∷ n ∷ []) where
-  is : answerOf (instruction m) ≡ Fault f n
-  is = fault-of (answerOf (instruction m)) f n (instruction-proper m) e
-
-  range : (1 ≤ f) × (f ≤ lastFault)
-  range = range-of (answerOf (instruction m)) f n (instruction-proper m) is
-
-  w : WellFormed m
-  w = accepted m (fault-open m f n is .0)
-
-  step : instruction m ≡ Model.fault m f
-  step = instruction-faults m f n is
-
-  by : n ≡ name m (running m)
-  by = name-of m f n (sym (ap (λ (o : Model.Step). answerOf o) step) ∙ is)
+module _ (m : List ℕ) (f n : ℕ) (e : numbers (answerOf (instruction m)) ≡ f ∷ n ∷ []) (top : f ≤ lastFault) where
+  is : (instruction m ≡ Model.fault m f) × (1 ≤ f) × (n ≡ name m (running m))
+  is = kind-fault (instruction m) (instruction-kind m) f n e top
 
   b : Base m (lists m processorList) (lists m) (view m) [] noOne
-  b = invariant w .base
+  b = invariant (fault-open m f n e top .0) .base
 
   runs : running m ≢ 0
-  runs = fault-open m f n is .1
+  runs = fault-open m f n e top .1
 
   page : Page (running m)
   page = run-page b runs
@@ -112,14 +87,14 @@ module _ (m : List ℕ) (f n : ℕ) (e : numbers (answerOf (instruction m)) ≡ 
 
   recorded-is : Model.entered (Model.stop m (running m)) (pair (name m (running m)) f) ≡ recorded m f n
   unfolding Faults.entered Processor.stop
-  recorded-is = rw (next-same, ← by)
+  recorded-is = rw (next-same, ← (is .2))
 
   memory-is : memoryOf (instruction m) ≡ whoRuns (recorded m f n)
   unfolding Faults.fault Answer.memoryOf
-  memory-is = ap (λ (o : Model.Step). memoryOf o) step ∙ ap whoRuns recorded-is
+  memory-is = ap (λ (o : Model.Step). memoryOf o) (is .0) ∙ ap whoRuns recorded-is
 
   after : (X : View) × Base (recorded m f n) (lists m processorList) (lists m) X [] noOne
-  after = rw recorded-is at (fault-base b f runs (range .0) (range .1))
+  after = rw recorded-is at (fault-base b f runs (is .1) top)
 
   run-same : running (recorded m f n) ≡ running m
   run-same =
@@ -137,9 +112,9 @@ module _ (m : List ℕ) (f n : ℕ) (e : numbers (answerOf (instruction m)) ≡ 
 
   pub faulted : Faulted m f n (memoryOf (instruction m))
   faulted = record {
-    named = by;
-    low = range .0;
-    high = range .1;
+    named = is .2;
+    low = is .1;
+    high = top;
     memory = memory-is;
     stays = λ q. memory-is ∙ turn .0 (run-same ∙ q);
     turns = λ d. rw memory-is (rw run-same at (turn .1 (λ q. d (sym run-same ∙ q))));

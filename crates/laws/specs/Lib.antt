@@ -5,6 +5,7 @@ pub mod Chain
 pub mod Queues
 pub mod Rules
 pub mod Sentences
+pub mod Tells
 -- Words of 8 bits, on any memory
 pub mod Words
 -- The tests of each instruction, and its ways out
@@ -12,12 +13,18 @@ pub mod Ways
 -- Which cells head a list, and that no page has two uses
 pub mod Heads
 pub mod Uses
+pub mod Met
 pub mod Places
 pub mod Members
 -- The invariant, and that the judge says the same
 pub mod Inv
 pub mod Accepted
 pub mod Judged
+-- What is told of a memory that it refuses
+pub mod Cleared
+pub mod Clears
+pub mod Addresses
+pub mod Findings
 -- Stores: what they leave, what the memory then holds, which sentences stay
 pub mod Frames
 pub mod Views

@@ -1,254 +1,84 @@
--- Refusals and faults: "Refusals leave all memory untouched", for each call and each number, on any memory; and a well-formed memory is never refused
--- with 21. Assumes nothing.
+-- Refusals and faults: "The answer gives its number". What the numbers of an answer say of the step, of every call that may write, on any memory: "Refusals
+-- leave all memory untouched", a fault is the one step on the memory as it was, an own code is handed out and leaves it. Assumes nothing.
 use mathlib.Core.Path.{_≡_, refl, sym, ap, _∙_}
-use mathlib.Core.Logic.{_≢_}
-use mathlib.Core.Bool.{true}
-use mathlib.Core.List.{List}
+use mathlib.Core.List.{List, [], _∷_}
 use Prim.Native.Nat.{ℕ, _≤_}
 use native.Mathlib.Omega.{arith}
 use lib.ListN.{length}
-use lib.Dec.{eqb}
-use borrow.Author.Tests.{eq-eqb}
-use Rattle.model.specs.Map.{memorySize}
-use Rattle.model.specs.Bytes.{running, Step, fresh, instruction, interrupt, readRegisters, setRegisters, judge, lr}
-use Rattle.model.specs.declared.Registers.{Registers}
+use Rattle.model.specs.Map.{lastFault}
 use Rattle.model.specs.declared.Answer.{Answer}
-use Rattle.model.specs.declared.Answer.the-variants.{Done, Waits, HandedOut, Fault, Refused}
-use Rattle.model.specs.declared.Held.{Held}
-use Rattle.model.specs.declared.Held.the-variants as Held
-use Rattle.model.specs.declared.Verdict.{Verdict}
-use Rattle.model.specs.declared.Verdict.the-variants as Verdict
-use Rattle.model.specs.Processor.{inRange}
+use Rattle.model.specs.declared.Answer.the-variants.{Done, Waits, HandedOut, Fault, Refused, RefusedAt}
+use Rattle.model.specs.declared.Finding.the-variants.{Broken}
 use Rattle.model.specs.Answer as Answer
-use Rattle.model.specs.Answer.{answerOf, illFormed, memoryOf, noInterrupt, outOfRange, wrongClass, wrongLength}
+use Rattle.model.specs.Answer.{answerOf, memoryOf, numbers, brokenCounters, brokenPages, handedOutNumber, outOfRange, wrongLength}
 use Rattle.model.specs.Answer.Outcome.{gives}
 use Rattle.model.specs.Fault as Faults
-use Rattle.model.specs.Fresh.{startable}
-use Rattle.model.specs.Call as Call
-use Rattle.model.specs.Call.{isOuter, isClass}
 use Rattle.model.specs.Bytes as Model
-use Rattle.laws.specs.Words.{either}
-use Rattle.laws.specs.Kinds.{Kind, fetched-kind}
-use Rattle.laws.specs.Kinds.Kind.{done, waits, handed, faulted, refused}
-use Rattle.laws.specs.Calls.{Sound, head-each, unrefused}
+use Rattle.model.specs.Bytes.{Step, finding}
+use Rattle.laws.specs.Findings.{found-broken}
+use Rattle.laws.specs.Kinds.{Kind}
+use Rattle.laws.specs.Kinds.Kind.{done, waits, handed, faulted, refused, told}
 
--- ---- a refusal with number k leaves the memory m
-abbrev pub Kept : List ℕ → ℕ → Step → Type 0
-Kept m k o = answerOf o ≡ Refused k → memoryOf o ≡ m
+-- refusals are 20-26, and 30-34 with an address
+abbrev pub firstRefusal : ℕ
+firstRefusal = wrongLength
 
-same : (m : List ℕ) (k j : ℕ) → Kept m k (Model.refused m j)
-unfolding Answer.answerOf Answer.memoryOf
-same m k j e = refl
+abbrev pub lastRefusal : ℕ
+lastRefusal = brokenCounters
 
-changed : (m m′ : List ℕ) (k : ℕ) → Kept m k (gives Done m′)
-unfolding Answer.answerOf Answer.memoryOf
-changed m m′ k e = absurd (no e)
-  where
-    no : Done ≡ Refused k → ⊥
-    no q = let z : _≡_ {A = ℕ} 0 1 = cc in omega arith
+pub first-number : {j k : ℕ} {ns ms : List ℕ} → _≡_ {A = List ℕ} (j ∷ ns) (k ∷ ms) → j ≡ k
+first-number e = cc
 
-kind-kept : (m : List ℕ) (k : ℕ) (o : Step) → Kind m o → Kept m k o
-unfolding Answer.answerOf Answer.memoryOf Faults.fault
-kind-kept m k o (done e) q = absurd (no (sym e ∙ q))
-  where
-    no : Done ≡ Refused k → ⊥
-    no q = let z : _≡_ {A = ℕ} 0 1 = cc in omega arith
-kind-kept m k o (waits e) q = absurd (no (sym e ∙ q))
-  where
-    no : Waits ≡ Refused k → ⊥
-    no q = let z : _≡_ {A = ℕ} 0 1 = cc in omega arith
-kind-kept m k o (handed p a e) q = rw e
-kind-kept m k o (faulted f i j e) q = absurd (no (rw e at q))
-  where
-    no : answerOf (Model.fault m f) ≡ Refused k → ⊥
-    no q = let z : _≡_ {A = ℕ} 0 1 = cc in omega arith
-kind-kept m k o (refused j l u e) q = rw e
+module _ {m : List ℕ} (o : Step) where
+  -- a number of a refusal: the memory is as it was
+  pub kind-kept : Kind m o → (k : ℕ) (ns : List ℕ) → firstRefusal ≤ k → k ≤ lastRefusal → numbers (answerOf o) ≡ k ∷ ns → memoryOf o ≡ m
+  unfolding Answer.numbers Answer.answerOf Answer.memoryOf Faults.fault
+  kind-kept (done e) k ns l u q = let z = first-number (rw e at q) in absurd (omega arith)
+  kind-kept (waits e) k ns l u q = let z = first-number (rw e at q) in absurd (omega arith)
+  kind-kept (handed p a e) k ns l u q = rw e
+  kind-kept (faulted f i j e) k ns l u q = let z = first-number (rw e at q) in absurd (omega arith)
+  kind-kept (refused j i h e) k ns l u q = rw e
+  kind-kept (told j a f e) k ns l u q = rw e
 
-pub instruction-kept : (m : List ℕ) (k : ℕ) → Kept m k (instruction m)
-unfolding Call.instruction Call.instructionJudged
-instruction-kept m k =
-    head-each (Kept m k) m Refused _ (same m k) (either (Kept m k) (eqb (running m) 0) (same m k Answer.idle)
-    (kind-kept m k (Model.fetched m (lr m)) (fetched-kind m (lr m))))
+  -- an own code's number
+  pub kind-hands : Kind m o → (p a : ℕ) → numbers (answerOf o) ≡ handedOutNumber ∷ p ∷ a ∷ [] → memoryOf o ≡ m
+  unfolding Answer.numbers Answer.answerOf Answer.memoryOf Faults.fault
+  kind-hands (done e) p a q = let z = first-number (rw e at q) in absurd (omega arith)
+  kind-hands (waits e) p a q = let z = first-number (rw e at q) in absurd (omega arith)
+  kind-hands (handed b c e) p a q = rw e
+  kind-hands (faulted f i j e) p a q = let z = first-number (rw e at q) in absurd (omega arith)
+  kind-hands (refused j i h e) p a q = rw e
+  kind-hands (told j b f e) p a q = rw e
 
-pub fresh-kept : (m : List ℕ) (line d k : ℕ) → Kept m k (fresh m line d)
-unfolding Call.fresh
-fresh-kept m line d k =
-    either (Kept m k) (eqb (length m) memorySize) (either (Kept m k) (startable line d) (changed m (Model.started m line d) k) (same m k outOfRange))
-    (same m k wrongLength)
-
-pub interrupt-kept : (m : List ℕ) (n c k : ℕ) → Kept m k (interrupt m n c)
-unfolding Call.interrupt Call.interruptJudged
-interrupt-kept m n c k =
-    head-each (Kept m k) m Refused _ (same m k) (either (Kept m k) (isOuter n) (either (Kept m k) (isClass n c)
-    (changed m (Model.whoRuns (Model.delivered m n c)) k) (same m k wrongClass)) (same m k noInterrupt))
-
-pub set-kept : (m : List ℕ) (r : Registers) (k : ℕ) → Kept m k (setRegisters m r)
-unfolding Call.setRegisters Call.setJudged
-set-kept m r k =
-    head-each (Kept m k) m Refused _ (same m k) (either (Kept m k) (eqb (running m) 0) (same m k Answer.idle)
-    (either (Kept m k) (inRange r) (changed m (Model.setRegistersOf m (running m) r) k) (same m k outOfRange)))
-
--- ---- an instruction that faults is the one step, on the memory as it was
-abbrev pub Faulted : List ℕ → ℕ → ℕ → Step → Type 0
-Faulted m f n o = answerOf o ≡ Fault f n → o ≡ Model.fault m f
-
-not-fault : (m : List ℕ) (f n k : ℕ) → Faulted m f n (Model.refused m k)
-unfolding Answer.answerOf
-not-fault m f n k q = absurd (no q)
-  where
-    no : Refused k ≡ Fault f n → ⊥
-    no q = let z : _≡_ {A = ℕ} 0 1 = cc in omega arith
-
-kind-fault : (m : List ℕ) (f n : ℕ) (o : Step) → Kind m o → Faulted m f n o
-unfolding Answer.answerOf Faults.fault
-kind-fault m f n o (done e) q = absurd (no (sym e ∙ q))
-  where
-    no : Done ≡ Fault f n → ⊥
-    no q = let z : _≡_ {A = ℕ} 0 1 = cc in omega arith
-kind-fault m f n o (waits e) q = absurd (no (sym e ∙ q))
-  where
-    no : Waits ≡ Fault f n → ⊥
-    no q = let z : _≡_ {A = ℕ} 0 1 = cc in omega arith
-kind-fault m f n o (handed p a e) q = absurd (no (rw e at q))
-  where
-    no : HandedOut p a ≡ Fault f n → ⊥
-    no q = let z : _≡_ {A = ℕ} 0 1 = cc in omega arith
-kind-fault m f n o (faulted j i l e) q = e ∙ ap (λ (x : ℕ). Model.fault m x) (number (rw e at q))
-  where
-    number : answerOf (Model.fault m j) ≡ Fault f n → j ≡ f
-    number q = cc
-kind-fault m f n o (refused j l u e) q = absurd (no (rw e at q))
-  where
-    no : Refused j ≡ Fault f n → ⊥
-    no q = let z : _≡_ {A = ℕ} 0 1 = cc in omega arith
-
-pub instruction-faults : (m : List ℕ) (f n : ℕ) → Faulted m f n (instruction m)
-unfolding Call.instruction Call.instructionJudged
-instruction-faults m f n =
-    head-each (Faulted m f n) m Refused _ (not-fault m f n) (either (Faulted m f n) (eqb (running m) 0) (not-fault m f n Answer.idle)
-    (kind-fault m f n (Model.fetched m (lr m)) (fetched-kind m (lr m))))
-
--- ---- an own code handed out leaves the memory
-abbrev pub Hands : List ℕ → ℕ → ℕ → Step → Type 0
-Hands m p a o = answerOf o ≡ HandedOut p a → memoryOf o ≡ m
-
-not-handed : (m : List ℕ) (p a k : ℕ) → Hands m p a (Model.refused m k)
-unfolding Answer.memoryOf
-not-handed m p a k q = refl
-
-kind-hands : (m : List ℕ) (p a : ℕ) (o : Step) → Kind m o → Hands m p a o
-unfolding Answer.answerOf Answer.memoryOf Faults.fault
-kind-hands m p a o (done e) q = absurd (no (sym e ∙ q))
-  where
-    no : Done ≡ HandedOut p a → ⊥
-    no q = let z : _≡_ {A = ℕ} 0 1 = cc in omega arith
-kind-hands m p a o (waits e) q = absurd (no (sym e ∙ q))
-  where
-    no : Waits ≡ HandedOut p a → ⊥
-    no q = let z : _≡_ {A = ℕ} 0 1 = cc in omega arith
-kind-hands m p a o (handed b c e) q = rw e
-kind-hands m p a o (faulted f i j e) q = absurd (no (rw e at q))
-  where
-    no : answerOf (Model.fault m f) ≡ HandedOut p a → ⊥
-    no q = let z : _≡_ {A = ℕ} 0 1 = cc in omega arith
-kind-hands m p a o (refused j l u e) q = rw e
-
-pub instruction-hands : (m : List ℕ) (p a : ℕ) → Hands m p a (instruction m)
-unfolding Call.instruction Call.instructionJudged
-instruction-hands m p a =
-    head-each (Hands m p a) m Refused _ (not-handed m p a) (either (Hands m p a) (eqb (running m) 0) (not-handed m p a 22)
-    (kind-hands m p a (Model.fetched m (lr m)) (fetched-kind m (lr m))))
-
--- reading and judging never write
-pub read-kept : (m : List ℕ) → memoryOf (readRegisters m) ≡ m
-unfolding Call.readRegisters Call.readJudged Answer.memoryOf
-read-kept m =
-    let P : Answer.Outcome Held (List ℕ) → Type 0 = λ o. memoryOf o ≡ m in
-    head-each P m Held.Refused _ (λ k. refl) (either P (eqb (running m) 0) refl refl)
-
-pub judge-kept : (m : List ℕ) → memoryOf (judge m) ≡ m
-unfolding Call.judge Answer.memoryOf
-judge-kept m =
-    let P : Answer.Outcome Verdict (List ℕ) → Type 0 = λ o. memoryOf o ≡ m in
-    head-each P m Verdict.Refused _ (λ k. refl) refl
-
--- ---- a well-formed memory is not refused with 21
-abbrev pub Never : Step → Type 0
-Never o = answerOf o ≢ Refused illFormed
-
-other-number : (m : List ℕ) (k : ℕ) → Answer.idle ≤ k → Never (Model.refused m k)
-unfolding Answer.answerOf
-other-number m k l e = clash (refused-is k illFormed e)
-  where
-    refused-is : (a b : ℕ) → Refused a ≡ Refused b → a ≡ b
-    refused-is a b q = cc
-
-    clash : k ≡ illFormed → ⊥
-    clash q = omega arith
-
-a-done : (m : List ℕ) → Never (gives Done m)
-unfolding Answer.answerOf
-a-done m e = let z : _≡_ {A = ℕ} 0 1 = cc in omega arith
-
-kind-never : (m : List ℕ) (o : Step) → Kind m o → Never o
-unfolding Answer.answerOf Faults.fault
-kind-never m o (done e) q = no (sym e ∙ q)
-  where
-    no : Done ≡ Refused illFormed → ⊥
-    no q = let z : _≡_ {A = ℕ} 0 1 = cc in omega arith
-kind-never m o (waits e) q = no (sym e ∙ q)
-  where
-    no : Waits ≡ Refused illFormed → ⊥
-    no q = let z : _≡_ {A = ℕ} 0 1 = cc in omega arith
-kind-never m o (handed p a e) q = no (rw e at q)
-  where
-    no : HandedOut p a ≡ Refused illFormed → ⊥
-    no q = let z : _≡_ {A = ℕ} 0 1 = cc in omega arith
-kind-never m o (faulted f i j e) q = no (rw e at q)
-  where
-    no : answerOf (Model.fault m f) ≡ Refused illFormed → ⊥
-    no q = let z : _≡_ {A = ℕ} 0 1 = cc in omega arith
-kind-never m o (refused j l u e) q = other-number m j l (rw e at q)
-
-module _ {m : List ℕ} (h : Sound m) where
-  size-is : eqb (length m) memorySize ≡ true
-  size-is = eq-eqb (length m) memorySize (h .size)
-
-  pub instruction-never : Never (instruction m)
-  unfolding Call.head Call.instruction Call.instructionJudged
-  instruction-never =
-      rw (unrefused h) (either Never (eqb (running m) 0) (other-number m Answer.idle (omega arith)) (kind-never m (Model.fetched m (lr m))
-      (fetched-kind m (lr m))))
-
-  pub fresh-never : (line d : ℕ) → Never (fresh m line d)
-  unfolding Call.fresh
-  fresh-never line d = rw size-is (either Never (startable line d) (a-done (Model.started m line d)) (other-number m outOfRange (omega arith)))
-
-  pub interrupt-never : (n c : ℕ) → Never (interrupt m n c)
-  unfolding Call.head Call.interrupt Call.interruptJudged
-  interrupt-never n c =
-      rw (unrefused h) (either Never (isOuter n) (either Never (isClass n c) (a-done (Model.whoRuns (Model.delivered m n c))) (other-number m wrongClass
-      (omega arith)))
-      (other-number m noInterrupt (omega arith)))
-
-  pub set-never : (r : Registers) → Never (setRegisters m r)
-  unfolding Call.head Call.setRegisters Call.setJudged
-  set-never r =
-      rw (unrefused h) (either Never (eqb (running m) 0) (other-number m Answer.idle (omega arith))
-      (either Never (inRange r) (a-done (Model.setRegistersOf m (running m) r)) (other-number m outOfRange (omega arith))))
-
-  pub read-never : answerOf (readRegisters m) ≢ Held.Refused illFormed
-  unfolding Call.head Call.readRegisters Call.readJudged Answer.answerOf
-  read-never =
-      let P : Answer.Outcome Held (List ℕ) → Type 0 = λ o. answerOf o ≢ Held.Refused illFormed in
-      rw (unrefused h) (either P (eqb (running m) 0) idle has)
+  -- a fault's number: it is that fault, by the one who runs
+  pub kind-fault : Kind m o → (f n : ℕ) → numbers (answerOf o) ≡ f ∷ n ∷ [] → f ≤ lastFault
+      → (o ≡ Model.fault m f) × (1 ≤ f) × (n ≡ Model.name m (Model.running m))
+  unfolding Answer.numbers Answer.answerOf Faults.fault
+  kind-fault (done e) f n q l = let z = lengths (rw e at q) in absurd (omega arith)
     where
-      idle : Held.Refused Answer.idle ≢ Held.Refused illFormed
-      idle e = let z : _≡_ {A = ℕ} Answer.idle illFormed = cc in omega arith
+      lengths : _≡_ {A = List ℕ} (0 ∷ []) (f ∷ n ∷ []) → _≡_ {A = ℕ} 1 2
+      lengths e = ap length e
+  kind-fault (waits e) f n q l = let z = first-number (rw e at q) in absurd (omega arith)
+  kind-fault (handed b c e) f n q l = let z = first-number (rw e at q) in absurd (omega arith)
+  kind-fault (faulted g i j e) f n q l =
+      let x = rw e at q in
+      let z : g ≡ f = first-number x in
+      (e ∙ ap (λ (y : ℕ). Model.fault m y) z, omega arith, second x)
+    where
+      second : {a b c d : ℕ} → _≡_ {A = List ℕ} (a ∷ b ∷ []) (c ∷ d ∷ []) → d ≡ b
+      second e = cc
+  kind-fault (refused j i h e) f n q l = let z = first-number (rw e at q) in absurd (omega arith)
+  kind-fault (told j b g e) f n q l = let z = first-number (rw e at q) in let r = found-broken g .2 in absurd (omega (arith, r .from))
 
-      has : Held.Has (Model.registersOf m (running m)) ≢ Held.Refused illFormed
-      has e = let z : _≡_ {A = ℕ} 0 1 = cc in omega arith
-
-  pub judge-accepts : answerOf (judge m) ≡ Verdict.WellFormed
-  unfolding Call.head Call.judge Answer.answerOf
-  judge-accepts = rw (unrefused h)
+  -- a class and an address: so the memory was found
+  pub kind-told : Kind m o → (k a : ℕ) → numbers (answerOf o) ≡ k ∷ a ∷ [] → brokenPages ≤ k → k ≤ brokenCounters → finding m ≡ Broken k a
+  unfolding Answer.numbers Answer.answerOf Faults.fault
+  kind-told (done e) k a q l u = let z = first-number (rw e at q) in absurd (omega arith)
+  kind-told (waits e) k a q l u = let z = first-number (rw e at q) in absurd (omega arith)
+  kind-told (handed b c e) k a q l u = let z = first-number (rw e at q) in absurd (omega arith)
+  kind-told (faulted f i j e) k a q l u = let z = first-number (rw e at q) in absurd (omega arith)
+  kind-told (refused j i h e) k a q l u = let z = first-number (rw e at q) in absurd (omega arith)
+  kind-told (told j b g e) k a q l u = let x = rw e at q in g ∙ both x
+    where
+      both : _≡_ {A = List ℕ} (j ∷ b ∷ []) (k ∷ a ∷ []) → Broken j b ≡ Broken k a
+      both e = cc

@@ -44,6 +44,9 @@ Step = Answer.Step bytes
 abbrev pub finding : Memory → Finding
 finding = Call.finding bytes
 
+abbrev pub heeds : {A : Type 0} → Finding → Memory → (ℕ → A) → (ℕ → ℕ → A) → Outcome A Memory → Outcome A Memory
+heeds = Call.heeds bytes
+
 abbrev pub head : {A : Type 0} → Memory → (ℕ → A) → (ℕ → ℕ → A) → Outcome A Memory → Outcome A Memory
 head = Call.head bytes
 

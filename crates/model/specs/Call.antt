@@ -38,9 +38,13 @@ module _ (S : Store) where
       (toldOf S m)
 
   -- the head of every call but fresh: refused by its own answer, else it goes on
+  abbrev pub heeds : {A : Type 0} → Finding → S .M → (ℕ → A) → (ℕ → ℕ → A) → Outcome A (S .M) → Outcome A (S .M)
+  heeds Nothing m refuses tells goes = goes
+  heeds WrongLength m refuses tells goes = gives (refuses wrongLength) m
+  heeds (Broken n a) m refuses tells goes = gives (tells n a) m
+
   unfoldable pub head : {A : Type 0} → S .M → (ℕ → A) → (ℕ → ℕ → A) → Outcome A (S .M) → Outcome A (S .M)
-  head m refuses tells goes =
-      elim (finding m) [ Nothing ↦ goes | WrongLength ↦ gives (refuses wrongLength) m | Broken n a ↦ gives (tells n a) m ]
+  head m refuses tells goes = heeds (finding m) m refuses tells goes
 
   -- ---- "fresh start": 20, then 26
   unfoldable pub fresh : S .M → ℕ → ℕ → Step S

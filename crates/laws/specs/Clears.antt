@@ -1,0 +1,370 @@
+-- Say what is broken: where the judge accepts, no class has an offending address. So the five are given exactly where 21 was. Assumes nothing.
+use mathlib.Core.Path.{_≡_, refl, sym, ap, _∙_}
+use mathlib.Core.Logic.{_≢_, _⊎_, inl, inr}
+use mathlib.Core.Bool.{Bool, true, false}
+use mathlib.Core.List.{List, [], _∷_}
+use Prim.Native.Nat.{ℕ, suc, _+_, _-_, _*_, _/_, _%_, _≤_, _<_}
+use native.Mathlib.Omega.{arith}
+use lib.ListN.{length, getD}
+use lib.Dec.{eqb}
+use borrow.Author.Tests.{ne-eqb}
+use Rattle.model.specs.Store.{bytes}
+use Rattle.model.specs.Map.{less}
+use Rattle.model.specs.Mail.{fits}
+use Rattle.model.specs.Bytes.{lists, judged}
+use Rattle.model.specs.Lists.{count, Lists, sum, some, linkOf, range, mails, owns, uses, queues, isGrant}
+use Rattle.model.specs.Judge as Judge
+use Rattle.model.specs.declared.Finding.the-variants.{Nothing}
+use Rattle.model.specs.Classes as Classes
+use Rattle.model.specs.Walks as Walks
+use Rattle.model.specs.Walks.{lastCell, gather}
+use Rattle.model.specs.Classes.{chains, holders, used, controls, lines}
+use Rattle.laws.specs.Count.{hit-self, hit-other, hit-or, count-append, zero-or}
+use Rattle.laws.specs.Tells.{Means, Clear, clear-means-in, means-clear-in, first-clear, clear-first}
+use Rattle.laws.specs.Heads.{one, page-one, sum-ext, range1-of, range2-of, mails-of, owns-of, Place, queues-place}
+use Rattle.laws.specs.Heads.Place.{int, three, grant, slot}
+use Rattle.laws.specs.Uses.{Among, Sep, proc-page, list-short}
+use Rattle.laws.specs.Met.{met, Pointer, met-path, met-some, met-none, some-pos, path-chain, chain-last, gather-of, used-uses, spare}
+use Rattle.laws.specs.Places.{in-uses, in-queues, in-procs, in-free, in-asking, in-own, in-q, in-grant, int-queue, grant-is, grant-of, grant-low, grant-high, all-pages}
+use Rattle.laws.specs.Places.{own-once, asking-once}
+use Rattle.laws.specs.Inv.{view, bearers, stock-page, stock-else, Facts, Inv}
+use Rattle.laws.specs.Accepted.{MessageRule, as-rule, judge-inv}
+use Rattle.laws.specs.Judged.{inv-judge}
+use Rattle.laws.specs.Cleared.{bearer-of, spare-grant, Clean, clean-inv}
+
+-- the one of a list of one
+only-one : (a x : ℕ) → 1 ≤ count a (x ∷ []) → a ≡ x
+only-one a x h = go (hit-or a x)
+  where
+    go : (a ≡ x) ⊎ (a ≢ x) → a ≡ x
+    go (inl e) = e
+    go (inr n) = absurd (omega (arith, hit-other a x n))
+
+module _ (m : List ℕ) (ps : List ℕ) (L : Lists) (i : Inv m ps L (view m)) where
+  f : Facts ps L (view m) 32
+  f = i .base .facts
+
+  sep : Sep ps L
+  sep = f .sep
+
+  some-none : (x : ℕ) → length (some x) ≡ 0 → x ≡ 0
+  some-none x e = go (zero-or x)
+    where
+      go : (x ≡ 0) ⊎ (1 ≤ x) → x ≡ 0
+      go (inl z) = z
+      go (inr p) = absurd (omega (arith, ap length (some-pos x p)))
+
+  held : (k : ℕ) → k < 32 → L (320 + k) ≡ some (getD m (320 + k) 0)
+  held = i .base .mem .holds .grant
+
+  grant-pointer : (k : ℕ) → k < 32 → Pointer m (320 + k)
+  grant-pointer k h n =
+      let w = getD m (320 + k) 0 in
+      let e = held k h ∙ some-pos (getD m (320 + k) 0) (omega arith) in
+      let p = all-pages sep (320 + k) (getD m (320 + k) 0) (in-grant ps k h) (rw e (omega (arith, hit-self (getD m (320 + k) 0)))) in
+      (p .0, omega (arith, p .1))
+
+  -- the lists met are the lists
+  agree : (a : ℕ) → Among ps a → met m a ≡ L a
+  agree a h = go (isGrant a) refl
+    where
+      go : (b : Bool) → isGrant a ≡ b → met m a ≡ L a
+      go true e = grants (grant-of a e)
+        where
+          grants : (320 ≤ a) × (a < 352) → met m a ≡ L a
+          grants r =
+              let q : 320 + (a - 320) ≡ a = omega arith in
+              let x = met-some m (320 + (a - 320)) (grant-is (a - 320) (omega arith)) (grant-pointer (a - 320) (omega arith)) ∙ sym (held (a - 320) (omega arith)) in
+              rw q at x
+      go false e = met-path m a e ∙ path-chain 21 m (linkOf a) a (L a) (i .base .mem .holds .rep a (h, e)) (omega (arith, list-short sep a h))
+
+  known : (k : ℕ) → k < 32 → getD m (320 + k) 0 ≢ 0 → bearers (view m .label) ps k ≡ 1
+  known k h n = f .granted .known k h (omega arith) (λ e. n (some-none (getD m (320 + k) 0) (sym (ap length (held k h)) ∙ e)))
+
+  spare-zero : (a : ℕ) → 1 ≤ count a spare → getD m a 0 ≡ 0
+  spare-zero a h = go (hit-or a 320) (hit-or (getD m a 0) 0)
+    where
+      at : (k : ℕ) → k < 32 → (k ≡ 0) ⊎ (16 ≤ k) → getD m (320 + k) 0 ≢ 0 → ⊥
+      at k l o n = fail o
+        where
+          t : (p : ℕ) × (1 ≤ count p ps) × (getD m (p * 32 + 7) 0 % 16 ≡ k)
+          t = let b = bearer-of (λ p. getD m (p * 32 + 7) 0 % 16) ps k (omega (arith, known k l n)) in (b .who, b .here, b .is)
+
+          fail : (k ≡ 0) ⊎ (16 ≤ k) → ⊥
+          fail (inl z) = omega (arith, f .names .range (t .0) (t .1) .name, t .2)
+          fail (inr z) = omega (arith, t .2)
+
+      go : (a ≡ 320) ⊎ (a ≢ 320) → (getD m a 0 ≡ 0) ⊎ (getD m a 0 ≢ 0) → getD m a 0 ≡ 0
+      go e (inl z) = z
+      go (inl e) (inr n) = absurd (at 0 (omega arith) (inl refl) (rw e at n))
+      go (inr e) (inr n) =
+          let r = range1-of 16 336 a (omega (arith, hit-other a 320 e)) in
+          let q : a ≡ 320 + (a - 320) = omega arith in
+          absurd (at (a - 320) (omega arith) (inr (omega arith)) (rw q at n))
+
+  sums : (z : ℕ) → (sum z (met m) (uses ps) ≡ sum z L (uses ps)) × (sum z (met m) (queues ps) ≡ sum z L (queues ps))
+  sums z = (sum-ext z (met m) L (uses ps) (λ a h. agree a (in-uses ps a h)), sum-ext z (met m) L (queues ps) (λ a h. agree a (in-queues ps a h)))
+
+  -- a walk ended at 0
+  ended : (a : ℕ) → Among ps a → isGrant a ≡ false → Pointer m (lastCell (linkOf a) a (met m a))
+  ended a h e = rw (agree a h) (λ n. absurd (n (chain-last m (linkOf a) a (L a) (i .base .mem .holds .rep a (h, e)))))
+
+  pub pages-clean : Means (Classes.usedOnce bytes m ps (met m)) × Means (Classes.usesEnd bytes m ps (met m))
+  unfolding Classes.usedOnce Classes.usesEnd Classes.once Classes.ends Classes.pointer
+  pages-clean = ((once, tt), (λ a h. ended a (in-uses ps a (among a h)) (chain-not a h), (held-page, tt)))
+    where
+      once : (z : ℕ) → 1 ≤ count z controls → sum z (met m) (used ps) ≡ 1
+      once z h =
+          let r = range1-of 20 236 z h in
+          omega (
+            arith,
+            used-uses z (met m) ps (λ a j. met-none m a (spare-grant a j) (spare-zero a j)),
+            sums z,
+            i .base .all z,
+            page-one z (r .0, omega arith),
+          )
+
+      among : (a : ℕ) → 1 ≤ count a (chains ps) → 1 ≤ count a (uses ps)
+      among a h = omega (arith, count-append a (mails ps) (range 32 1 320))
+
+      chain-not : (a : ℕ) → 1 ≤ count a (chains ps) → isGrant a ≡ false
+      chain-not a h = go (hit-or a 247) (hit-or a 244)
+        where
+          go : (a ≡ 247) ⊎ (a ≢ 247) → (a ≡ 244) ⊎ (a ≢ 244) → isGrant a ≡ false
+          go (inl e) g = grant-low a (omega arith)
+          go (inr e) (inl g) = grant-low a (omega arith)
+          go (inr e) (inr g) =
+              let s = mails-of a ps (omega (arith, hit-other a 247 e, hit-other a 244 g)) in
+              let p = proc-page sep (s .page) (s .proc) in
+              grant-high a (omega (arith, p .0, s .is))
+
+      held-page : (a : ℕ) → 1 ≤ count a holders → Pointer m a
+      held-page a h =
+          let r = range1-of 15 321 a h in
+          let q : 320 + (a - 320) ≡ a = omega arith in
+          rw q at (grant-pointer (a - 320) (omega arith))
+
+  -- "a wait queue or semaphore"
+  pub record WaitsClean : Type 0 where
+    pub queuesEnd : Means (Classes.queuesEnd bytes m ps (met m))
+    pub waitingBits : Means (Classes.waitingBits bytes m ps (met m))
+    pub reasons : Means (Classes.reasons bytes m ps (met m))
+    pub messageWaits : Means (Classes.messageWaits bytes m ps (met m))
+    pub semaphores : Means (Classes.semaphores bytes m ps (met m))
+    pub pageWaits : Means (Classes.pageWaits bytes m ps (met m))
+
+  pub waits-clean : WaitsClean
+  unfolding Classes.queuesEnd Classes.waitingBits Classes.reasons Classes.messageWaits Classes.semaphores Classes.pageWaits Classes.pageSemaphore Classes.ends
+      Classes.pointer Classes.noneFree Classes.noGrant Judge.bit Judge.waiter Judge.reasoned Judge.reasonless Judge.quiet
+      Judge.unasked Judge.owner Judge.messageWait Judge.interruptSemaphore Judge.messageSemaphore Judge.pageSemaphore
+  waits-clean = record {
+    queuesEnd = (λ a h. ended a (in-queues ps a h) (queue-not a h), tt);
+    waitingBits = (λ p h. sums p .1 ∙ f .seats .bit p h, (λ z h. omega (arith, sums z, sep .waits z), tt));
+    reasons = (served, (λ p h. f .seats .asking p (rw wa at h), (f .seats .quiet, tt)));
+    messageWaits = (own, tt);
+    semaphores = (λ k h. line-sem k (range1-of 54 0 k h .1), (own-sem, (λ a h. page-sem, tt)));
+    pageWaits = (λ p h. rw wf (f .granted .bare p (rw wa at h) .0), (λ p h. bare p (rw wa at h), tt));
+  }
+    where
+      wa : met m 246 ≡ L 246
+      wa = agree 246 (in-asking ps)
+
+      wf : met m 244 ≡ L 244
+      wf = agree 244 (in-free ps)
+
+      queue-not : (a : ℕ) → 1 ≤ count a (queues ps) → isGrant a ≡ false
+      queue-not a h = go (queues-place ps a h)
+        where
+          go : Place ps a → isGrant a ≡ false
+          go (int k l e) = grant-low a (omega arith)
+          go (three u v w) = grant-low a (omega arith)
+          go (grant u v) = absurd (none (hit-or a 246))
+            where
+              none : (a ≡ 246) ⊎ (a ≢ 246) → ⊥
+              none (inl e) = omega arith
+              none (inr e) = pick (zero-or (count a (owns ps)))
+                where
+                  pick : (count a (owns ps) ≡ 0) ⊎ (1 ≤ count a (owns ps)) → ⊥
+                  pick (inl z) =
+                      let r = range2-of 54 132 a (omega (arith, hit-other a 246 e, count-append a (owns ps) (range 54 2 132))) in
+                      omega (arith, r .1, r .2)
+                  pick (inr j) = let s = owns-of a ps j in let p = proc-page sep (s .page) (s .proc) in omega (arith, p .0, s .is)
+          go (slot s) = let p = proc-page sep (s .page) (s .proc) in grant-high a (omega (arith, p .0, s .is))
+
+      served : (p : ℕ) → 1 ≤ count p (gather (met m) lines) → (1 ≤ getD m (p * 32 + 2) 0) × (getD m (p * 32 + 2) 0 ≤ 255)
+      served p h =
+          let t = gather-of (met m) lines p h in
+          let r = range2-of 54 132 (t .head) (t .here) in
+          let e : met m (t .head) ≡ L (132 + 2 * r .0) = ap (met m) (r .2) ∙ agree (132 + 2 * r .0) (in-queues ps (132 + 2 * r .0) (int-queue ps (r .0) (r .1))) in
+          f .seats .served (r .0) (r .1) p (rw e at (t .there))
+
+      own : (p : ℕ) → 1 ≤ count p ps → (x : ℕ) → 1 ≤ count x (met m (p * 32 + 4))
+          → (x ≡ p) × ((getD m (p * 32 + 2) 0 % 16 ≤ 7) × ((q : ℕ) → 1 ≤ count q (met m (p * 32 + 5)) → fits (getD m (p * 32 + 2) 0 / 16) (getD m (p * 32 + 2) 0 % 16) (getD m (q * 32 + 1) 0) ≡ false))
+      own p h x j =
+          let t = f .own p h x (rw (agree (p * 32 + 4) (in-own ps p h)) at j) in
+          (t .owner, (t .flag, λ q c. t .none q (rw (agree (p * 32 + 5) (in-q ps p 5 (omega arith) (omega arith) h)) at c)))
+
+      line-sem : (k : ℕ) → k < 54 → getD m (131 + 2 * k) 0 ≡ less 0 (length (met m (132 + 2 * k)))
+      line-sem k h =
+          let d : 131 + 2 * k + 1 ≡ 132 + 2 * k = omega arith in
+          let q = int-queue ps k h in
+          rw (agree (132 + 2 * k) (in-queues ps (132 + 2 * k) q)) (rw (stock-else L (131 + 2 * k) (omega arith), d) at (f .sems (131 + 2 * k) (rw d q)))
+
+      own-sem : (p : ℕ) → 1 ≤ count p ps → getD m (p * 32 + 3) 0 ≡ less 0 (length (met m (p * 32 + 4)))
+      own-sem p h =
+          let d : p * 32 + 3 + 1 ≡ p * 32 + 4 = omega arith in
+          let g = proc-page sep p h in
+          let q = own-once sep p h .here in
+          rw (agree (p * 32 + 4) (in-own ps p h)) (rw (stock-else L (p * 32 + 3) (omega arith), d) at (f .sems (p * 32 + 3) (rw d (omega arith))))
+
+      page-sem : getD m 245 0 ≡ less (length (met m 244)) (length (met m 246))
+      page-sem = rw (wf, wa) (f .sems 245 (omega (arith, asking-once sep .here)) ∙ ap (λ (n : ℕ). less n (length (L 246))) (stock-page L))
+
+      bare : (p : ℕ) → 1 ≤ count p (L 246) → getD m (320 + getD m (p * 32 + 7) 0 % 16) 0 ≡ 0
+      bare p h =
+          let k = getD m (p * 32 + 7) 0 % 16 in
+          some-none (getD m (320 + getD m (p * 32 + 7) 0 % 16) 0) (sym (ap length (held (getD m (p * 32 + 7) 0 % 16) (omega arith))) ∙ f .granted .bare p h .1)
+
+  -- "a processor or message record"
+  pub record RecordsClean : Type 0 where
+    pub labels : Means (Classes.labels bytes m ps (met m))
+    pub granted : Means (Classes.granted bytes m ps (met m))
+    pub messages : Means (Classes.messages bytes m ps (met m))
+
+  pub records-clean : RecordsClean
+  unfolding Classes.labels Classes.granted Classes.messages Classes.existing Classes.nought Judge.label Judge.zeroBits Judge.sized Judge.message
+  records-clean = record {
+    labels = (
+      λ p h. (f .names .differ p h, let l = f .names .range p h in ((l .name, omega arith), (l .low, l .high))),
+      (f .seats .zeros, tt),
+    );
+    granted = (λ k h n. let r = range1-of 15 1 k h in omega (arith, known k (omega arith) n), (spare-zero, tt));
+    messages = (message, tt);
+  }
+    where
+      message : (q : ℕ) → 1 ≤ count q (gather (met m) (mails ps)) → MessageRule (getD m (q * 32 + 1) 0) (getD m (q * 32 + 2) 0)
+      message q h =
+          let t = gather-of (met m) (mails ps) q h in
+          let s = mails-of (t .head) ps (t .here) in
+          let e : met m (t .head) ≡ L (s .page * 32 + s .word) = ap (met m) (s .is) ∙ agree (s .page * 32 + s .word) (in-q ps (s .page) (s .word) (s .low) (s .high) (s .proc)) in
+          as-rule (f .mail (s .page) (s .word) (s .proc) (s .low) (s .high) q (rw e at (t .there)))
+
+  pub tables-clean : Means (Classes.codes bytes m ps (met m)) × Means (Classes.faults bytes m ps (met m))
+  unfolding Classes.codes Classes.faults Classes.isBuiltIn Classes.isForeign Classes.inRange Judge.kind Judge.used Judge.entry
+  tables-clean = (
+    (
+      λ k h. f .codes .kinds k (range1-of 16 0 k h .1),
+      (
+        λ k h. built k (hit-or k 0) (range1-of 2 0 k h .1),
+        (λ k h. let r = range1-of 1 15 k h in let e : k ≡ 15 = omega arith in rw e (f .codes .last), tt),
+      ),
+    ),
+    (
+      λ a h. rw (only-one a 288 h) (f .faults .range),
+      (
+        λ k h.
+            let l = range1-of 31 0 k h .1 in
+            ((λ u. let t = f .faults .used k l u in (t .name, t .fault)), f .faults .unused k l),
+        tt,
+      ),
+    ),
+  )
+    where
+      built : (k : ℕ) → (k ≡ 0) ⊎ (k ≢ 0) → k < 2 → getD m (256 + 2 * k) 0 / 32 ≡ 1
+      built k (inl e) l = rw e (f .codes .zero)
+      built k (inr n) l = let e : k ≡ 1 = omega arith in rw e (f .codes .one)
+
+  pub counts-clean : Means (Classes.clock bytes m ps (met m)) × Means (Classes.running bytes m ps (met m))
+  unfolding Classes.clock Classes.running Classes.outer Classes.below Classes.positive Classes.nought Classes.runner Classes.notHigher Classes.shown
+  counts-clean = (
+    (
+      λ a h. rw (only-one a 239 h) (f .clock .line),
+      (
+        λ a h. rw (only-one a 240 h) (f .clock .c0),
+        (
+          λ a h. rw (only-one a 241 h) (f .clock .c1),
+          (
+            λ a h. rw (only-one a 242 h) (f .clock .c2),
+            (
+              λ a h. rw (only-one a 243 h) (f .clock .c3),
+              (λ a h. rw (only-one a 250 h) (f .clock .nought), (λ a h. rw (only-one a 251 h) (f .clock .divider), tt)),
+            ),
+          ),
+        ),
+      ),
+    ),
+    (
+      λ a h. rw (only-one a 248 h) (λ n. (f .runs .listed n, i .best .ready n)),
+      (top, (λ a h. rw (only-one a 249 h) (f .runs .idle, f .runs .tag), tt)),
+    ),
+  )
+    where
+      top : (p : ℕ) → 1 ≤ count p ps → suc (getD m (p * 32 + 12) 0) ≤ 64
+          → (eqb (getD m 248 0) 0 ≡ false) × (getD m (p * 32 + 7) 0 / 16 ≤ getD m (getD m 248 0 * 32 + 7) 0 / 16)
+      top p h l = go (hit-or (getD m 248 0) 0)
+        where
+          go : (getD m 248 0 ≡ 0) ⊎ (getD m 248 0 ≢ 0) → (eqb (getD m 248 0) 0 ≡ false) × (getD m (p * 32 + 7) 0 / 16 ≤ getD m (getD m 248 0 * 32 + 7) 0 / 16)
+          go (inl e) = absurd (omega (arith, i .best .top p h l, f .runs .idle e, f .names .range p h .low))
+          go (inr n) = (ne-eqb (getD m 248 0) 0 n, rw (f .runs .tag n) at (i .best .top p h l))
+
+  pub inv-clean : Clean m (met m 247)
+  inv-clean = rw (agree 247 (in-procs ps) ∙ sep .procs) (
+      let w = waits-clean in
+      let r = records-clean in
+      record {
+        usedOnce = pages-clean .0;
+        usesEnd = pages-clean .1;
+        queuesEnd = w .queuesEnd;
+        waitingBits = w .waitingBits;
+        reasons = w .reasons;
+        messageWaits = w .messageWaits;
+        semaphores = w .semaphores;
+        pageWaits = w .pageWaits;
+        labels = r .labels;
+        granted = r .granted;
+        messages = r .messages;
+        codes = tables-clean .0;
+        faults = tables-clean .1;
+        clock = counts-clean .0;
+        running = counts-clean .1;
+      })
+
+-- ---- the five are given exactly where 21 was
+classes-of : (m : List ℕ) → Clean m (met m 247) → Clear (Classes.classes bytes m (met m 247) (met m))
+unfolding Classes.classes Classes.ofPages Classes.ofWaits Classes.ofRecords Classes.ofTables Classes.ofCounters
+classes-of m c = (means-clear-in _ (c .usedOnce, (c .usesEnd, tt)), (means-clear-in _ (c .queuesEnd, (c .waitingBits, (c .reasons, (c .messageWaits, (c .semaphores, (c .pageWaits, tt)))))), (means-clear-in _ (c .labels, (c .granted, (c .messages, tt))), (means-clear-in _ (c .codes, (c .faults, tt)), (means-clear-in _ (c .clock, (c .running, tt)), tt)))))
+
+of-classes : (m : List ℕ) → Clear (Classes.classes bytes m (met m 247) (met m)) → Clean m (met m 247)
+unfolding Classes.classes Classes.ofPages Classes.ofWaits Classes.ofRecords Classes.ofTables Classes.ofCounters
+of-classes m c =
+    let p = clear-means-in _ (c .0) in
+    let w = clear-means-in _ (c .1 .0) in
+    let r = clear-means-in _ (c .1 .1 .0) in
+    let t = clear-means-in _ (c .1 .1 .1 .0) in
+    let n = clear-means-in _ (c .1 .1 .1 .1 .0) in
+    record {
+      usedOnce = p .0;
+      usesEnd = p .1 .0;
+      queuesEnd = w .0;
+      waitingBits = w .1 .0;
+      reasons = w .1 .1 .0;
+      messageWaits = w .1 .1 .1 .0;
+      semaphores = w .1 .1 .1 .1 .0;
+      pageWaits = w .1 .1 .1 .1 .1 .0;
+      labels = r .0;
+      granted = r .1 .0;
+      messages = r .1 .1 .0;
+      codes = t .0;
+      faults = t .1 .0;
+      clock = n .0;
+      running = n .1 .0;
+    }
+
+pub judged-nothing : (m : List ℕ) → length m ≡ 8192 → judged m ≡ true → Classes.toldOf bytes m ≡ Nothing
+unfolding Classes.toldOf
+judged-nothing m s e =
+    first-clear (Classes.classes bytes m (met m 247) (met m)) (classes-of m (inv-clean m (lists m 247) (lists m) (judge-inv m s e)))
+
+pub nothing-judged : (m : List ℕ) → length m ≡ 8192 → Classes.toldOf bytes m ≡ Nothing → judged m ≡ true
+unfolding Classes.toldOf
+nothing-judged m s e = inv-judge (clean-inv m (of-classes m (clear-first (Classes.classes bytes m (met m 247) (met m)) e)) s)
