@@ -8,11 +8,11 @@ use kernel::judge;
 use model::Registers;
 use model::Verdict;
 use model::map;
-use model::refusals;
 use screen::lines::answer;
 use screen::lines::held;
 use screen::lines::not_understood;
 use screen::lines::verdict;
+use screen::pieces::address;
 use screen::pieces::text;
 use screen::pieces::word;
 use screen::state;
@@ -71,14 +71,17 @@ fn tell_judged(m: &[u8], lent: usize)
 }
 
 // A memory that the judge refuses could mislead, so nothing of it is shown.
-fn not_shown(refusal: u8) {
-    if refusal == refusals::WRONG_LENGTH {
-        text(b"nothing to show: the length is not 8192");
-    } else {
-        text(b"nothing to show: the memory is not well-formed");
-    }
-    text(b" (refused ");
+fn not_lent(refusal: u8) {
+    text(b"nothing to show: the length is not 8192 (refused ");
     word(refusal);
+    text(b")\n");
+}
+
+fn not_shown(refusal: u8, place: u16) {
+    text(b"nothing to show: the memory is not well-formed (refused ");
+    word(refusal);
+    text(b" at ");
+    address(place);
     text(b")\n");
 }
 
@@ -87,7 +90,8 @@ fn show(m: &[u8], lent: usize)
 {
     match judge(&m[0..lent]) {
         Verdict::WellFormed => state(&m[0..map::MEMORY_WORDS]),
-        Verdict::Refused(refusal) => not_shown(refusal),
+        Verdict::Refused(refusal) => not_lent(refusal),
+        Verdict::RefusedAt(refusal, place) => not_shown(refusal, place),
     }
 }
 

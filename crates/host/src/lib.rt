@@ -36,6 +36,7 @@ fn encode(a: Answer) -> u64
         Answer::HandedOut(p, b) => 61 + wide(p) * 256 + wide(b) * 16777216,
         Answer::Fault(f, n) => byte(f) + byte(n) * 256,
         Answer::Refused(k) => byte(k),
+        Answer::RefusedAt(k, a) => byte(k) + wide(a) * 256,
     }
 }
 
@@ -63,6 +64,7 @@ fn encode_held(h: Held) -> u64
     match h {
         Held::Has(r) => pack(r),
         Held::Refused(k) => byte(k),
+        Held::RefusedAt(k, a) => byte(k) + wide(a) * 256,
     }
 }
 
@@ -72,6 +74,7 @@ fn encode_verdict(v: Verdict) -> u64
     match v {
         Verdict::WellFormed => 0,
         Verdict::Refused(k) => byte(k),
+        Verdict::RefusedAt(k, a) => byte(k) + wide(a) * 256,
     }
 }
 

@@ -4,8 +4,8 @@ use execute::fetched;
 use fresh::start;
 use fresh::startable;
 use interrupts::deliver;
-use judge::judged;
 use model::Answer;
+use model::Finding;
 use model::Held;
 use model::Registers;
 use model::Verdict;
@@ -40,17 +40,14 @@ pub fn fresh(m: &mut [u8], line: u16, divider: u16) -> Answer
     Answer::Refused(refusals::OUT_OF_RANGE)
 }
 
-// What refuses every other call before anything else is looked at; 0: nothing.
-fn refusal(m: &[u8]) -> u8
-    ensures { λ r. ⌜ r ≡ Model.refusal (now (m .entry)) ⌝ }
+// What is found before any other call goes on.
+fn finding(m: &[u8]) -> Finding
+    ensures { λ r. ⌜ r ≡ Model.finding (now (m .entry)) ⌝ }
 {
     if m.len() != map::MEMORY_WORDS {
-        return refusals::WRONG_LENGTH;
+        return Finding::WrongLength;
     }
-    if judged(m) {
-        return refusals::NONE;
-    }
-    refusals::ILL_FORMED
+    telling::finding(m)
 }
 
 fn instruction_judged(m: &mut [u8]) -> Answer
@@ -70,11 +67,11 @@ pub fn instruction(m: &mut [u8]) -> Answer
     ensures { λ r. ⌜ gives r (now (m .exit)) ≡ Model.instruction (now (m .entry)) ⌝ }
     ensures { λ r. ⌜ gives (numbers r) (now (m .exit)) ≡ spoken numbers (Model.instruction (now (m .entry))) ⌝ }
 {
-    let k = refusal(m);
-    if k == refusals::NONE {
-        return instruction_judged(m);
+    match finding(m) {
+        Finding::Nothing => instruction_judged(m),
+        Finding::WrongLength => Answer::Refused(refusals::WRONG_LENGTH),
+        Finding::Broken(broken, address) => Answer::RefusedAt(broken, address),
     }
-    Answer::Refused(k)
 }
 
 // Whether the number is that of an interrupt from outside, and the class one that it may have.
@@ -129,11 +126,11 @@ pub fn interrupt(m: &mut [u8], number: u16, class: u16) -> Answer
     ensures { λ r. ⌜ gives r (now (m .exit)) ≡ Model.interrupt (now (m .entry)) number class ⌝ }
     ensures { λ r. ⌜ gives (numbers r) (now (m .exit)) ≡ spoken numbers (Model.interrupt (now (m .entry)) number class) ⌝ }
 {
-    let k = refusal(m);
-    if k == refusals::NONE {
-        return interrupt_judged(m, number, class);
+    match finding(m) {
+        Finding::Nothing => interrupt_judged(m, number, class),
+        Finding::WrongLength => Answer::Refused(refusals::WRONG_LENGTH),
+        Finding::Broken(broken, address) => Answer::RefusedAt(broken, address),
     }
-    Answer::Refused(k)
 }
 
 fn read_judged(m: &[u8]) -> Held
@@ -152,11 +149,11 @@ pub fn read_registers(m: &[u8]) -> Held
     ensures { λ r. ⌜ gives r (now (m .entry)) ≡ Model.readRegisters (now (m .entry)) ⌝ }
     ensures { λ r. ⌜ gives (heldNumbers r) (now (m .entry)) ≡ spoken heldNumbers (Model.readRegisters (now (m .entry))) ⌝ }
 {
-    let k = refusal(m);
-    if k == refusals::NONE {
-        return read_judged(m);
+    match finding(m) {
+        Finding::Nothing => read_judged(m),
+        Finding::WrongLength => Held::Refused(refusals::WRONG_LENGTH),
+        Finding::Broken(broken, address) => Held::RefusedAt(broken, address),
     }
-    Held::Refused(k)
 }
 
 fn set_judged(m: &mut [u8], registers: Registers) -> Answer
@@ -179,11 +176,11 @@ pub fn set_registers(m: &mut [u8], registers: Registers) -> Answer
     ensures { λ o. ⌜ gives o (now (m .exit)) ≡ Model.setRegisters (now (m .entry)) registers ⌝ }
     ensures { λ o. ⌜ gives (numbers o) (now (m .exit)) ≡ spoken numbers (Model.setRegisters (now (m .entry)) registers) ⌝ }
 {
-    let k = refusal(m);
-    if k == refusals::NONE {
-        return set_judged(m, registers);
+    match finding(m) {
+        Finding::Nothing => set_judged(m, registers),
+        Finding::WrongLength => Answer::Refused(refusals::WRONG_LENGTH),
+        Finding::Broken(broken, address) => Answer::RefusedAt(broken, address),
     }
-    Answer::Refused(k)
 }
 
 // The judge of well-formed memory.
@@ -191,9 +188,9 @@ pub fn judge(m: &[u8]) -> Verdict
     ensures { λ r. ⌜ gives r (now (m .entry)) ≡ Model.judge (now (m .entry)) ⌝ }
     ensures { λ r. ⌜ gives (verdictNumbers r) (now (m .entry)) ≡ spoken verdictNumbers (Model.judge (now (m .entry))) ⌝ }
 {
-    let k = refusal(m);
-    if k == refusals::NONE {
-        return Verdict::WellFormed;
+    match finding(m) {
+        Finding::Nothing => Verdict::WellFormed,
+        Finding::WrongLength => Verdict::Refused(refusals::WRONG_LENGTH),
+        Finding::Broken(broken, address) => Verdict::RefusedAt(broken, address),
     }
-    Verdict::Refused(k)
 }

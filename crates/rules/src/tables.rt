@@ -6,6 +6,7 @@ use counts::both;
 use counts::lies;
 use model::instructions;
 use model::map;
+use model::wide;
 use words::at;
 ghost use mathlib.Core.Path.{_≡_};
 ghost use Prim.Native.Nat.{_<_, _+_, _*_};
@@ -28,7 +29,7 @@ pub fn is_at(m: &[u8], a: u16, v: u8) -> bool
     w == v
 }
 
-fn lies_at(m: &[u8], a: u16, low: u8, high: u8) -> bool
+pub fn lies_at(m: &[u8], a: u16, low: u8, high: u8) -> bool
     requires { ⌜ (length (now m) ≡ 8192) × (a < 8192) ⌝ }
     ensures { λ r. ⌜ r ≡ holds (among (Model.at (now (m .entry)) a) low high) ⌝ }
 {
@@ -36,7 +37,7 @@ fn lies_at(m: &[u8], a: u16, low: u8, high: u8) -> bool
     lies(w, low, high)
 }
 
-fn under_at(m: &[u8], a: u16, end: u8) -> bool
+pub fn under_at(m: &[u8], a: u16, end: u8) -> bool
     requires { ⌜ (length (now m) ≡ 8192) × (a < 8192) ⌝ }
     ensures { λ r. ⌜ r ≡ holds (under (Model.at (now (m .entry)) a) end) ⌝ }
 {
@@ -44,20 +45,20 @@ fn under_at(m: &[u8], a: u16, end: u8) -> bool
     w < end
 }
 
-// Code c is built in; code 15 is not.
-fn built_in(m: &[u8], c: u16) -> bool
-    requires { ⌜ (length (now m) ≡ 8192) × (c < 16) ⌝ }
+// Code c is built in; it is not.
+pub fn built_in(m: &[u8], c: u8) -> bool
+    requires { ⌜ length (now m) ≡ 8192 ⌝ }
     ensures { λ r. ⌜ r ≡ holds (same (Map.top (Model.at (now (m .entry)) (Map.codeWord c))) 1) ⌝ }
 {
-    let w = at(m, map::CODE_WORDS + 2 * c);
+    let w = at(m, map::CODE_WORDS + 2 * wide(c));
     w / map::HIGHS == instructions::BUILT_IN
 }
 
-fn last_foreign(m: &[u8]) -> bool
+pub fn foreign(m: &[u8], c: u8) -> bool
     requires { ⌜ length (now m) ≡ 8192 ⌝ }
-    ensures { λ r. ⌜ r ≡ holds (never (eqb (Map.top (Model.at (now (m .entry)) (Map.codeWord 15))) 1)) ⌝ }
+    ensures { λ r. ⌜ r ≡ holds (never (eqb (Map.top (Model.at (now (m .entry)) (Map.codeWord c))) 1)) ⌝ }
 {
-    let w = at(m, map::LAST_CODE_WORD);
+    let w = at(m, map::CODE_WORDS + 2 * wide(c));
     w / map::HIGHS != instructions::BUILT_IN
 }
 
@@ -67,7 +68,10 @@ fn codes(m: &[u8]) -> bool
 {
     both(
         every(m, Test::Kind, map::ALL_CODES),
-        both(built_in(m, 0), both(built_in(m, 1), last_foreign(m))),
+        both(
+            built_in(m, 0),
+            both(built_in(m, 1), foreign(m, map::BUILT_IN_CODES)),
+        ),
     )
 }
 

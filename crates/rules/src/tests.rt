@@ -63,7 +63,7 @@ fn label(m: &[u8], p: ControlPage) -> bool
     )
 }
 
-fn reasoned(m: &[u8], p: ControlPage) -> bool
+pub fn reasoned(m: &[u8], p: ControlPage) -> bool
     requires { ⌜ length (now m) ≡ 8192 ⌝ }
     ensures { λ r. ⌜ r ≡ holds (rule (Judge.reasoned bytes) (now (m .entry)) (p .0)) ⌝ }
 {
@@ -71,7 +71,7 @@ fn reasoned(m: &[u8], p: ControlPage) -> bool
     lies(w, 1, map::A_WORD)
 }
 
-fn reasonless(m: &[u8], p: ControlPage) -> bool
+pub fn reasonless(m: &[u8], p: ControlPage) -> bool
     requires { ⌜ length (now m) ≡ 8192 ⌝ }
     ensures { λ r. ⌜ r ≡ holds (rule (Judge.reasonless bytes) (now (m .entry)) (p .0)) ⌝ }
 {
@@ -79,7 +79,7 @@ fn reasonless(m: &[u8], p: ControlPage) -> bool
     w == 0
 }
 
-fn quiet(m: &[u8], p: ControlPage) -> bool
+pub fn quiet(m: &[u8], p: ControlPage) -> bool
     requires { ⌜ length (now m) ≡ 8192 ⌝ }
     ensures { λ r. ⌜ r ≡ holds (rule (Judge.quiet bytes) (now (m .entry)) (p .0)) ⌝ }
 {
@@ -91,7 +91,7 @@ fn quiet(m: &[u8], p: ControlPage) -> bool
 }
 
 // What page p waits for is not message q.
-fn unasked(m: &[u8], p: ControlPage, q: ControlPage) -> bool
+pub fn unasked(m: &[u8], p: ControlPage, q: ControlPage) -> bool
     requires { ⌜ length (now m) ≡ 8192 ⌝ }
     ensures { λ r. ⌜ r ≡ holds (rule (Judge.unasked bytes) (now (m .entry)) (p .0) (q .0)) ⌝ }
 {
@@ -131,7 +131,7 @@ fn sized(m: &[u8], q: ControlPage) -> bool
     w <= map::LONGEST
 }
 
-fn message(m: &[u8], q: ControlPage) -> bool
+pub fn message(m: &[u8], q: ControlPage) -> bool
     requires { ⌜ length (now m) ≡ 8192 ⌝ }
     ensures { λ r. ⌜ r ≡ holds (rule (Judge.message bytes) (now (m .entry)) (q .0)) ⌝ }
 {
@@ -155,7 +155,7 @@ fn not_higher(m: &[u8], p: ControlPage) -> bool
     true
 }
 
-fn zero_bits(m: &[u8], p: ControlPage) -> bool
+pub fn zero_bits(m: &[u8], p: ControlPage) -> bool
     requires { ⌜ length (now m) ≡ 8192 ⌝ }
     ensures { λ r. ⌜ r ≡ holds (rule (Judge.zeroBits bytes) (now (m .entry)) (p .0)) ⌝ }
 {
@@ -186,7 +186,7 @@ fn grant(m: &[u8], k: u8) -> bool
     n == 1
 }
 
-fn kind(m: &[u8], c: u8) -> bool
+pub fn kind(m: &[u8], c: u8) -> bool
     requires { ⌜ length (now m) ≡ 8192 ⌝ }
     ensures { λ r. ⌜ r ≡ holds (rule (Judge.kind bytes) (now (m .entry)) c) ⌝ }
 {
@@ -206,7 +206,7 @@ fn used(m: &[u8], i: u8) -> bool
     )
 }
 
-fn entry(m: &[u8], i: u8) -> bool
+pub fn entry(m: &[u8], i: u8) -> bool
     requires { ⌜ length (now m) ≡ 8192 ⌝ }
     ensures { λ r. ⌜ r ≡ holds (rule (Judge.entry bytes) (now (m .entry)) i) ⌝ }
 {

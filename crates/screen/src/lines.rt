@@ -14,6 +14,14 @@ fn refused(refusal: u8) {
     text(b"\n");
 }
 
+fn refused_at(refusal: u8, place: u16) {
+    text(b"refused ");
+    word(refusal);
+    text(b" at ");
+    address(place);
+    text(b"\n");
+}
+
 fn handed_out(program: u16, arguments: u16) {
     text(b"handed out ");
     address(program);
@@ -37,6 +45,7 @@ pub fn answer(given: Answer) {
         Answer::HandedOut(program, arguments) => handed_out(program, arguments),
         Answer::Fault(n, name) => faulted(n, name),
         Answer::Refused(n) => refused(n),
+        Answer::RefusedAt(n, place) => refused_at(n, place),
     }
 }
 
@@ -62,6 +71,7 @@ pub fn held(given: Held) {
     match given {
         Held::Has(held) => registers(held),
         Held::Refused(n) => refused(n),
+        Held::RefusedAt(n, place) => refused_at(n, place),
     }
 }
 
@@ -69,6 +79,7 @@ pub fn verdict(given: Verdict) {
     match given {
         Verdict::WellFormed => text(b"well-formed\n"),
         Verdict::Refused(n) => refused(n),
+        Verdict::RefusedAt(n, place) => refused_at(n, place),
     }
 }
 
