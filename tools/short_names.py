@@ -1,12 +1,13 @@
 #!/usr/bin/env python3
-"""Writes crates/model/specs/Bytes.antt: every definition of the model by a short name at the memory that the code has.
-With --unfolding it prints the line that a statement about computed cases must carry instead; with --check it changes nothing, and fails if that file or
-that line is not what it writes. Run at the root of the repository."""
+"""Writes crates/model/specs/Bytes.antt: every definition of the model by a short name at the memory that the code has; and, in the two files that compute
+whole cases, the line that names every definition to open. With --check it changes nothing, and fails if one of the three is not what it writes. Run at
+the root of the repository."""
 import re
 import sys
 
 SPECS = 'crates/model/specs/'
-SCRIPT = 'crates/table/specs/Script.antt'
+# the files that compute cases, and what they open beside the model
+CASES = {'crates/table/specs/Script.antt': 'sameWords writes looks', 'crates/history/specs/Example.antt': 'writes'}
 FILES = [line.split()[-1] for line in open(SPECS + 'Lib.antt') if line.startswith('pub mod')]
 TYPES = {
     'Registers': 'declared.Registers', 'Arguments': 'declared.Arguments', 'Held': 'declared.Held', 'Verdict': 'declared.Verdict', 'Finding': 'declared.Finding',
@@ -59,22 +60,30 @@ def short_names():
     return '\n'.join(head + memory) + '\n' + text
 
 
-def check():
-    ok = True
-    if open(SPECS + 'Bytes.antt').read() != short_names():
-        print(SPECS + 'Bytes.antt is older than the model: run python3 tools/short_names.py')
-        ok = False
-    words = set(open(SCRIPT).read().split())
-    missing = [x for x in unfolding() if x not in words]
-    if missing:
-        print('%s does not unfold %s: python3 tools/short_names.py --unfolding prints the line' % (SCRIPT, ' '.join(missing)))
-        ok = False
-    return ok
+def opened(file):
+    """the file with its line of definitions to open written anew"""
+    text = open(file).read()
+    found = re.search(r'^( *)unfolding\n(?: +[A-Za-z]+\.\S+(?: .*)?\n)+', text, re.M)
+    if not found:
+        sys.exit('%s has no line of definitions to open' % file)
+    indent = found.group(1)
+    lines, line = [], indent + '    '
+    for name in unfolding() + CASES[file].split():
+        if len(line) + len(name) > 148:
+            lines.append(line.rstrip())
+            line = indent + '    '
+        line += name + ' '
+    return text[:found.start()] + indent + 'unfolding\n' + '\n'.join(lines + [line.rstrip()]) + '\n' + text[found.end():]
 
 
-if '--unfolding' in sys.argv:
-    print('unfolding ' + ' '.join(unfolding()))
-elif '--check' in sys.argv:
-    sys.exit(0 if check() else 1)
-else:
-    open(SPECS + 'Bytes.antt', 'w').write(short_names())
+def written():
+    return dict([(SPECS + 'Bytes.antt', short_names())] + [(file, opened(file)) for file in CASES])
+
+
+if '--check' in sys.argv:
+    old = [file for file, text in written().items() if open(file).read() != text]
+    for file in old:
+        print(file + ' is older than the model: run python3 tools/short_names.py')
+    sys.exit(1 if old else 0)
+for file, text in written().items():
+    open(file, 'w').write(text)

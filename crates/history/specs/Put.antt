@@ -6,13 +6,15 @@ use mathlib.Core.List.{List, [], _∷_, _++_}
 use lib.Dec.{eqb, ltb}
 use lib.ListN.{getD}
 use Rattle.model.specs.declared.Arguments.{Arguments}
+use Rattle.model.specs.declared.Finding.{Finding}
+use Rattle.model.specs.declared.Finding.the-variants.{Nothing, WrongLength, Broken}
 use Rattle.model.specs.Map.{place, longest, headWords, q1, q2}
 use Rattle.model.specs.Address.{unless, wrapped, guarded, clear}
 use Rattle.model.specs.Page.{Taken}
 use Rattle.model.specs.Page.Taken.{took}
 use Rattle.model.specs.Instruction.{exiCode, firstWord, lengthFor, shapeFor, builtIn}
 use Rattle.model.specs.Bytes.{at, queue, running, name, pageOf, takePage, inQ2, lengthOf, sender, flag, isNotice, stopped, kind, isForeign, argumentFault}
-use Rattle.model.specs.Bytes.{pointed, direct, indexed, codeAt, refusal, lr}
+use Rattle.model.specs.Bytes.{pointed, direct, indexed, codeAt, finding, lr}
 use Rattle.history.specs.Letter.{Letter, words, mailOf}
 
 -- messages, each with the page of a processor
@@ -114,10 +116,15 @@ fetchedMail m n =
     (unless (clear (lengthFor (codeAt m n) - 2) (wrapped n 2)) nothing
     (runMail (exiMail 1) m (codeAt m n) (direct m n (shapeFor (codeAt m n))))))))
 
--- ---- the call
+-- ---- the call: refused from the start it puts and reads nothing
+abbrev pub found : Finding → Mailed → Mailed
+found Nothing e = e
+found WrongLength e = nothing
+found (Broken k a) e = nothing
+
 unfoldable pub mailed : List ℕ → Mailed
 mailed m =
-    unless (eqb (refusal m) 0) nothing
+    found (finding m)
     (cond (eqb (running m) 0) nothing
     (fetchedMail m (lr m)))
 

@@ -10,6 +10,8 @@ use lib.ListN.{length, length-append, getD}
 use lib.Dec.{eqb}
 use borrow.Author.Tests.{eqb-true, eq-eqb, le-leb}
 use Rattle.model.specs.declared.Arguments.{Arguments}
+use Rattle.model.specs.declared.Finding.{Finding}
+use Rattle.model.specs.declared.Finding.the-variants.{Nothing, WrongLength, Broken}
 use Rattle.model.specs.Map.{memorySize}
 use Rattle.model.specs.Address.{guarded, clear, wrapped}
 use Rattle.model.specs.Instruction.{firstWord, builtIn, lengthFor, shapeFor, smeCode, rmeCode, depCode, exiCode}
@@ -17,7 +19,7 @@ use Rattle.model.specs.Fresh.{startable}
 use Rattle.model.specs.Answer as Answer
 use Rattle.model.specs.Call as Call
 use Rattle.model.specs.Bytes as Model
-use Rattle.model.specs.Bytes.{processors, at, name, running, lr, kind, codeAt, direct, refusal}
+use Rattle.model.specs.Bytes.{processors, at, name, running, lr, kind, codeAt, direct, finding}
 use Rattle.model.specs.Lists.{count}
 use Rattle.laws.specs.Words.{either}
 use Rattle.laws.specs.Sentences.{_and_}
@@ -26,7 +28,7 @@ use Rattle.laws.specs.Calls.{Sound, Host, Act, after}
 use Rattle.laws.specs.Calls.Act.{fresh-start}
 use Rattle.history.specs.Order.{only, only-nil, only-yes, only-no, only-append}
 use Rattle.history.specs.Letter.{Letter, key, waitingFor, and-true}
-use Rattle.history.specs.Put.{Mailed, nothing, of, smeMail, rmeMail, depMail, runMail, arguedMail, exiMail, fetchedMail, mailed, codeRun}
+use Rattle.history.specs.Put.{Mailed, nothing, found, of, smeMail, rmeMail, depMail, runMail, arguedMail, exiMail, fetchedMail, mailed, codeRun}
 use Rattle.history.specs.Told.{of-none}
 use Rattle.history.specs.Others.{host-told}
 use Rattle.history.specs.Whole.{sme-none, rme-none, dep-none}
@@ -186,10 +188,15 @@ module _ (P : Mailed → Type 0) (none : P nothing) (m : List ℕ) where
       let n = lr m in
       let c = codeAt m n in
       let x = direct m n (shapeFor c) in
-      either P (eqb (refusal m) 0) (either P (eqb (running m) 0) none (either P (guarded n) none (either P (eqb (at m n) firstWord)
+      goes (finding m) (either P (eqb (running m) 0) none (either P (guarded n) none (either P (eqb (at m n) firstWord)
       (either P (guarded (wrapped n 1)) none (either P (eqb (kind m c) builtIn) (either P (clear (lengthFor c - 2) (wrapped n 2))
-      (run-parts (exiMail 1) c x (λ q. sme x (straight q refl)) (λ q. rme x (straight q refl)) (λ q. dep x (straight q refl)) by) none) none)) none))) none
+      (run-parts (exiMail 1) c x (λ q. sme x (straight q refl)) (λ q. rme x (straight q refl)) (λ q. dep x (straight q refl)) by) none) none)) none)))
     where
+      goes : (f : Finding) {e : Mailed} → P e → P (found f e)
+      goes Nothing p = p
+      goes WrongLength p = none
+      goes (Broken k a) p = none
+
       straight : {k : ℕ} → codeAt m (lr m) ≡ k → eqb k exiCode ≡ false → codeRun m ≡ k
       straight q l = rw (q, l)
 

@@ -213,6 +213,31 @@ module _ (m : List ℕ) {k a : ℕ} (c : Class k) where
       go true false e f q = let z = ap length (rw (e, f) at q) in omega arith
       go true true e f q = let z = ap length (rw (e, f) at q) in omega arith
 
+-- ---- so of a well-formed memory none of the five is told
+pub sound-good : {m : List ℕ} → Sound m → Bad m → ⊥
+sound-good h b = let f = h .accepted in let g = b .1 in let z : _≡_ {A = ℕ} 0 1 = cc in omega arith
+
+-- reading and judging never write
+pub read-kept : (m : List ℕ) → memoryOf (readRegisters m) ≡ m
+unfolding Call.readRegisters Call.readJudged Call.head Answer.memoryOf
+read-kept m = go (finding m) (eqb (running m) 0)
+  where
+    go : (f : Finding) (y : Bool)
+        → memoryOf (Model.heeds f m Held.Refused Held.RefusedAt (cond y (gives (Held.Refused idle) m) (gives (Held.Has (registersOf m (running m))) m))) ≡ m
+    go WrongLength y = refl
+    go (Broken k a) y = refl
+    go Nothing true = refl
+    go Nothing false = refl
+
+pub judge-kept : (m : List ℕ) → memoryOf (judge m) ≡ m
+unfolding Call.judge Call.head Answer.memoryOf
+judge-kept m = go (finding m)
+  where
+    go : (f : Finding) → memoryOf (Model.heeds f m Verdict.Refused Verdict.RefusedAt (gives Verdict.WellFormed m)) ≡ m
+    go WrongLength = refl
+    go (Broken k a) = refl
+    go Nothing = refl
+
 -- fresh takes any memory of 8,192 words
 pub fresh-takes : (m : List ℕ) → length m ≡ memorySize → (line d : ℕ) → startable line d ≡ true → numbers (answerOf (fresh m line d)) ≡ doneNumber ∷ []
 unfolding Call.fresh Answer.answerOf Answer.numbers

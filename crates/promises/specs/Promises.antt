@@ -9,16 +9,16 @@ use mathlib.Core.List.{List, [], _∷_}
 use Prim.Native.Nat.{ℕ, _+_, _≤_, _<_}
 use lib.ListN.{length}
 use Rattle.model.specs.declared.Registers.{Registers}
-use Rattle.model.specs.Map.{memorySize, firstControl, lastControl}
+use Rattle.model.specs.Map.{memorySize, firstControl, lastControl, lastFault}
 use Rattle.model.specs.Fresh.{startable}
-use Rattle.model.specs.Answer.{answerOf, memoryOf, numbers, heldNumbers, verdictNumbers, doneNumber, handedOutNumber, wrongLength, illFormed}
+use Rattle.model.specs.Answer.{answerOf, memoryOf, numbers, heldNumbers, verdictNumbers, doneNumber, handedOutNumber, wrongLength}
 use Rattle.model.specs.Bytes.{judged, fresh, instruction, interrupt, setRegisters, readRegisters, judge, running}
 use Rattle.laws.specs.Words.{Small}
 use Rattle.laws.specs.Calls.{Sound, Host, Reached, fresh-starts, fresh-sound, instruction-sound, interrupt-sound, set-sound, host-sound, reached-sound}
 use Rattle.laws.specs.Numbers as Numbers
-use Rattle.laws.specs.Numbers.{told, toldHeld, toldVerdict, proper-told, instruction-proper, fresh-proper, interrupt-proper, set-proper}
-use Rattle.laws.specs.Numbers.{firstRefusal, lastRefusal, Refuses, RefuseAll, refused-of, handed-of}
-use Rattle.laws.specs.Refusals.{instruction-kept, fresh-kept, interrupt-kept, set-kept, read-kept, judge-kept, instruction-hands}
+use Rattle.laws.specs.Numbers.{told, toldHeld, toldVerdict, kind-numbers, Refuses, RefuseAll, Told, Class, Bad, sound-good, read-kept, judge-kept}
+use Rattle.laws.specs.Kinds.{instruction-kind, fresh-kind, interrupt-kind, set-kind}
+use Rattle.laws.specs.Refusals.{firstRefusal, lastRefusal, kind-kept, kind-hands}
 use Rattle.laws.specs.Faulty.{Faulted, faulted}
 use Rattle.laws.specs.UsedOnce.{asProcessor, asFree, asMessage, asGrant, used-once, used-never}
 use Rattle.laws.specs.Witness.{example, example-reached, example-runs}
@@ -31,36 +31,57 @@ pub the-numbers-tell : (m : List ℕ) (line d k c : ℕ) (r : Registers) → (to
     × (toldHeld (heldNumbers (answerOf (readRegisters m))) ≡ answerOf (readRegisters m))
     × (toldVerdict (verdictNumbers (answerOf (judge m))) ≡ answerOf (judge m))
 the-numbers-tell m line d k c r = (
-  proper-told (answerOf (instruction m)) (instruction-proper m),
-  proper-told (answerOf (interrupt m k c)) (interrupt-proper m k c),
-  proper-told (answerOf (setRegisters m r)) (set-proper m r),
-  proper-told (answerOf (fresh m line d)) (fresh-proper m line d),
+  kind-numbers (instruction m) (instruction-kind m),
+  kind-numbers (interrupt m k c) (interrupt-kind m k c),
+  kind-numbers (setRegisters m r) (set-kind m r),
+  kind-numbers (fresh m line d) (fresh-kind m line d),
   Numbers.read-told m,
   Numbers.judge-told m,
 )
 
--- ---- a memory of the wrong length is refused with 20 by every call, a broken one with 21 by every call but fresh; it comes back untouched
-pub wrong-length-refused : (m : List ℕ) → length m ≢ memorySize → RefuseAll m wrongLength × ((line d : ℕ) → Refuses numbers (fresh m line d) wrongLength m)
+-- ---- a memory of the wrong length is refused with 20 by every call; it comes back untouched
+pub wrong-length-refused : (m : List ℕ) → length m ≢ memorySize
+    → RefuseAll m (wrongLength ∷ []) × ((line d : ℕ) → Refuses numbers (fresh m line d) (wrongLength ∷ []) m)
 wrong-length-refused m n = (Numbers.length-refused m n, Numbers.fresh-length m n)
 
-pub broken-refused : (m : List ℕ) → length m ≡ memorySize → judged m ≡ false → RefuseAll m illFormed
+-- ---- "Say what is broken". One that the judge of document 01 refuses is refused by every call but fresh with a class and an address, and comes back
+-- untouched: `Told`. `Offends` says which (laws/specs/Findings.antt): the class is one of 30-34; the address offends in its class, and is the lowest that
+-- does; nothing offends in the classes before. What offends is the table, model/specs/Classes.antt
+pub broken-refused : (m : List ℕ) → length m ≡ memorySize → judged m ≡ false → Told m
 broken-refused = Numbers.broken-refused
+
+-- "Together the five are given exactly where 21 was": an answer of that form comes of such a memory only, and of fresh never
+pub told-nowhere-else : (m : List ℕ) (line d n c : ℕ) (r : Registers) (k a : ℕ) → Class k
+    → (numbers (answerOf (instruction m)) ≡ k ∷ a ∷ [] → Bad m)
+    × (numbers (answerOf (interrupt m n c)) ≡ k ∷ a ∷ [] → Bad m)
+    × (numbers (answerOf (setRegisters m r)) ≡ k ∷ a ∷ [] → Bad m)
+    × (heldNumbers (answerOf (readRegisters m)) ≡ k ∷ a ∷ [] → Bad m)
+    × (verdictNumbers (answerOf (judge m)) ≡ k ∷ a ∷ [] → Bad m)
+    × (numbers (answerOf (fresh m line d)) ≢ k ∷ a ∷ [])
+told-nowhere-else m line d n c r k a t = (
+  Numbers.instruction-bad m t,
+  Numbers.interrupt-bad m t n c,
+  Numbers.set-bad m t r,
+  Numbers.read-bad m t,
+  Numbers.judge-bad m t,
+  Numbers.fresh-never m t line d,
+)
 
 -- fresh takes it, whatever it holds
 pub fresh-takes-any : (m : List ℕ) → length m ≡ memorySize → (line d : ℕ) → startable line d ≡ true → numbers (answerOf (fresh m line d)) ≡ doneNumber ∷ []
 fresh-takes-any = Numbers.fresh-takes
 
--- ---- "Refusals leave all memory untouched": each call, each number, any memory; reading and judging never write
-pub refusal-keeps : (m : List ℕ) (line d n c : ℕ) (r : Registers) (k : ℕ) → firstRefusal ≤ k → k ≤ lastRefusal
-    → (numbers (answerOf (instruction m)) ≡ k ∷ [] → memoryOf (instruction m) ≡ m)
-    × (numbers (answerOf (interrupt m n c)) ≡ k ∷ [] → memoryOf (interrupt m n c) ≡ m)
-    × (numbers (answerOf (setRegisters m r)) ≡ k ∷ [] → memoryOf (setRegisters m r) ≡ m)
-    × (numbers (answerOf (fresh m line d)) ≡ k ∷ [] → memoryOf (fresh m line d) ≡ m)
-refusal-keeps m line d n c r k l u = (
-  λ e. instruction-kept m k (refused-of (answerOf (instruction m)) (instruction-proper m) k l u e),
-  λ e. interrupt-kept m n c k (refused-of (answerOf (interrupt m n c)) (interrupt-proper m n c) k l u e),
-  λ e. set-kept m r k (refused-of (answerOf (setRegisters m r)) (set-proper m r) k l u e),
-  λ e. fresh-kept m line d k (refused-of (answerOf (fresh m line d)) (fresh-proper m line d) k l u e),
+-- ---- "Refusals leave all memory untouched": each call, each number 20-34 with whatever values, any memory; reading and judging never write
+pub refusal-keeps : (m : List ℕ) (line d n c : ℕ) (r : Registers) (k : ℕ) (ns : List ℕ) → firstRefusal ≤ k → k ≤ lastRefusal
+    → (numbers (answerOf (instruction m)) ≡ k ∷ ns → memoryOf (instruction m) ≡ m)
+    × (numbers (answerOf (interrupt m n c)) ≡ k ∷ ns → memoryOf (interrupt m n c) ≡ m)
+    × (numbers (answerOf (setRegisters m r)) ≡ k ∷ ns → memoryOf (setRegisters m r) ≡ m)
+    × (numbers (answerOf (fresh m line d)) ≡ k ∷ ns → memoryOf (fresh m line d) ≡ m)
+refusal-keeps m line d n c r k ns l u = (
+  kind-kept (instruction m) (instruction-kind m) k ns l u,
+  kind-kept (interrupt m n c) (interrupt-kind m n c) k ns l u,
+  kind-kept (setRegisters m r) (set-kind m r) k ns l u,
+  kind-kept (fresh m line d) (fresh-kind m line d) k ns l u,
 )
 
 pub read-and-judge-keep : (m : List ℕ) → (memoryOf (readRegisters m) ≡ m) × (memoryOf (judge m) ≡ m)
@@ -69,11 +90,11 @@ read-and-judge-keep m = (read-kept m, judge-kept m)
 -- "handed out (own code: ..; memory unchanged)"
 pub handed-out-keeps : (m : List ℕ) (program arguments : ℕ) → numbers (answerOf (instruction m)) ≡ handedOutNumber ∷ program ∷ arguments ∷ []
     → memoryOf (instruction m) ≡ m
-handed-out-keeps m p a e = instruction-hands m p a (handed-of (answerOf (instruction m)) (instruction-proper m) p a e)
+handed-out-keeps m = kind-hands (instruction m) (instruction-kind m)
 
 -- ---- a faulty instruction stops only the processor that ran it, is entered while page 9 has room, and changes nothing else but who runs. From the answer
--- alone: `Faulted` says who, which fault, and what every word of the memory is afterwards (laws/specs/Faulty.antt, Turns.antt)
-pub a-fault : (m : List ℕ) (f n : ℕ) → numbers (answerOf (instruction m)) ≡ f ∷ n ∷ [] → Faulted m f n (memoryOf (instruction m))
+-- alone, faults being 1-12: `Faulted` says who, which fault, and what every word of the memory is afterwards (laws/specs/Faulty.antt, Turns.antt)
+pub a-fault : (m : List ℕ) (f n : ℕ) → numbers (answerOf (instruction m)) ≡ f ∷ n ∷ [] → f ≤ lastFault → Faulted m f n (memoryOf (instruction m))
 a-fault = faulted
 
 -- ---- a fresh start gives a well-formed memory, whatever was there; every call, and the host, leave one well-formed
@@ -87,19 +108,20 @@ calls-keep h line d k c r = (instruction-sound h, interrupt-sound h k c, set-sou
 pub host-keeps : {m m′ : List ℕ} → Host m m′ → Sound m → Sound m′
 host-keeps = host-sound
 
--- ---- so: from a fresh start on, no call is ever refused as not well-formed
+-- ---- so: from a fresh start on none of the five is ever given, and the judge accepts
 pub always-well-formed : (m : List ℕ) → Reached m → Sound m
 always-well-formed = reached-sound
 
-pub never-21 : (m : List ℕ) → Reached m → (k c : ℕ) (r : Registers) → (numbers (answerOf (instruction m)) ≢ illFormed ∷ [])
-    × (numbers (answerOf (interrupt m k c)) ≢ illFormed ∷ []) × (numbers (answerOf (setRegisters m r)) ≢ illFormed ∷ [])
-    × (heldNumbers (answerOf (readRegisters m)) ≢ illFormed ∷ []) × (verdictNumbers (answerOf (judge m)) ≡ doneNumber ∷ [])
-never-21 m h k c r =
+pub never-told : (m : List ℕ) → Reached m → (n c : ℕ) (r : Registers) (k a : ℕ) → Class k
+    → (numbers (answerOf (instruction m)) ≢ k ∷ a ∷ []) × (numbers (answerOf (interrupt m n c)) ≢ k ∷ a ∷ [])
+    × (numbers (answerOf (setRegisters m r)) ≢ k ∷ a ∷ []) × (heldNumbers (answerOf (readRegisters m)) ≢ k ∷ a ∷ [])
+    × (verdictNumbers (answerOf (judge m)) ≡ doneNumber ∷ [])
+never-told m h n c r k a t =
     let s = reached-sound m h in (
-      Numbers.instruction-not s,
-      Numbers.interrupt-not s k c,
-      Numbers.set-not s r,
-      Numbers.read-not s,
+      λ e. sound-good s (Numbers.instruction-bad m t e),
+      λ e. sound-good s (Numbers.interrupt-bad m t n c e),
+      λ e. sound-good s (Numbers.set-bad m t r e),
+      λ e. sound-good s (Numbers.read-bad m t e),
       Numbers.judge-yes s,
     )
 

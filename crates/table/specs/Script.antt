@@ -21,6 +21,9 @@ use Rattle.model.specs.Fresh as Fresh
 use Rattle.model.specs.Rule as Rule
 use Rattle.model.specs.Lists as Lists
 use Rattle.model.specs.Judge as Judge
+use Rattle.model.specs.Classes as Classes
+use Rattle.model.specs.Tell as Tell
+use Rattle.model.specs.Walks as Walks
 use Rattle.model.specs.Answer as Answer
 use Rattle.model.specs.Fault as Fault
 use Rattle.model.specs.Execute as Execute
@@ -63,33 +66,36 @@ module _ (S : Store) where
   -- whether a script runs as it says. To open it opens the whole machine
   unfoldable pub plays : Script → S .M → Bool
   unfolding
-      Call.isOuter Call.isClass Call.refusal Call.head Call.fresh Call.instructionJudged Call.instruction Call.interruptJudged Call.interrupt
-      Call.readJudged Call.readRegisters Call.setJudged
-      Call.setRegisters Call.judge Address.guarded Address.clear Address.copy Address.zeroed Queue.first Queue.walk Queue.cellOf Queue.join
-      Queue.leave Processor.isNamed Processor.stop Processor.start Processor.setLr Processor.advance Processor.registersOf
-      Processor.setFlagsLr Processor.setRegistersOf Processor.handBack Processor.inRange Instruction.directCounted Instruction.directCreating
-      Instruction.direct Instruction.pointedCreating Instruction.pointed Instruction.within Instruction.indexed Instruction.setCode Operate.cvi
-      Operate.dvi Operate.gin
-      Operate.win Operate.posted Operate.waitsForPage Operate.withPage Operate.sent Operate.smeText Operate.sme Operate.wnm Operate.received Operate.rme
-      Operate.tmeQ1 Operate.tme Operate.st1 Operate.stp Operate.dep Operate.onPage Operate.named Operate.st2Found Operate.st2 Operate.headed
-      Operate.created Operate.crpPage Operate.crp Operate.adds Operate.storesA Operate.ands Operate.increments Operate.worked Operate.returnTo
-      Operate.reaches Operate.follows Operate.thirteen Wait.enqueue Wait.unqueue Wait.putToWait Wait.wake Wait.queued Wait.seat Wait.leaveWait
-      Page.takeFree Page.firstFree Page.takePage Page.freePage Page.grantPage Page.giveBack Mail.asks Mail.fits Mail.matches Mail.awaits
-      Mail.heard Mail.deliver Mail.writeMessage Mail.makeNotice Mail.move Mail.testQ1 Mail.copyOut Delete.unlisted Delete.noticed
-      Delete.returned Delete.emptied Delete.mailReturned Delete.grantReturned Delete.delete Interrupt.classed Interrupt.struck
-      Interrupt.servedFrom Interrupt.serve Interrupt.counts Interrupt.ends Interrupt.turns Interrupt.c3Counts Interrupt.c2Counts
-      Interrupt.c1Counts Interrupt.c0Counts Interrupt.delivered Turn.fold Turn.stays Turn.above Turn.better Turn.chosen Turn.onPage0
-      Turn.keptOn Turn.contextOf Turn.savedOf Turn.kept Turn.restored Turn.save Turn.load Turn.runs Turn.switch Turn.whoRuns Fresh.startable
-      Fresh.cleared Fresh.timed Fresh.firstProcessor Fresh.chained Fresh.freed Fresh.allBuiltIn Fresh.started Lists.range Lists.linkOf
-      Lists.isGrant Lists.lists Judge.page Judge.list Judge.listed Judge.once Judge.usedOnce Judge.label Judge.names Judge.bit Judge.waiter
-      Judge.waitingBits Judge.reasoned Judge.reasonless Judge.served Judge.quiet Judge.reasons Judge.unasked Judge.owner Judge.messageWait
-      Judge.messageWaits Judge.interruptSemaphore Judge.messageSemaphore Judge.pageSemaphore Judge.semaphores Judge.pageWait Judge.pageWaits
-      Judge.grant Judge.granted Judge.sized Judge.message Judge.mail Judge.messages Judge.runner Judge.notHigher Judge.running Judge.kind
-      Judge.codes Judge.counters Judge.clock Judge.used Judge.entry Judge.faults Judge.zeroBits Judge.zeros Judge.wellFormed Judge.judged
-      Answer.answerOf Answer.memoryOf Answer.numbers Answer.heldNumbers Answer.verdictNumbers Answer.done Answer.jumps Answer.waits
-      Fault.entered Fault.fault Execute.run Execute.foreign Execute.isForeign Execute.argumentFault Execute.argued Execute.exi Execute.taken
-      Execute.decoded Execute.coded Execute.fetched Store.tget Store.tput Store.tzero Store.getT Store.putT Store.sizeT Store.trees Rule.all
-      Rule.every Rule.holds sameWords writes looks
+      Call.isOuter Call.isClass Call.finding Call.head Call.fresh Call.instructionJudged Call.instruction Call.interruptJudged Call.interrupt
+      Call.readJudged Call.readRegisters Call.setJudged Call.setRegisters Call.judge Address.guarded Address.clear Address.copy Address.zeroed
+      Queue.first Queue.walk Queue.cellOf Queue.join Queue.leave Processor.isNamed Processor.stop Processor.start Processor.setLr Processor.advance
+      Processor.registersOf Processor.setFlagsLr Processor.setRegistersOf Processor.handBack Processor.inRange Instruction.directCounted
+      Instruction.directCreating Instruction.direct Instruction.pointedCreating Instruction.pointed Instruction.within Instruction.indexed
+      Instruction.setCode Operate.cvi Operate.dvi Operate.gin Operate.win Operate.waitsForPage Operate.withPage Operate.posted Operate.sent
+      Operate.smeText Operate.sme Operate.wnm Operate.received Operate.rme Operate.tmeQ1 Operate.tme Operate.st1 Operate.stp Operate.dep
+      Operate.onPage Operate.named Operate.st2Found Operate.st2 Operate.headed Operate.created Operate.crpPage Operate.crp Operate.adds
+      Operate.storesA Operate.ands Operate.increments Operate.worked Operate.returnTo Operate.reaches Operate.follows Operate.thirteen Wait.enqueue
+      Wait.unqueue Wait.putToWait Wait.wake Wait.queued Wait.seat Wait.leaveWait Page.takeFree Page.firstFree Page.takePage Page.freePage
+      Page.grantPage Page.giveBack Mail.asks Mail.fits Mail.matches Mail.awaits Mail.heard Mail.deliver Mail.writeMessage Mail.makeNotice Mail.move
+      Mail.testQ1 Mail.copyOut Delete.unlisted Delete.noticed Delete.returned Delete.emptied Delete.mailReturned Delete.grantReturned Delete.delete
+      Interrupt.classed Interrupt.struck Interrupt.servedFrom Interrupt.serve Interrupt.counts Interrupt.ends Interrupt.turns Interrupt.c3Counts
+      Interrupt.c2Counts Interrupt.c1Counts Interrupt.c0Counts Interrupt.delivered Turn.fold Turn.stays Turn.above Turn.better Turn.chosen
+      Turn.onPage0 Turn.keptOn Turn.contextOf Turn.savedOf Turn.kept Turn.restored Turn.save Turn.load Turn.runs Turn.switch Turn.whoRuns
+      Fresh.startable Fresh.cleared Fresh.timed Fresh.firstProcessor Fresh.chained Fresh.freed Fresh.allBuiltIn Fresh.started Lists.range
+      Lists.linkOf Lists.isGrant Lists.reach Lists.lists Judge.page Judge.reasoned Judge.reasonless Judge.quiet Judge.unasked Judge.sized
+      Judge.message Judge.kind Judge.used Judge.entry Judge.zeroBits Judge.list Judge.listed Judge.once Judge.usedOnce Judge.label Judge.names
+      Judge.bit Judge.waiter Judge.waitingBits Judge.served Judge.reasons Judge.owner Judge.messageWait Judge.messageWaits Judge.interruptSemaphore
+      Judge.messageSemaphore Judge.pageSemaphore Judge.semaphores Judge.pageWait Judge.pageWaits Judge.grant Judge.granted Judge.mail Judge.messages
+      Judge.runner Judge.notHigher Judge.running Judge.codes Judge.counters Judge.clock Judge.faults Judge.zeros Judge.wellFormed Judge.judged
+      Walks.isControl Walks.path Walks.met Tell.broken Tell.offending Tell.offendingIn Tell.least Tell.tell Tell.first Classes.cell Classes.once
+      Classes.usedOnce Classes.pointer Classes.ends Classes.usesEnd Classes.ofPages Classes.queuesEnd Classes.waitingBits Classes.reasons
+      Classes.messageWaits Classes.pageSemaphore Classes.semaphores Classes.noneFree Classes.noGrant Classes.pageWaits Classes.ofWaits
+      Classes.labels Classes.existing Classes.nought Classes.granted Classes.messages Classes.ofRecords Classes.isBuiltIn Classes.isForeign
+      Classes.codes Classes.inRange Classes.faults Classes.ofTables Classes.outer Classes.below Classes.positive Classes.clock Classes.runner
+      Classes.notHigher Classes.shown Classes.running Classes.ofCounters Classes.classes Classes.toldOf Answer.answerOf Answer.memoryOf
+      Answer.numbers Answer.heldNumbers Answer.verdictNumbers Answer.done Answer.jumps Answer.waits Fault.entered Fault.fault Execute.run
+      Execute.foreign Execute.isForeign Execute.argumentFault Execute.argued Execute.exi Execute.taken Execute.decoded Execute.coded Execute.fetched
+      Store.tget Store.tput Store.tzero Store.getT Store.putT Store.sizeT Store.trees Rule.all Rule.every Rule.holds sameWords writes looks
   plays [] m = true
   plays (fresh-start l d ns ∷ cs) m =
       let o = fresh S m l d in elim (sameWords (numbers (answerOf o)) ns) [ true ↦ plays cs (memoryOf o) | false ↦ false ]
