@@ -6,6 +6,10 @@ use mathlib.Core.List.{List, [], _∷_}
 use Prim.Native.Nat.{ℕ, _+_, _-_, _*_, _/_, _≤_, _<_}
 use native.Mathlib.Omega.{arith}
 use lib.Dec.{leb}
+use Rattle.model.specs.Map as Map
+use Rattle.model.specs.Map.{memorySize, pageSize, place, interrupts, clockLine, freeList, freeSemaphore, pageQueue, processorList}
+use Rattle.model.specs.Map.{runningPage, runningLabel, zeroWord, allCodes, builtInCodes, firstUnused, entries, grants, grantFor}
+use Rattle.model.specs.Map.{firstControl, controlPages, lastName}
 use Rattle.model.specs.Store.{bytes}
 use Rattle.model.specs.Lists.{count, linkOf, range, mails, queues}
 use Rattle.model.specs.Tell.{Row, broken, offending, offendingIn, Class}
@@ -16,7 +20,7 @@ use Rattle.model.specs.Tell.Class.{class}
 use Rattle.model.specs.Classes as Classes
 use Rattle.model.specs.Walks as Walks
 use Rattle.model.specs.Walks.{lastCell, gather}
-use Rattle.model.specs.Classes.{cell, chains, controls, lines, toldOf}
+use Rattle.model.specs.Classes.{page, cell, chains, controls, lines, toldOf}
 use Rattle.laws.specs.Count.{hit-other, hit-or, count-append, zero-or}
 use Rattle.laws.specs.Chain.{Page, Pages}
 use Rattle.laws.specs.Queues.{link-le}
@@ -57,131 +61,131 @@ offending-within-in n (s ∷ ss) w b h = go (zero-or (count b (offending s))) (o
 -- ---- of the table
 cell-low : (a n : ℕ) → a < n → cell a < n
 unfolding Classes.cell
-cell-low a n h = go (leb 7552 a)
+cell-low a n h = go (leb (page firstControl) a)
   where
-    go : (b : Bool) → cond b (a / 32 * 32 + 0) a < n
+    go : (b : Bool) → cond b (page (a / pageSize)) a < n
     go true = omega arith
     go false = h
 
-last-low : (k a n : ℕ) (xs : List ℕ) → k < 32 → a < 8192 → Pages xs → lastCell k a xs < 8192
+last-low : (k a n : ℕ) (xs : List ℕ) → k < pageSize → a < memorySize → Pages xs → lastCell k a xs < memorySize
 last-low k a n [] l h p = h
-last-low k a n (x ∷ xs) l h p = last-low k (x * 32 + k) n xs l (omega (arith, p .0 .1)) (p .1)
+last-low k a n (x ∷ xs) l h p = last-low k (place x k) n xs l (omega (arith, p .0 .1)) (p .1)
 
 module _ (m : List ℕ) where
   abbrev ps : List ℕ
-  ps = met m 247
+  ps = met m processorList
 
   on-list : (p : ℕ) → 1 ≤ count p ps → Page p
-  on-list p h = pages-page (met m 247) (met-pages m 247) p h
+  on-list p h = pages-page (met m processorList) (met-pages m processorList) p h
 
-  end-low : (a : ℕ) → a < 8192 → cell (lastCell (linkOf a) a (met m a)) < 8192
-  end-low a h = cell-low (lastCell (linkOf a) a (met m a)) 8192 (last-low (linkOf a) a 0 (met m a) (omega (arith, link-le a)) h (met-pages m a))
+  end-low : (a : ℕ) → a < memorySize → cell (lastCell (linkOf a) a (met m a)) < memorySize
+  end-low a h = cell-low (lastCell (linkOf a) a (met m a)) memorySize (last-low (linkOf a) a 0 (met m a) (omega (arith, link-le a)) h (met-pages m a))
 
-  page-low : (p : ℕ) → 1 ≤ count p ps → p * 32 + 0 < 8192
+  page-low : (p : ℕ) → 1 ≤ count p ps → place p 0 < memorySize
   page-low p h = omega (arith, on-list p h .1)
 
-  met-low : (a p : ℕ) → 1 ≤ count p (met m a) → p * 32 + 0 < 8192
+  met-low : (a p : ℕ) → 1 ≤ count p (met m a) → place p 0 < memorySize
   met-low a p h = omega (arith, pages-page (met m a) (met-pages m a) p h .1)
 
-  gather-low : (hs : List ℕ) (p : ℕ) → 1 ≤ count p (gather (met m) hs) → p * 32 + 0 < 8192
+  gather-low : (hs : List ℕ) (p : ℕ) → 1 ≤ count p (gather (met m) hs) → place p 0 < memorySize
   gather-low hs p h = let t = gather-of (met m) hs p h in met-low (t .head) p (t .there)
 
-  control-low : (z : ℕ) → 1 ≤ count z controls → z * 32 + 0 < 8192
-  control-low z h = omega (arith, range1-of 20 236 z h .1)
+  control-low : (z : ℕ) → 1 ≤ count z controls → place z 0 < memorySize
+  control-low z h = omega (arith, range1-of controlPages firstControl z h .1)
 
-  one-low : (x a : ℕ) → x < 8192 → 1 ≤ count a (x ∷ []) → a < 8192
+  one-low : (x a : ℕ) → x < memorySize → 1 ≤ count a (x ∷ []) → a < memorySize
   one-low x a l h = go (hit-or a x)
     where
-      go : (a ≡ x) ⊎ (a ≢ x) → a < 8192
+      go : (a ≡ x) ⊎ (a ≢ x) → a < memorySize
       go (inl e) = omega arith
       go (inr n) = absurd (omega (arith, hit-other a x n))
 
-  chain-low : (a : ℕ) → 1 ≤ count a (chains ps) → a < 8192
-  chain-low a h = go (hit-or a 247) (hit-or a 244)
+  chain-low : (a : ℕ) → 1 ≤ count a (chains ps) → a < memorySize
+  chain-low a h = go (hit-or a processorList) (hit-or a freeList)
     where
-      go : (a ≡ 247) ⊎ (a ≢ 247) → (a ≡ 244) ⊎ (a ≢ 244) → a < 8192
+      go : (a ≡ processorList) ⊎ (a ≢ processorList) → (a ≡ freeList) ⊎ (a ≢ freeList) → a < memorySize
       go (inl e) f = omega arith
       go (inr e) (inl f) = omega arith
       go (inr e) (inr f) =
-          let s = mails-of a ps (omega (arith, hit-other a 247 e, hit-other a 244 f)) in
+          let s = mails-of a ps (omega (arith, hit-other a processorList e, hit-other a freeList f)) in
           let p = on-list (s .page) (s .proc) in
           omega (arith, s .is, s .high, p .1)
 
-  queue-low : (a : ℕ) → 1 ≤ count a (queues ps) → a < 8192
+  queue-low : (a : ℕ) → 1 ≤ count a (queues ps) → a < memorySize
   queue-low a h = go (queues-place ps a h)
     where
-      go : Place ps a → a < 8192
+      go : Place ps a → a < memorySize
       go (int k l e) = omega arith
       go (three u v w) = omega arith
       go (grant u v) = omega arith
       go (slot s) = let p = on-list (s .page) (s .proc) in omega (arith, s .is, s .high, p .1)
 
-  usedOnce-low : Within 8192 (Classes.usedOnce bytes m ps (met m))
+  usedOnce-low : Within memorySize (Classes.usedOnce bytes m ps (met m))
   unfolding Classes.usedOnce
   usedOnce-low = (control-low, tt)
 
-  usesEnd-low : Within 8192 (Classes.usesEnd bytes m ps (met m))
+  usesEnd-low : Within memorySize (Classes.usesEnd bytes m ps (met m))
   unfolding Classes.usesEnd
-  usesEnd-low = (λ a h. end-low a (chain-low a h), (λ a h. omega (arith, range1-of 15 321 a h .1), tt))
+  usesEnd-low = (λ a h. end-low a (chain-low a h), (λ a h. omega (arith, range1-of lastName (grantFor 1) a h .1), tt))
 
-  queuesEnd-low : Within 8192 (Classes.queuesEnd bytes m ps (met m))
+  queuesEnd-low : Within memorySize (Classes.queuesEnd bytes m ps (met m))
   unfolding Classes.queuesEnd
   queuesEnd-low = (λ a h. end-low a (queue-low a h), tt)
 
-  waitingBits-low : Within 8192 (Classes.waitingBits bytes m ps (met m))
+  waitingBits-low : Within memorySize (Classes.waitingBits bytes m ps (met m))
   unfolding Classes.waitingBits
   waitingBits-low = (page-low, (control-low, tt))
 
-  reasons-low : Within 8192 (Classes.reasons bytes m ps (met m))
+  reasons-low : Within memorySize (Classes.reasons bytes m ps (met m))
   unfolding Classes.reasons
-  reasons-low = (gather-low lines, (met-low 246, (page-low, tt)))
+  reasons-low = (gather-low lines, (met-low pageQueue, (page-low, tt)))
 
-  messageWaits-low : Within 8192 (Classes.messageWaits bytes m ps (met m))
+  messageWaits-low : Within memorySize (Classes.messageWaits bytes m ps (met m))
   unfolding Classes.messageWaits
   messageWaits-low = (page-low, tt)
 
-  semaphores-low : Within 8192 (Classes.semaphores bytes m ps (met m))
+  semaphores-low : Within memorySize (Classes.semaphores bytes m ps (met m))
   unfolding Classes.semaphores
-  semaphores-low = (λ k h. omega (arith, range1-of 54 0 k h .1), (λ p h. omega (arith, on-list p h .1), (λ a h. one-low 245 a (omega arith) h, tt)))
+  semaphores-low = (λ k h. omega (arith, range1-of interrupts 0 k h .1), (λ p h. omega (arith, on-list p h .1), (λ a h. one-low freeSemaphore a (omega arith) h, tt)))
 
-  pageWaits-low : Within 8192 (Classes.pageWaits bytes m ps (met m))
+  pageWaits-low : Within memorySize (Classes.pageWaits bytes m ps (met m))
   unfolding Classes.pageWaits
   pageWaits-low = (λ p h. omega arith, (λ p h. omega arith, tt))
 
-  labels-low : Within 8192 (Classes.labels bytes m ps (met m))
+  labels-low : Within memorySize (Classes.labels bytes m ps (met m))
   unfolding Classes.labels
   labels-low = (page-low, (page-low, tt))
 
-  granted-low : Within 8192 (Classes.granted bytes m ps (met m))
+  granted-low : Within memorySize (Classes.granted bytes m ps (met m))
   unfolding Classes.granted
-  granted-low = (λ k h. omega (arith, range1-of 15 1 k h .1), (spare-low, tt))
+  granted-low = (λ k h. omega (arith, range1-of lastName 1 k h .1), (spare-low, tt))
     where
-      spare-low : (a : ℕ) → 1 ≤ count a (320 ∷ range 16 1 336) → a < 8192
-      spare-low a h = go (hit-or a 320)
+      spare-low : (a : ℕ) → 1 ≤ count a (grants ∷ range 16 1 (grantFor 16)) → a < memorySize
+      spare-low a h = go (hit-or a grants)
         where
-          go : (a ≡ 320) ⊎ (a ≢ 320) → a < 8192
+          go : (a ≡ grants) ⊎ (a ≢ grants) → a < memorySize
           go (inl e) = omega arith
-          go (inr n) = omega (arith, range1-of 16 336 a (omega (arith, hit-other a 320 n)) .1)
+          go (inr n) = omega (arith, range1-of 16 (grantFor 16) a (omega (arith, hit-other a grants n)) .1)
 
-  messages-low : Within 8192 (Classes.messages bytes m ps (met m))
+  messages-low : Within memorySize (Classes.messages bytes m ps (met m))
   unfolding Classes.messages
   messages-low = (gather-low (mails ps), tt)
 
-  codes-low : Within 8192 (Classes.codes bytes m ps (met m))
+  codes-low : Within memorySize (Classes.codes bytes m ps (met m))
   unfolding Classes.codes
-  codes-low = (λ k h. omega (arith, range1-of 16 0 k h .1), (λ k h. omega (arith, range1-of 2 0 k h .1), (λ k h. omega (arith, range1-of 1 15 k h .1), tt)))
+  codes-low = (λ k h. omega (arith, range1-of allCodes 0 k h .1), (λ k h. omega (arith, range1-of 2 0 k h .1), (λ k h. omega (arith, range1-of 1 builtInCodes k h .1), tt)))
 
-  faults-low : Within 8192 (Classes.faults bytes m ps (met m))
+  faults-low : Within memorySize (Classes.faults bytes m ps (met m))
   unfolding Classes.faults
-  faults-low = (λ a h. one-low 288 a (omega arith) h, (λ k h. omega (arith, range1-of 31 0 k h .1), tt))
+  faults-low = (λ a h. one-low firstUnused a (omega arith) h, (λ k h. omega (arith, range1-of entries 0 k h .1), tt))
 
-  clock-low : Within 8192 (Classes.clock bytes m ps (met m))
+  clock-low : Within memorySize (Classes.clock bytes m ps (met m))
   unfolding Classes.clock
-  clock-low = (λ a h. one-low 239 a (omega arith) h, (λ a h. one-low 240 a (omega arith) h, (λ a h. one-low 241 a (omega arith) h, (λ a h. one-low 242 a (omega arith) h, (λ a h. one-low 243 a (omega arith) h, (λ a h. one-low 250 a (omega arith) h, (λ a h. one-low 251 a (omega arith) h, tt)))))))
+  clock-low = (λ a h. one-low clockLine a (omega arith) h, (λ a h. one-low Map.c0 a (omega arith) h, (λ a h. one-low Map.c1 a (omega arith) h, (λ a h. one-low Map.c2 a (omega arith) h, (λ a h. one-low Map.c3 a (omega arith) h, (λ a h. one-low zeroWord a (omega arith) h, (λ a h. one-low Map.divider a (omega arith) h, tt)))))))
 
-  running-low : Within 8192 (Classes.running bytes m ps (met m))
+  running-low : Within memorySize (Classes.running bytes m ps (met m))
   unfolding Classes.running
-  running-low = (λ a h. one-low 248 a (omega arith) h, (λ p h. omega arith, (λ a h. one-low 249 a (omega arith) h, tt)))
+  running-low = (λ a h. one-low runningPage a (omega arith) h, (λ p h. omega arith, (λ a h. one-low runningLabel a (omega arith) h, tt)))
 
 -- ---- what is told
 abbrev pub AllWithin : ℕ → List Class → Type 0
@@ -192,14 +196,14 @@ tells-within : (n : ℕ) (cs : List Class) → AllWithin n cs → {k a : ℕ} �
 tells-within n (class k ss ∷ cs) w (now i f) = offending-within-in n ss (w .0) _ i
 tells-within n (class k ss ∷ cs) w (later e s) = tells-within n cs (w .1) s
 
-pub all-low : (m : List ℕ) → AllWithin 8192 (Classes.classes bytes m (met m 247) (met m))
+pub all-low : (m : List ℕ) → AllWithin memorySize (Classes.classes bytes m (met m processorList) (met m))
 unfolding Classes.classes Classes.ofPages Classes.ofWaits Classes.ofRecords Classes.ofTables Classes.ofCounters
 all-low m = ((usedOnce-low m, (usesEnd-low m, tt)), ((queuesEnd-low m, (waitingBits-low m, (reasons-low m, (messageWaits-low m, (semaphores-low m, (pageWaits-low m, tt)))))), ((labels-low m, (granted-low m, (messages-low m, tt))), ((codes-low m, (faults-low m, tt)), ((clock-low m, (running-low m, tt)), tt)))))
 
-pub told-low : (m : List ℕ) (k a : ℕ) → toldOf bytes m ≡ Broken k a → a < 8192
+pub told-low : (m : List ℕ) (k a : ℕ) → toldOf bytes m ≡ Broken k a → a < memorySize
 unfolding Classes.toldOf
-told-low m k a e = go (toldOf bytes m) e (first-said (Classes.classes bytes m (met m 247) (met m)))
+told-low m k a e = go (toldOf bytes m) e (first-said (Classes.classes bytes m (met m processorList) (met m)))
   where
-    go : (o : Finding) → o ≡ Broken k a → Said (Classes.classes bytes m (met m 247) (met m)) o → a < 8192
+    go : (o : Finding) → o ≡ Broken k a → Said (Classes.classes bytes m (met m processorList) (met m)) o → a < memorySize
     go Nothing q s = let z : _≡_ {A = ℕ} 0 1 = cc in absurd (omega arith)
-    go (Broken j b) q (says t) = let r : b ≡ a = cc in rw (← r) (tells-within 8192 (Classes.classes bytes m (met m 247) (met m)) (all-low m) t)
+    go (Broken j b) q (says t) = let r : b ≡ a = cc in rw (← r) (tells-within memorySize (Classes.classes bytes m (met m processorList) (met m)) (all-low m) t)

@@ -7,7 +7,12 @@ use Prim.Native.Nat.{ℕ, suc, _+_, _-_, _*_, _/_, _%_, _≤_, _<_}
 use native.Mathlib.Omega.{arith}
 use lib.ListN.{length, getD}
 use borrow.Author.Tests.{eqb-false}
+use Rattle.model.specs.Map as Map
+use Rattle.model.specs.Map.{memorySize, pageSize, place, upper, lower, waitBit, interrupts, headerAfter, clockLine, freeSemaphore}
+use Rattle.model.specs.Map.{processorList, runningPage, runningLabel, zeroWord, allCodes, builtInCodes, firstUnused, entries, grants}
+use Rattle.model.specs.Map.{grantFor, firstControl, controlPages, lastName}
 use Rattle.model.specs.Store.{bytes}
+use Rattle.model.specs.Bytes.{word}
 use Rattle.model.specs.Lists.{count, sum, each-of, some, linkOf, range, mails, uses, queues, isGrant}
 use Rattle.model.specs.Judge as Judge
 use Rattle.model.specs.Classes as Classes
@@ -43,26 +48,26 @@ bearer-of f (p ∷ ps) k h = go (hit-or k (f p)) (bearer-of f ps k)
 
 -- a word of page 10: of a name, or spare
 pub spare-grant : (a : ℕ) → 1 ≤ count a spare → isGrant a ≡ true
-spare-grant a h = go (hit-or a 320)
+spare-grant a h = go (hit-or a grants)
   where
-    go : (a ≡ 320) ⊎ (a ≢ 320) → isGrant a ≡ true
+    go : (a ≡ grants) ⊎ (a ≢ grants) → isGrant a ≡ true
     go (inl e) = rw e (grant-is 0 (omega arith))
     go (inr n) =
-        let r = range1-of 16 336 a (omega (arith, hit-other a 320 n)) in
-        let e : 320 + (a - 320) ≡ a = omega arith in
-        rw e at (grant-is (a - 320) (omega arith))
+        let r = range1-of 16 (grantFor 16) a (omega (arith, hit-other a grants n)) in
+        let e : grantFor (a - grants) ≡ a = omega arith in
+        rw e at (grant-is (a - grants) (omega arith))
 
 pub data Word10 (k : ℕ) : Type 0 where
   holder : 1 ≤ k → k < 16 → Word10 k
-  spared : 1 ≤ count (320 + k) spare → Word10 k
+  spared : 1 ≤ count (grantFor k) spare → Word10 k
 
-pub word10 : (k : ℕ) → k < 32 → Word10 k
+pub word10 : (k : ℕ) → k < pageSize → Word10 k
 word10 k h = go (hit-or k 0) (hit-or (k / 16) 0)
   where
     go : (k ≡ 0) ⊎ (k ≢ 0) → (k / 16 ≡ 0) ⊎ (k / 16 ≢ 0) → Word10 k
-    go (inl e) f = let g : 320 + k ≡ 320 = omega arith in spared (rw g (omega (arith, hit-self 320)))
+    go (inl e) f = let g : grantFor k ≡ grants = omega arith in spared (rw g (omega (arith, hit-self grants)))
     go (inr e) (inl f) = holder (omega arith) (omega arith)
-    go (inr e) (inr f) = spared (omega (arith, range1-at 16 336 (320 + k) (omega arith) (omega arith)))
+    go (inr e) (inr f) = spared (omega (arith, range1-at 16 (grantFor 16) (grantFor k) (omega arith) (omega arith)))
 
 -- what the five classes say, sentence by sentence
 pub record Clean (m : List ℕ) (ps : List ℕ) : Type 0 where
@@ -82,85 +87,85 @@ pub record Clean (m : List ℕ) (ps : List ℕ) : Type 0 where
   pub clock : Means (Classes.clock bytes m ps (met m))
   pub running : Means (Classes.running bytes m ps (met m))
 
-module _ (m : List ℕ) (c : Clean m (met m 247)) where
+module _ (m : List ℕ) (c : Clean m (met m processorList)) where
   spare-zero : (a : ℕ) → 1 ≤ count a spare → getD m a 0 ≡ 0
   unfolding Classes.labels Classes.granted Classes.messages Classes.nought
   spare-zero a h = c .granted .1 .0 a h
 
-  once : (z : ℕ) → sum z (met m) (uses (met m 247)) ≡ one z
+  once : (z : ℕ) → sum z (met m) (uses (met m processorList)) ≡ one z
   unfolding Classes.usedOnce Classes.usesEnd Classes.once
-  once z = used-uses z (met m) (met m 247) (λ a h. met-none m a (spare-grant a h) (spare-zero a h)) ∙ go (page-or z)
+  once z = used-uses z (met m) (met m processorList) (λ a h. met-none m a (spare-grant a h) (spare-zero a h)) ∙ go (page-or z)
     where
-      go : Page z ⊎ (one z ≡ 0) → sum z (met m) (used (met m 247)) ≡ one z
-      go (inl p) = c .usedOnce .0 z (omega (arith, range1-at 20 236 z (p .0) (omega arith))) ∙ sym (page-one z p)
-      go (inr e) = sum-pos z (met m) (used (met m 247)) (λ a i. none-else (met m a) (met-pages m a) z e) ∙ sym e
+      go : Page z ⊎ (one z ≡ 0) → sum z (met m) (used (met m processorList)) ≡ one z
+      go (inl p) = c .usedOnce .0 z (omega (arith, range1-at controlPages firstControl z (p .0) (omega arith))) ∙ sym (page-one z p)
+      go (inr e) = sum-pos z (met m) (used (met m processorList)) (λ a i. none-else (met m a) (met-pages m a) z e) ∙ sym e
 
-  only : (z : ℕ) → sum z (met m) (queues (met m 247)) ≤ count z (met m 247)
+  only : (z : ℕ) → sum z (met m) (queues (met m processorList)) ≤ count z (met m processorList)
   unfolding Classes.queuesEnd Classes.waitingBits Classes.reasons Classes.messageWaits Classes.semaphores Classes.pageWaits Classes.pageSemaphore Judge.waiter
   only z = go (page-or z)
     where
-      go : Page z ⊎ (one z ≡ 0) → sum z (met m) (queues (met m 247)) ≤ count z (met m 247)
-      go (inl p) = c .waitingBits .1 .0 z (omega (arith, range1-at 20 236 z (p .0) (omega arith)))
-      go (inr e) = omega (arith, sum-pos z (met m) (queues (met m 247)) (λ a i. none-else (met m a) (met-pages m a) z e))
+      go : Page z ⊎ (one z ≡ 0) → sum z (met m) (queues (met m processorList)) ≤ count z (met m processorList)
+      go (inl p) = c .waitingBits .1 .0 z (omega (arith, range1-at controlPages firstControl z (p .0) (omega arith)))
+      go (inr e) = omega (arith, sum-pos z (met m) (queues (met m processorList)) (λ a i. none-else (met m a) (met-pages m a) z e))
 
-  sep : Sep (met m 247) (met m)
+  sep : Sep (met m processorList) (met m)
   sep = record { procs = refl; most = λ z. omega (arith, once z); waits = only }
 
   -- every list ends by 0
-  pointed : (a : ℕ) → Head (met m 247) a → Pointer m (lastCell (linkOf a) a (met m a))
+  pointed : (a : ℕ) → Head (met m processorList) a → Pointer m (lastCell (linkOf a) a (met m a))
   unfolding Classes.usedOnce Classes.usesEnd Classes.queuesEnd Classes.waitingBits Classes.reasons Classes.messageWaits Classes.semaphores Classes.pageWaits Classes.pageSemaphore Classes.ends Classes.pointer
-  pointed a h = go (zero-or (count a (uses (met m 247))))
+  pointed a h = go (zero-or (count a (uses (met m processorList))))
     where
-      go : (count a (uses (met m 247)) ≡ 0) ⊎ (1 ≤ count a (uses (met m 247))) → Pointer m (lastCell (linkOf a) a (met m a))
-      go (inl e) = c .queuesEnd .0 a (omega (arith, h .0, count-append a (uses (met m 247)) (queues (met m 247))))
-      go (inr i) = chain (zero-or (count a (range 32 1 320)))
+      go : (count a (uses (met m processorList)) ≡ 0) ⊎ (1 ≤ count a (uses (met m processorList))) → Pointer m (lastCell (linkOf a) a (met m a))
+      go (inl e) = c .queuesEnd .0 a (omega (arith, h .0, count-append a (uses (met m processorList)) (queues (met m processorList))))
+      go (inr i) = chain (zero-or (count a (range pageSize 1 grants)))
         where
-          chain : (count a (range 32 1 320) ≡ 0) ⊎ (1 ≤ count a (range 32 1 320)) → Pointer m (lastCell (linkOf a) a (met m a))
-          chain (inl e) = c .usesEnd .0 a (omega (arith, count-append a (mails (met m 247)) (range 32 1 320)))
+          chain : (count a (range pageSize 1 grants) ≡ 0) ⊎ (1 ≤ count a (range pageSize 1 grants)) → Pointer m (lastCell (linkOf a) a (met m a))
+          chain (inl e) = c .usesEnd .0 a (omega (arith, count-append a (mails (met m processorList)) (range pageSize 1 grants)))
           chain (inr j) =
-              let r = range1-of 32 320 a j in
-              let q : 320 + (a - 320) ≡ a = omega arith in
-              let g = rw q at (grant-is (a - 320) (omega arith)) in
+              let r = range1-of pageSize grants a j in
+              let q : grantFor (a - grants) ≡ a = omega arith in
+              let g = rw q at (grant-is (a - grants) (omega arith)) in
               let f = h .1 in
               let z : _≡_ {A = ℕ} 0 1 = cc in absurd (omega arith)
 
-  chained : (a : ℕ) → Head (met m 247) a → Chain m (linkOf a) a (met m a)
+  chained : (a : ℕ) → Head (met m processorList) a → Chain m (linkOf a) a (met m a)
   chained a h =
       let w = met-path m a (h .1) in
       let l = list-short sep a (h .0) in
       let p = pointed a h in
-      rw w (chain-path 21 m (linkOf a) a (omega (arith, l, ap length w)) (rw w at p))
+      rw w (chain-path (suc controlPages) m (linkOf a) a (omega (arith, l, ap length w)) (rw w at p))
 
   -- a grant is 0 or a page, and 0 where no name is
-  granted : (k : ℕ) → k < 32 → met m (320 + k) ≡ some (getD m (320 + k) 0)
+  granted : (k : ℕ) → k < pageSize → met m (grantFor k) ≡ some (getD m (grantFor k) 0)
   unfolding Classes.usedOnce Classes.usesEnd Classes.pointer
   granted k h = go (word10 k h)
     where
-      go : Word10 k → met m (320 + k) ≡ some (getD m (320 + k) 0)
+      go : Word10 k → met m (grantFor k) ≡ some (getD m (grantFor k) 0)
       go (holder u v) =
-          met-some m (320 + k) (grant-is k h) (c .usesEnd .1 .0 (320 + k) (omega (arith, range1-at 15 321 (320 + k) (omega arith) (omega arith))))
-      go (spared s) = let e = spare-zero (320 + k) s in met-none m (320 + k) (grant-is k h) e ∙ sym (ap some e)
+          met-some m (grantFor k) (grant-is k h) (c .usesEnd .1 .0 (grantFor k) (omega (arith, range1-at lastName (grantFor 1) (grantFor k) (omega arith) (omega arith))))
+      go (spared s) = let e = spare-zero (grantFor k) s in met-none m (grantFor k) (grant-is k h) e ∙ sym (ap some e)
 
-  names : (p : ℕ) → 1 ≤ count p (met m 247) → means (Judge.label bytes m (met m 247) (met m) p)
+  names : (p : ℕ) → 1 ≤ count p (met m processorList) → means (Judge.label bytes m (met m processorList) (met m) p)
   unfolding Classes.labels Classes.granted Classes.messages
   names = c .labels .0
 
-  known : (k : ℕ) → k < 32 → length (met m (320 + k)) ≢ 0 → bearers (view m .label) (met m 247) k ≡ 1
+  known : (k : ℕ) → k < pageSize → length (met m (grantFor k)) ≢ 0 → bearers (view m .label) (met m processorList) k ≡ 1
   unfolding Classes.labels Classes.granted Classes.messages Classes.existing Judge.label
-  known k h n = go (hit-or (getD m (320 + k) 0) 0) (word10 k h)
+  known k h n = go (hit-or (getD m (grantFor k) 0) 0) (word10 k h)
     where
-      none : getD m (320 + k) 0 ≡ 0 → length (met m (320 + k)) ≡ 0
-      none e = ap length (met-none m (320 + k) (grant-is k h) e)
+      none : getD m (grantFor k) 0 ≡ 0 → length (met m (grantFor k)) ≡ 0
+      none e = ap length (met-none m (grantFor k) (grant-is k h) e)
 
-      go : (getD m (320 + k) 0 ≡ 0) ⊎ (getD m (320 + k) 0 ≢ 0) → Word10 k → bearers (view m .label) (met m 247) k ≡ 1
+      go : (getD m (grantFor k) 0 ≡ 0) ⊎ (getD m (grantFor k) 0 ≢ 0) → Word10 k → bearers (view m .label) (met m processorList) k ≡ 1
       go (inl e) w = absurd (n (none e))
-      go (inr e) (spared s) = absurd (e (spare-zero (320 + k) s))
+      go (inr e) (spared s) = absurd (e (spare-zero (grantFor k) s))
       go (inr e) (holder u v) =
-          let i = c .granted .0 k (omega (arith, range1-at 15 1 k (omega arith) (omega arith))) e in
-          let t = bearer-of (λ p. getD m (p * 32 + 7) 0 % 16) (met m 247) k i in
+          let i = c .granted .0 k (omega (arith, range1-at lastName 1 k (omega arith) (omega arith))) e in
+          let t = bearer-of (λ p. lower (word m p Map.label)) (met m processorList) k i in
           rw (t .is) at (names (t .who) (t .here) .0)
 
-  pub clean-inv : length m ≡ 8192 → Inv m (met m 247) (met m) (view m)
+  pub clean-inv : length m ≡ memorySize → Inv m (met m processorList) (met m) (view m)
   unfolding Classes.usedOnce Classes.usesEnd Classes.queuesEnd Classes.waitingBits Classes.reasons Classes.messageWaits Classes.semaphores Classes.pageWaits Classes.pageSemaphore Classes.labels Classes.granted Classes.messages Classes.codes Classes.faults Classes.inRange Classes.clock Classes.running Classes.outer Classes.below Classes.positive Classes.once Classes.pointer Classes.ends Classes.noneFree Classes.noGrant
       Classes.existing Classes.nought Classes.isBuiltIn Classes.isForeign Classes.runner Classes.notHigher Classes.shown Judge.label Judge.bit Judge.waiter
       Judge.reasoned Judge.reasonless Judge.quiet Judge.unasked Judge.owner Judge.messageWait Judge.interruptSemaphore Judge.messageSemaphore
@@ -186,63 +191,63 @@ module _ (m : List ℕ) (c : Clean m (met m 247)) where
             seats = record {
               bit = λ p h. c .waitingBits .0 p h;
               zeros = λ p h. c .labels .1 .0 p h;
-              served = λ k i p h. c .reasons .0 p (of-gather (met m) (range 54 2 132) (132 + 2 * k) p (omega (arith, range2-at 54 132 k i)) h);
+              served = λ k i p h. c .reasons .0 p (of-gather (met m) (range interrupts 2 (headerAfter 0)) (headerAfter k) p (omega (arith, range2-at interrupts (headerAfter 0) k i)) h);
               asking = λ p h. c .reasons .1 .0 p h;
               quiet = λ p h. c .reasons .1 .1 .0 p h;
             };
             own = λ p h x i. let q = c .messageWaits .0 p h x i in record { owner = q .0; flag = q .1 .0; none = q .1 .1 };
             sems = λ s h. sems m (met m)
-                (λ k i. c .semaphores .0 k (omega (arith, range1-at 54 0 k (omega arith) (omega arith))))
-                (proc-page sep) (c .semaphores .1 .0) (c .semaphores .1 .1 .0 245 (omega (arith, hit-self 245))) s (seat-of (met m 247) s h);
+                (λ k i. c .semaphores .0 k (omega (arith, range1-at interrupts 0 k (omega arith) (omega arith))))
+                (proc-page sep) (c .semaphores .1 .0) (c .semaphores .1 .1 .0 freeSemaphore (omega (arith, hit-self freeSemaphore))) s (seat-of (met m processorList) s h);
             granted = record {
               bare = λ p h.
                   let g = c .pageWaits .1 .0 p h in
-                  let k : getD m (p * 32 + 7) 0 % 16 < 32 = omega arith in (
+                  let k : lower (word m p Map.label) < pageSize = omega arith in (
                     c .pageWaits .0 p h,
-                    ap length (met-none m (320 + getD m (p * 32 + 7) 0 % 16) (grant-is (getD m (p * 32 + 7) 0 % 16) k) g),
+                    ap length (met-none m (grantFor (lower (word m p Map.label))) (grant-is (lower (word m p Map.label)) k) g),
                   );
               known = λ k h d n. known k h n;
             };
-            mail = λ p v h i j q d. of-rule (c .messages .0 q (of-gather (met m) (mails (met m 247)) (p * 32 + v) q (omega (arith, mails-of-at p v h i j)) d));
+            mail = λ p v h i j q d. of-rule (c .messages .0 q (of-gather (met m) (mails (met m processorList)) (place p v) q (omega (arith, mails-of-at p v h i j)) d));
             runs = record {
-              idle = c .running .1 .1 .0 249 (omega (arith, hit-self 249)) .0;
-              listed = λ z. c .running .0 248 (omega (arith, hit-self 248)) z .0;
-              tag = c .running .1 .1 .0 249 (omega (arith, hit-self 249)) .1;
+              idle = c .running .1 .1 .0 runningLabel (omega (arith, hit-self runningLabel)) .0;
+              listed = λ z. c .running .0 runningPage (omega (arith, hit-self runningPage)) z .0;
+              tag = c .running .1 .1 .0 runningLabel (omega (arith, hit-self runningLabel)) .1;
             };
             codes = record {
-              kinds = λ k h. c .codes .0 k (omega (arith, range1-at 16 0 k (omega arith) (omega arith)));
+              kinds = λ k h. c .codes .0 k (omega (arith, range1-at allCodes 0 k (omega arith) (omega arith)));
               zero = c .codes .1 .0 0 (omega (arith, range1-at 2 0 0 (omega arith) (omega arith)));
               one = c .codes .1 .0 1 (omega (arith, range1-at 2 0 1 (omega arith) (omega arith)));
-              last = c .codes .1 .1 .0 15 (omega (arith, range1-at 1 15 15 (omega arith) (omega arith)));
+              last = c .codes .1 .1 .0 builtInCodes (omega (arith, range1-at 1 builtInCodes builtInCodes (omega arith) (omega arith)));
             };
             clock = record {
-              c0 = c .clock .1 .0 240 (omega (arith, hit-self 240));
-              c1 = c .clock .1 .1 .0 241 (omega (arith, hit-self 241));
-              c2 = c .clock .1 .1 .1 .0 242 (omega (arith, hit-self 242));
-              c3 = c .clock .1 .1 .1 .1 .0 243 (omega (arith, hit-self 243));
-              divider = c .clock .1 .1 .1 .1 .1 .1 .0 251 (omega (arith, hit-self 251));
-              line = c .clock .0 239 (omega (arith, hit-self 239));
-              nought = c .clock .1 .1 .1 .1 .1 .0 250 (omega (arith, hit-self 250));
+              c0 = c .clock .1 .0 Map.c0 (omega (arith, hit-self Map.c0));
+              c1 = c .clock .1 .1 .0 Map.c1 (omega (arith, hit-self Map.c1));
+              c2 = c .clock .1 .1 .1 .0 Map.c2 (omega (arith, hit-self Map.c2));
+              c3 = c .clock .1 .1 .1 .1 .0 Map.c3 (omega (arith, hit-self Map.c3));
+              divider = c .clock .1 .1 .1 .1 .1 .1 .0 Map.divider (omega (arith, hit-self Map.divider));
+              line = c .clock .0 clockLine (omega (arith, hit-self clockLine));
+              nought = c .clock .1 .1 .1 .1 .1 .0 zeroWord (omega (arith, hit-self zeroWord));
             };
             faults = record {
-              range = c .faults .0 288 (omega (arith, hit-self 288));
-              used = λ i h l. let q = c .faults .1 .0 i (at31 i h) .0 l in record { name = q .0; fault = q .1 };
-              unused = λ i h l. c .faults .1 .0 i (at31 i h) .1 l;
+              range = c .faults .0 firstUnused (omega (arith, hit-self firstUnused));
+              used = λ i h l. let q = c .faults .1 .0 i (in-entries i h) .0 l in record { name = q .0; fault = q .1 };
+              unused = λ i h l. c .faults .1 .0 i (in-entries i h) .1 l;
             };
           };
           all = λ z. omega (arith, once z);
         };
-        best = record { ready = λ z. c .running .0 248 (omega (arith, hit-self 248)) z .1; top = top };
+        best = record { ready = λ z. c .running .0 runningPage (omega (arith, hit-self runningPage)) z .1; top = top };
       }
     where
-      at31 : (i : ℕ) → i < 31 → 1 ≤ count i (range 31 1 0)
-      at31 i h = omega (arith, range1-at 31 0 i (omega arith) (omega arith))
+      in-entries : (i : ℕ) → i < entries → 1 ≤ count i (range entries 1 0)
+      in-entries i h = omega (arith, range1-at entries 0 i (omega arith) (omega arith))
 
-      mails-of-at : (p v : ℕ) → 1 ≤ count p (met m 247) → 5 ≤ v → v ≤ 6 → 1 ≤ count (p * 32 + v) (mails (met m 247))
-      mails-of-at p v h i j = omega (arith, mails-at p v (met m 247) i j)
+      mails-of-at : (p v : ℕ) → 1 ≤ count p (met m processorList) → 5 ≤ v → v ≤ 6 → 1 ≤ count (place p v) (mails (met m processorList))
+      mails-of-at p v h i j = omega (arith, mails-at p v (met m processorList) i j)
 
-      top : (p : ℕ) → 1 ≤ count p (met m 247) → suc (getD m (p * 32 + 12) 0) ≤ 64 → getD m (p * 32 + 7) 0 / 16 ≤ getD m 249 0 / 16
+      top : (p : ℕ) → 1 ≤ count p (met m processorList) → suc (word m p Map.state) ≤ waitBit → upper (word m p Map.label) ≤ upper (getD m runningLabel 0)
       top p h l =
           let q = c .running .1 .0 p h l in
-          let e = c .running .1 .1 .0 249 (omega (arith, hit-self 249)) .1 (eqb-false (getD m 248 0) 0 (q .0)) in
+          let e = c .running .1 .1 .0 runningLabel (omega (arith, hit-self runningLabel)) .1 (eqb-false (getD m runningPage 0) 0 (q .0)) in
           rw e (q .1)

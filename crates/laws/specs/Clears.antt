@@ -8,10 +8,14 @@ use native.Mathlib.Omega.{arith}
 use lib.ListN.{length, getD}
 use lib.Dec.{eqb}
 use borrow.Author.Tests.{ne-eqb}
+use Rattle.model.specs.Map as Map
+use Rattle.model.specs.Map.{memorySize, pageSize, place, upper, lower, less, waitBit, interrupts, semaphoreAfter, headerAfter, clockLine}
+use Rattle.model.specs.Map.{freeList, freeSemaphore, pageQueue, processorList, runningPage, runningLabel, zeroWord, codeWord, allCodes}
+use Rattle.model.specs.Map.{builtInCodes, firstUnused, entries, grants, grantsEnd, grantFor, firstControl, lastControl, controlPages}
+use Rattle.model.specs.Map.{ownSemaphore, ownQueue, q1, lastName}
 use Rattle.model.specs.Store.{bytes}
-use Rattle.model.specs.Map.{less}
 use Rattle.model.specs.Mail.{fits}
-use Rattle.model.specs.Bytes.{lists, judged}
+use Rattle.model.specs.Bytes.{word, lists, judged}
 use Rattle.model.specs.Lists.{count, Lists, sum, some, linkOf, range, mails, owns, uses, queues, isGrant}
 use Rattle.model.specs.Judge as Judge
 use Rattle.model.specs.declared.Finding.the-variants.{Nothing}
@@ -27,7 +31,7 @@ use Rattle.laws.specs.Uses.{Among, Sep, proc-page, list-short}
 use Rattle.laws.specs.Met.{met, Pointer, met-path, met-some, met-none, some-pos, path-chain, chain-last, gather-of, used-uses, spare}
 use Rattle.laws.specs.Places.{in-uses, in-queues, in-procs, in-free, in-asking, in-own, in-q, in-grant, int-queue, grant-is, grant-of, grant-low, grant-high, all-pages}
 use Rattle.laws.specs.Places.{own-once, asking-once}
-use Rattle.laws.specs.Inv.{view, bearers, stock-page, stock-else, Facts, Inv}
+use Rattle.laws.specs.Inv.{noOne, view, bearers, stock-page, stock-else, Facts, Inv}
 use Rattle.laws.specs.Accepted.{MessageRule, as-rule, judge-inv}
 use Rattle.laws.specs.Judged.{inv-judge}
 use Rattle.laws.specs.Cleared.{bearer-of, spare-grant, Clean, clean-inv}
@@ -41,7 +45,7 @@ only-one a x h = go (hit-or a x)
     go (inr n) = absurd (omega (arith, hit-other a x n))
 
 module _ (m : List ℕ) (ps : List ℕ) (L : Lists) (i : Inv m ps L (view m)) where
-  f : Facts ps L (view m) 32
+  f : Facts ps L (view m) noOne
   f = i .base .facts
 
   sep : Sep ps L
@@ -54,14 +58,14 @@ module _ (m : List ℕ) (ps : List ℕ) (L : Lists) (i : Inv m ps L (view m)) wh
       go (inl z) = z
       go (inr p) = absurd (omega (arith, ap length (some-pos x p)))
 
-  held : (k : ℕ) → k < 32 → L (320 + k) ≡ some (getD m (320 + k) 0)
+  held : (k : ℕ) → k < pageSize → L (grantFor k) ≡ some (getD m (grantFor k) 0)
   held = i .base .mem .holds .grant
 
-  grant-pointer : (k : ℕ) → k < 32 → Pointer m (320 + k)
+  grant-pointer : (k : ℕ) → k < pageSize → Pointer m (grantFor k)
   grant-pointer k h n =
-      let w = getD m (320 + k) 0 in
-      let e = held k h ∙ some-pos (getD m (320 + k) 0) (omega arith) in
-      let p = all-pages sep (320 + k) (getD m (320 + k) 0) (in-grant ps k h) (rw e (omega (arith, hit-self (getD m (320 + k) 0)))) in
+      let w = getD m (grantFor k) 0 in
+      let e = held k h ∙ some-pos (getD m (grantFor k) 0) (omega arith) in
+      let p = all-pages sep (grantFor k) (getD m (grantFor k) 0) (in-grant ps k h) (rw e (omega (arith, hit-self (getD m (grantFor k) 0)))) in
       (p .0, omega (arith, p .1))
 
   -- the lists met are the lists
@@ -69,38 +73,38 @@ module _ (m : List ℕ) (ps : List ℕ) (L : Lists) (i : Inv m ps L (view m)) wh
   agree a h = go (isGrant a) refl
     where
       go : (b : Bool) → isGrant a ≡ b → met m a ≡ L a
-      go true e = grants (grant-of a e)
+      go true e = held-there (grant-of a e)
         where
-          grants : (320 ≤ a) × (a < 352) → met m a ≡ L a
-          grants r =
-              let q : 320 + (a - 320) ≡ a = omega arith in
-              let x = met-some m (320 + (a - 320)) (grant-is (a - 320) (omega arith)) (grant-pointer (a - 320) (omega arith)) ∙ sym (held (a - 320) (omega arith)) in
+          held-there : (grants ≤ a) × (a < grantsEnd) → met m a ≡ L a
+          held-there r =
+              let q : grantFor (a - grants) ≡ a = omega arith in
+              let x = met-some m (grantFor (a - grants)) (grant-is (a - grants) (omega arith)) (grant-pointer (a - grants) (omega arith)) ∙ sym (held (a - grants) (omega arith)) in
               rw q at x
-      go false e = met-path m a e ∙ path-chain 21 m (linkOf a) a (L a) (i .base .mem .holds .rep a (h, e)) (omega (arith, list-short sep a h))
+      go false e = met-path m a e ∙ path-chain (suc controlPages) m (linkOf a) a (L a) (i .base .mem .holds .rep a (h, e)) (omega (arith, list-short sep a h))
 
-  known : (k : ℕ) → k < 32 → getD m (320 + k) 0 ≢ 0 → bearers (view m .label) ps k ≡ 1
-  known k h n = f .granted .known k h (omega arith) (λ e. n (some-none (getD m (320 + k) 0) (sym (ap length (held k h)) ∙ e)))
+  known : (k : ℕ) → k < pageSize → getD m (grantFor k) 0 ≢ 0 → bearers (view m .label) ps k ≡ 1
+  known k h n = f .granted .known k h (omega arith) (λ e. n (some-none (getD m (grantFor k) 0) (sym (ap length (held k h)) ∙ e)))
 
   spare-zero : (a : ℕ) → 1 ≤ count a spare → getD m a 0 ≡ 0
-  spare-zero a h = go (hit-or a 320) (hit-or (getD m a 0) 0)
+  spare-zero a h = go (hit-or a grants) (hit-or (getD m a 0) 0)
     where
-      at : (k : ℕ) → k < 32 → (k ≡ 0) ⊎ (16 ≤ k) → getD m (320 + k) 0 ≢ 0 → ⊥
+      at : (k : ℕ) → k < pageSize → (k ≡ 0) ⊎ (16 ≤ k) → getD m (grantFor k) 0 ≢ 0 → ⊥
       at k l o n = fail o
         where
-          t : (p : ℕ) × (1 ≤ count p ps) × (getD m (p * 32 + 7) 0 % 16 ≡ k)
-          t = let b = bearer-of (λ p. getD m (p * 32 + 7) 0 % 16) ps k (omega (arith, known k l n)) in (b .who, b .here, b .is)
+          t : (p : ℕ) × (1 ≤ count p ps) × (lower (word m p Map.label) ≡ k)
+          t = let b = bearer-of (λ p. lower (word m p Map.label)) ps k (omega (arith, known k l n)) in (b .who, b .here, b .is)
 
           fail : (k ≡ 0) ⊎ (16 ≤ k) → ⊥
           fail (inl z) = omega (arith, f .names .range (t .0) (t .1) .name, t .2)
           fail (inr z) = omega (arith, t .2)
 
-      go : (a ≡ 320) ⊎ (a ≢ 320) → (getD m a 0 ≡ 0) ⊎ (getD m a 0 ≢ 0) → getD m a 0 ≡ 0
+      go : (a ≡ grants) ⊎ (a ≢ grants) → (getD m a 0 ≡ 0) ⊎ (getD m a 0 ≢ 0) → getD m a 0 ≡ 0
       go e (inl z) = z
       go (inl e) (inr n) = absurd (at 0 (omega arith) (inl refl) (rw e at n))
       go (inr e) (inr n) =
-          let r = range1-of 16 336 a (omega (arith, hit-other a 320 e)) in
-          let q : a ≡ 320 + (a - 320) = omega arith in
-          absurd (at (a - 320) (omega arith) (inr (omega arith)) (rw q at n))
+          let r = range1-of 16 (grantFor 16) a (omega (arith, hit-other a grants e)) in
+          let q : a ≡ grantFor (a - grants) = omega arith in
+          absurd (at (a - grants) (omega arith) (inr (omega arith)) (rw q at n))
 
   sums : (z : ℕ) → (sum z (met m) (uses ps) ≡ sum z L (uses ps)) × (sum z (met m) (queues ps) ≡ sum z L (queues ps))
   sums z = (sum-ext z (met m) L (uses ps) (λ a h. agree a (in-uses ps a h)), sum-ext z (met m) L (queues ps) (λ a h. agree a (in-queues ps a h)))
@@ -115,7 +119,7 @@ module _ (m : List ℕ) (ps : List ℕ) (L : Lists) (i : Inv m ps L (view m)) wh
     where
       once : (z : ℕ) → 1 ≤ count z controls → sum z (met m) (used ps) ≡ 1
       once z h =
-          let r = range1-of 20 236 z h in
+          let r = range1-of controlPages firstControl z h in
           omega (
             arith,
             used-uses z (met m) ps (λ a j. met-none m a (spare-grant a j) (spare-zero a j)),
@@ -125,24 +129,24 @@ module _ (m : List ℕ) (ps : List ℕ) (L : Lists) (i : Inv m ps L (view m)) wh
           )
 
       among : (a : ℕ) → 1 ≤ count a (chains ps) → 1 ≤ count a (uses ps)
-      among a h = omega (arith, count-append a (mails ps) (range 32 1 320))
+      among a h = omega (arith, count-append a (mails ps) (range pageSize 1 grants))
 
       chain-not : (a : ℕ) → 1 ≤ count a (chains ps) → isGrant a ≡ false
-      chain-not a h = go (hit-or a 247) (hit-or a 244)
+      chain-not a h = go (hit-or a processorList) (hit-or a freeList)
         where
-          go : (a ≡ 247) ⊎ (a ≢ 247) → (a ≡ 244) ⊎ (a ≢ 244) → isGrant a ≡ false
+          go : (a ≡ processorList) ⊎ (a ≢ processorList) → (a ≡ freeList) ⊎ (a ≢ freeList) → isGrant a ≡ false
           go (inl e) g = grant-low a (omega arith)
           go (inr e) (inl g) = grant-low a (omega arith)
           go (inr e) (inr g) =
-              let s = mails-of a ps (omega (arith, hit-other a 247 e, hit-other a 244 g)) in
+              let s = mails-of a ps (omega (arith, hit-other a processorList e, hit-other a freeList g)) in
               let p = proc-page sep (s .page) (s .proc) in
               grant-high a (omega (arith, p .0, s .is))
 
       held-page : (a : ℕ) → 1 ≤ count a holders → Pointer m a
       held-page a h =
-          let r = range1-of 15 321 a h in
-          let q : 320 + (a - 320) ≡ a = omega arith in
-          rw q at (grant-pointer (a - 320) (omega arith))
+          let r = range1-of lastName (grantFor 1) a h in
+          let q : grantFor (a - grants) ≡ a = omega arith in
+          rw q at (grant-pointer (a - grants) (omega arith))
 
   -- "a wait queue or semaphore"
   pub record WaitsClean : Type 0 where
@@ -162,15 +166,15 @@ module _ (m : List ℕ) (ps : List ℕ) (L : Lists) (i : Inv m ps L (view m)) wh
     waitingBits = (λ p h. sums p .1 ∙ f .seats .bit p h, (λ z h. omega (arith, sums z, sep .waits z), tt));
     reasons = (served, (λ p h. f .seats .asking p (rw wa at h), (f .seats .quiet, tt)));
     messageWaits = (own, tt);
-    semaphores = (λ k h. line-sem k (range1-of 54 0 k h .1), (own-sem, (λ a h. page-sem, tt)));
+    semaphores = (λ k h. line-sem k (range1-of interrupts 0 k h .1), (own-sem, (λ a h. page-sem, tt)));
     pageWaits = (λ p h. rw wf (f .granted .bare p (rw wa at h) .0), (λ p h. bare p (rw wa at h), tt));
   }
     where
-      wa : met m 246 ≡ L 246
-      wa = agree 246 (in-asking ps)
+      wa : met m pageQueue ≡ L pageQueue
+      wa = agree pageQueue (in-asking ps)
 
-      wf : met m 244 ≡ L 244
-      wf = agree 244 (in-free ps)
+      wf : met m freeList ≡ L freeList
+      wf = agree freeList (in-free ps)
 
       queue-not : (a : ℕ) → 1 ≤ count a (queues ps) → isGrant a ≡ false
       queue-not a h = go (queues-place ps a h)
@@ -178,52 +182,52 @@ module _ (m : List ℕ) (ps : List ℕ) (L : Lists) (i : Inv m ps L (view m)) wh
           go : Place ps a → isGrant a ≡ false
           go (int k l e) = grant-low a (omega arith)
           go (three u v w) = grant-low a (omega arith)
-          go (grant u v) = absurd (none (hit-or a 246))
+          go (grant u v) = absurd (none (hit-or a pageQueue))
             where
-              none : (a ≡ 246) ⊎ (a ≢ 246) → ⊥
+              none : (a ≡ pageQueue) ⊎ (a ≢ pageQueue) → ⊥
               none (inl e) = omega arith
               none (inr e) = pick (zero-or (count a (owns ps)))
                 where
                   pick : (count a (owns ps) ≡ 0) ⊎ (1 ≤ count a (owns ps)) → ⊥
                   pick (inl z) =
-                      let r = range2-of 54 132 a (omega (arith, hit-other a 246 e, count-append a (owns ps) (range 54 2 132))) in
+                      let r = range2-of interrupts (headerAfter 0) a (omega (arith, hit-other a pageQueue e, count-append a (owns ps) (range interrupts 2 (headerAfter 0)))) in
                       omega (arith, r .1, r .2)
                   pick (inr j) = let s = owns-of a ps j in let p = proc-page sep (s .page) (s .proc) in omega (arith, p .0, s .is)
           go (slot s) = let p = proc-page sep (s .page) (s .proc) in grant-high a (omega (arith, p .0, s .is))
 
-      served : (p : ℕ) → 1 ≤ count p (gather (met m) lines) → (1 ≤ getD m (p * 32 + 2) 0) × (getD m (p * 32 + 2) 0 ≤ 255)
+      served : (p : ℕ) → 1 ≤ count p (gather (met m) lines) → (1 ≤ word m p Map.reason) × (word m p Map.reason ≤ lastControl)
       served p h =
           let t = gather-of (met m) lines p h in
-          let r = range2-of 54 132 (t .head) (t .here) in
-          let e : met m (t .head) ≡ L (132 + 2 * r .0) = ap (met m) (r .2) ∙ agree (132 + 2 * r .0) (in-queues ps (132 + 2 * r .0) (int-queue ps (r .0) (r .1))) in
+          let r = range2-of interrupts (headerAfter 0) (t .head) (t .here) in
+          let e : met m (t .head) ≡ L (headerAfter (r .0)) = ap (met m) (r .2) ∙ agree (headerAfter (r .0)) (in-queues ps (headerAfter (r .0)) (int-queue ps (r .0) (r .1))) in
           f .seats .served (r .0) (r .1) p (rw e at (t .there))
 
-      own : (p : ℕ) → 1 ≤ count p ps → (x : ℕ) → 1 ≤ count x (met m (p * 32 + 4))
-          → (x ≡ p) × ((getD m (p * 32 + 2) 0 % 16 ≤ 7) × ((q : ℕ) → 1 ≤ count q (met m (p * 32 + 5)) → fits (getD m (p * 32 + 2) 0 / 16) (getD m (p * 32 + 2) 0 % 16) (getD m (q * 32 + 1) 0) ≡ false))
+      own : (p : ℕ) → 1 ≤ count p ps → (x : ℕ) → 1 ≤ count x (met m (place p ownQueue))
+          → (x ≡ p) × ((lower (word m p Map.reason) ≤ 7) × ((q : ℕ) → 1 ≤ count q (met m (place p q1)) → fits (upper (word m p Map.reason)) (lower (word m p Map.reason)) (word m q Map.note) ≡ false))
       own p h x j =
-          let t = f .own p h x (rw (agree (p * 32 + 4) (in-own ps p h)) at j) in
-          (t .owner, (t .flag, λ q c. t .none q (rw (agree (p * 32 + 5) (in-q ps p 5 (omega arith) (omega arith) h)) at c)))
+          let t = f .own p h x (rw (agree (place p ownQueue) (in-own ps p h)) at j) in
+          (t .owner, (t .flag, λ q c. t .none q (rw (agree (place p q1) (in-q ps p 5 (omega arith) (omega arith) h)) at c)))
 
-      line-sem : (k : ℕ) → k < 54 → getD m (131 + 2 * k) 0 ≡ less 0 (length (met m (132 + 2 * k)))
+      line-sem : (k : ℕ) → k < interrupts → getD m (semaphoreAfter k) 0 ≡ less 0 (length (met m (headerAfter k)))
       line-sem k h =
-          let d : 131 + 2 * k + 1 ≡ 132 + 2 * k = omega arith in
+          let d : semaphoreAfter k + 1 ≡ headerAfter k = omega arith in
           let q = int-queue ps k h in
-          rw (agree (132 + 2 * k) (in-queues ps (132 + 2 * k) q)) (rw (stock-else L (131 + 2 * k) (omega arith), d) at (f .sems (131 + 2 * k) (rw d q)))
+          rw (agree (headerAfter k) (in-queues ps (headerAfter k) q)) (rw (stock-else L (semaphoreAfter k) (omega arith), d) at (f .sems (semaphoreAfter k) (rw d q)))
 
-      own-sem : (p : ℕ) → 1 ≤ count p ps → getD m (p * 32 + 3) 0 ≡ less 0 (length (met m (p * 32 + 4)))
+      own-sem : (p : ℕ) → 1 ≤ count p ps → word m p ownSemaphore ≡ less 0 (length (met m (place p ownQueue)))
       own-sem p h =
-          let d : p * 32 + 3 + 1 ≡ p * 32 + 4 = omega arith in
+          let d : place p ownSemaphore + 1 ≡ place p ownQueue = omega arith in
           let g = proc-page sep p h in
           let q = own-once sep p h .here in
-          rw (agree (p * 32 + 4) (in-own ps p h)) (rw (stock-else L (p * 32 + 3) (omega arith), d) at (f .sems (p * 32 + 3) (rw d (omega arith))))
+          rw (agree (place p ownQueue) (in-own ps p h)) (rw (stock-else L (place p ownSemaphore) (omega arith), d) at (f .sems (place p ownSemaphore) (rw d (omega arith))))
 
-      page-sem : getD m 245 0 ≡ less (length (met m 244)) (length (met m 246))
-      page-sem = rw (wf, wa) (f .sems 245 (omega (arith, asking-once sep .here)) ∙ ap (λ (n : ℕ). less n (length (L 246))) (stock-page L))
+      page-sem : getD m freeSemaphore 0 ≡ less (length (met m freeList)) (length (met m pageQueue))
+      page-sem = rw (wf, wa) (f .sems freeSemaphore (omega (arith, asking-once sep .here)) ∙ ap (λ (n : ℕ). less n (length (L pageQueue))) (stock-page L))
 
-      bare : (p : ℕ) → 1 ≤ count p (L 246) → getD m (320 + getD m (p * 32 + 7) 0 % 16) 0 ≡ 0
+      bare : (p : ℕ) → 1 ≤ count p (L pageQueue) → getD m (grantFor (lower (word m p Map.label))) 0 ≡ 0
       bare p h =
-          let k = getD m (p * 32 + 7) 0 % 16 in
-          some-none (getD m (320 + getD m (p * 32 + 7) 0 % 16) 0) (sym (ap length (held (getD m (p * 32 + 7) 0 % 16) (omega arith))) ∙ f .granted .bare p h .1)
+          let k = lower (word m p Map.label) in
+          some-none (getD m (grantFor (lower (word m p Map.label))) 0) (sym (ap length (held (lower (word m p Map.label)) (omega arith))) ∙ f .granted .bare p h .1)
 
   -- "a processor or message record"
   pub record RecordsClean : Type 0 where
@@ -238,39 +242,39 @@ module _ (m : List ℕ) (ps : List ℕ) (L : Lists) (i : Inv m ps L (view m)) wh
       λ p h. (f .names .differ p h, let l = f .names .range p h in ((l .name, omega arith), (l .low, l .high))),
       (f .seats .zeros, tt),
     );
-    granted = (λ k h n. let r = range1-of 15 1 k h in omega (arith, known k (omega arith) n), (spare-zero, tt));
+    granted = (λ k h n. let r = range1-of lastName 1 k h in omega (arith, known k (omega arith) n), (spare-zero, tt));
     messages = (message, tt);
   }
     where
-      message : (q : ℕ) → 1 ≤ count q (gather (met m) (mails ps)) → MessageRule (getD m (q * 32 + 1) 0) (getD m (q * 32 + 2) 0)
+      message : (q : ℕ) → 1 ≤ count q (gather (met m) (mails ps)) → MessageRule (word m q Map.note) (word m q Map.size)
       message q h =
           let t = gather-of (met m) (mails ps) q h in
           let s = mails-of (t .head) ps (t .here) in
-          let e : met m (t .head) ≡ L (s .page * 32 + s .word) = ap (met m) (s .is) ∙ agree (s .page * 32 + s .word) (in-q ps (s .page) (s .word) (s .low) (s .high) (s .proc)) in
+          let e : met m (t .head) ≡ L (place (s .page) (s .word)) = ap (met m) (s .is) ∙ agree (place (s .page) (s .word)) (in-q ps (s .page) (s .word) (s .low) (s .high) (s .proc)) in
           as-rule (f .mail (s .page) (s .word) (s .proc) (s .low) (s .high) q (rw e at (t .there)))
 
   pub tables-clean : Means (Classes.codes bytes m ps (met m)) × Means (Classes.faults bytes m ps (met m))
   unfolding Classes.codes Classes.faults Classes.isBuiltIn Classes.isForeign Classes.inRange Judge.kind Judge.used Judge.entry
   tables-clean = (
     (
-      λ k h. f .codes .kinds k (range1-of 16 0 k h .1),
+      λ k h. f .codes .kinds k (range1-of allCodes 0 k h .1),
       (
         λ k h. built k (hit-or k 0) (range1-of 2 0 k h .1),
-        (λ k h. let r = range1-of 1 15 k h in let e : k ≡ 15 = omega arith in rw e (f .codes .last), tt),
+        (λ k h. let r = range1-of 1 builtInCodes k h in let e : k ≡ builtInCodes = omega arith in rw e (f .codes .last), tt),
       ),
     ),
     (
-      λ a h. rw (only-one a 288 h) (f .faults .range),
+      λ a h. rw (only-one a firstUnused h) (f .faults .range),
       (
         λ k h.
-            let l = range1-of 31 0 k h .1 in
+            let l = range1-of entries 0 k h .1 in
             ((λ u. let t = f .faults .used k l u in (t .name, t .fault)), f .faults .unused k l),
         tt,
       ),
     ),
   )
     where
-      built : (k : ℕ) → (k ≡ 0) ⊎ (k ≢ 0) → k < 2 → getD m (256 + 2 * k) 0 / 32 ≡ 1
+      built : (k : ℕ) → (k ≡ 0) ⊎ (k ≢ 0) → k < 2 → Map.top (getD m (codeWord k) 0) ≡ 1
       built k (inl e) l = rw e (f .codes .zero)
       built k (inr n) l = let e : k ≡ 1 = omega arith in rw e (f .codes .one)
 
@@ -278,37 +282,37 @@ module _ (m : List ℕ) (ps : List ℕ) (L : Lists) (i : Inv m ps L (view m)) wh
   unfolding Classes.clock Classes.running Classes.outer Classes.below Classes.positive Classes.nought Classes.runner Classes.notHigher Classes.shown
   counts-clean = (
     (
-      λ a h. rw (only-one a 239 h) (f .clock .line),
+      λ a h. rw (only-one a clockLine h) (f .clock .line),
       (
-        λ a h. rw (only-one a 240 h) (f .clock .c0),
+        λ a h. rw (only-one a Map.c0 h) (f .clock .c0),
         (
-          λ a h. rw (only-one a 241 h) (f .clock .c1),
+          λ a h. rw (only-one a Map.c1 h) (f .clock .c1),
           (
-            λ a h. rw (only-one a 242 h) (f .clock .c2),
+            λ a h. rw (only-one a Map.c2 h) (f .clock .c2),
             (
-              λ a h. rw (only-one a 243 h) (f .clock .c3),
-              (λ a h. rw (only-one a 250 h) (f .clock .nought), (λ a h. rw (only-one a 251 h) (f .clock .divider), tt)),
+              λ a h. rw (only-one a Map.c3 h) (f .clock .c3),
+              (λ a h. rw (only-one a zeroWord h) (f .clock .nought), (λ a h. rw (only-one a Map.divider h) (f .clock .divider), tt)),
             ),
           ),
         ),
       ),
     ),
     (
-      λ a h. rw (only-one a 248 h) (λ n. (f .runs .listed n, i .best .ready n)),
-      (top, (λ a h. rw (only-one a 249 h) (f .runs .idle, f .runs .tag), tt)),
+      λ a h. rw (only-one a runningPage h) (λ n. (f .runs .listed n, i .best .ready n)),
+      (top, (λ a h. rw (only-one a runningLabel h) (f .runs .idle, f .runs .tag), tt)),
     ),
   )
     where
-      top : (p : ℕ) → 1 ≤ count p ps → suc (getD m (p * 32 + 12) 0) ≤ 64
-          → (eqb (getD m 248 0) 0 ≡ false) × (getD m (p * 32 + 7) 0 / 16 ≤ getD m (getD m 248 0 * 32 + 7) 0 / 16)
-      top p h l = go (hit-or (getD m 248 0) 0)
+      top : (p : ℕ) → 1 ≤ count p ps → suc (word m p Map.state) ≤ waitBit
+          → (eqb (getD m runningPage 0) 0 ≡ false) × (upper (word m p Map.label) ≤ upper (word m (getD m runningPage 0) Map.label))
+      top p h l = go (hit-or (getD m runningPage 0) 0)
         where
-          go : (getD m 248 0 ≡ 0) ⊎ (getD m 248 0 ≢ 0) → (eqb (getD m 248 0) 0 ≡ false) × (getD m (p * 32 + 7) 0 / 16 ≤ getD m (getD m 248 0 * 32 + 7) 0 / 16)
+          go : (getD m runningPage 0 ≡ 0) ⊎ (getD m runningPage 0 ≢ 0) → (eqb (getD m runningPage 0) 0 ≡ false) × (upper (word m p Map.label) ≤ upper (word m (getD m runningPage 0) Map.label))
           go (inl e) = absurd (omega (arith, i .best .top p h l, f .runs .idle e, f .names .range p h .low))
-          go (inr n) = (ne-eqb (getD m 248 0) 0 n, rw (f .runs .tag n) at (i .best .top p h l))
+          go (inr n) = (ne-eqb (getD m runningPage 0) 0 n, rw (f .runs .tag n) at (i .best .top p h l))
 
-  pub inv-clean : Clean m (met m 247)
-  inv-clean = rw (agree 247 (in-procs ps) ∙ sep .procs) (
+  pub inv-clean : Clean m (met m processorList)
+  inv-clean = rw (agree processorList (in-procs ps) ∙ sep .procs) (
       let w = waits-clean in
       let r = records-clean in
       record {
@@ -329,12 +333,12 @@ module _ (m : List ℕ) (ps : List ℕ) (L : Lists) (i : Inv m ps L (view m)) wh
         running = counts-clean .1;
       })
 
--- ---- the five are given exactly where 21 was
-classes-of : (m : List ℕ) → Clean m (met m 247) → Clear (Classes.classes bytes m (met m 247) (met m))
+-- ---- the five are given exactly where (suc controlPages) was
+classes-of : (m : List ℕ) → Clean m (met m processorList) → Clear (Classes.classes bytes m (met m processorList) (met m))
 unfolding Classes.classes Classes.ofPages Classes.ofWaits Classes.ofRecords Classes.ofTables Classes.ofCounters
 classes-of m c = (means-clear-in _ (c .usedOnce, (c .usesEnd, tt)), (means-clear-in _ (c .queuesEnd, (c .waitingBits, (c .reasons, (c .messageWaits, (c .semaphores, (c .pageWaits, tt)))))), (means-clear-in _ (c .labels, (c .granted, (c .messages, tt))), (means-clear-in _ (c .codes, (c .faults, tt)), (means-clear-in _ (c .clock, (c .running, tt)), tt)))))
 
-of-classes : (m : List ℕ) → Clear (Classes.classes bytes m (met m 247) (met m)) → Clean m (met m 247)
+of-classes : (m : List ℕ) → Clear (Classes.classes bytes m (met m processorList) (met m)) → Clean m (met m processorList)
 unfolding Classes.classes Classes.ofPages Classes.ofWaits Classes.ofRecords Classes.ofTables Classes.ofCounters
 of-classes m c =
     let p = clear-means-in _ (c .0) in
@@ -360,11 +364,11 @@ of-classes m c =
       running = n .1 .0;
     }
 
-pub judged-nothing : (m : List ℕ) → length m ≡ 8192 → judged m ≡ true → Classes.toldOf bytes m ≡ Nothing
+pub judged-nothing : (m : List ℕ) → length m ≡ memorySize → judged m ≡ true → Classes.toldOf bytes m ≡ Nothing
 unfolding Classes.toldOf
 judged-nothing m s e =
-    first-clear (Classes.classes bytes m (met m 247) (met m)) (classes-of m (inv-clean m (lists m 247) (lists m) (judge-inv m s e)))
+    first-clear (Classes.classes bytes m (met m processorList) (met m)) (classes-of m (inv-clean m (lists m processorList) (lists m) (judge-inv m s e)))
 
-pub nothing-judged : (m : List ℕ) → length m ≡ 8192 → Classes.toldOf bytes m ≡ Nothing → judged m ≡ true
+pub nothing-judged : (m : List ℕ) → length m ≡ memorySize → Classes.toldOf bytes m ≡ Nothing → judged m ≡ true
 unfolding Classes.toldOf
-nothing-judged m s e = inv-judge (clean-inv m (of-classes m (clear-first (Classes.classes bytes m (met m 247) (met m)) e)) s)
+nothing-judged m s e = inv-judge (clean-inv m (of-classes m (clear-first (Classes.classes bytes m (met m processorList) (met m)) e)) s)

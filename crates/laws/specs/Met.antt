@@ -9,6 +9,7 @@ use native.Mathlib.Omega.{arith}
 use lib.ListN.{length, getD}
 use lib.Dec.{leb}
 use borrow.Author.Tests.{leb-true, le-leb}
+use Rattle.model.specs.Map.{pageSize, place, grants, grantFor, firstControl, lastControl, controlPages, lastName}
 use Rattle.model.specs.Store.{bytes}
 use Rattle.model.specs.Lists as Lists
 use Rattle.model.specs.Lists.{count, Lists, sum, some, linkOf, isGrant, range, mails, uses}
@@ -29,16 +30,16 @@ met = Walks.met bytes
 -- ---- control pages
 pub control-page : (x : ℕ) → isControl x ≡ true → Page x
 unfolding Walks.isControl
-control-page x e = go (leb 236 x) (leb x 255) refl refl e
+control-page x e = go (leb firstControl x) (leb x lastControl) refl refl e
   where
-    go : (s t : Bool) → leb 236 x ≡ s → leb x 255 ≡ t → s && t ≡ true → Page x
-    go true true f g e = (leb-true 236 x f, let l = leb-true x 255 g in omega arith)
+    go : (s t : Bool) → leb firstControl x ≡ s → leb x lastControl ≡ t → s && t ≡ true → Page x
+    go true true f g e = (leb-true firstControl x f, let l = leb-true x lastControl g in omega arith)
     go true false f g e = let z : _≡_ {A = ℕ} 0 1 = cc in absurd (omega arith)
     go false t f g e = let z : _≡_ {A = ℕ} 0 1 = cc in absurd (omega arith)
 
 pub page-control : (x : ℕ) → Page x → isControl x ≡ true
 unfolding Walks.isControl
-page-control x p = rw (le-leb 236 x (p .0), le-leb x 255 (omega (arith, p .1)))
+page-control x p = rw (le-leb firstControl x (p .0), le-leb x lastControl (omega (arith, p .1)))
 
 pub zero-control : (x : ℕ) → x ≡ 0 → isControl x ≡ false
 unfolding Walks.isControl
@@ -50,7 +51,7 @@ unfolding Walks.path
 path-off zero m k a e = refl
 path-off (suc n) m k a e = rw (e, Walks.path)
 
-path-on : (n : ℕ) (m : List ℕ) (k a : ℕ) → isControl (getD m a 0) ≡ true → path (suc n) m k a ≡ getD m a 0 ∷ path n m k (getD m a 0 * 32 + k)
+path-on : (n : ℕ) (m : List ℕ) (k a : ℕ) → isControl (getD m a 0) ≡ true → path (suc n) m k a ≡ getD m a 0 ∷ path n m k (place (getD m a 0) k)
 unfolding Walks.path
 path-on n m k a e = rw (e, Walks.path)
 
@@ -60,9 +61,9 @@ path-none m k a = refl
 
 pub path-pages : (n : ℕ) (m : List ℕ) (k a : ℕ) → Pages (path n m k a)
 path-pages zero m k a = rw (path-none m k a) tt
-path-pages (suc n) m k a = go (isControl (getD m a 0)) refl (path-pages n m k (getD m a 0 * 32 + k))
+path-pages (suc n) m k a = go (isControl (getD m a 0)) refl (path-pages n m k (place (getD m a 0) k))
   where
-    go : (b : Bool) → isControl (getD m a 0) ≡ b → Pages (path n m k (getD m a 0 * 32 + k)) → Pages (path (suc n) m k a)
+    go : (b : Bool) → isControl (getD m a 0) ≡ b → Pages (path n m k (place (getD m a 0) k)) → Pages (path (suc n) m k a)
     go true e ih = rw (path-on n m k a e) (control-page (getD m a 0) e, ih)
     go false e ih = rw (path-off (suc n) m k a e) tt
 
@@ -71,22 +72,22 @@ pub path-chain : (n : ℕ) (m : List ℕ) (k a : ℕ) (xs : List ℕ) → Chain 
 path-chain n m k a [] c h = path-off n m k a (zero-control (getD m a 0) c)
 path-chain zero m k a (x ∷ xs) c h = absurd (omega arith)
 path-chain (suc n) m k a (x ∷ xs) c h =
-    rw (path-on n m k a (page-control (getD m a 0) (rw (c .0) (c .1))), c .0, path-chain n m k (x * 32 + k) xs (c .2) (omega arith))
+    rw (path-on n m k a (page-control (getD m a 0) (rw (c .0) (c .1))), c .0, path-chain n m k (place x k) xs (c .2) (omega arith))
 
 pub chain-last : (m : List ℕ) (k a : ℕ) (xs : List ℕ) → Chain m k a xs → getD m (lastCell k a xs) 0 ≡ 0
 chain-last m k a [] c = c
-chain-last m k a (x ∷ xs) c = chain-last m k (x * 32 + k) xs (c .2)
+chain-last m k a (x ∷ xs) c = chain-last m k (place x k) xs (c .2)
 
 -- a walk that met fewer pages than it might, and ended at 0 or a control page, ended at 0
 abbrev pub Pointer : List ℕ → ℕ → Type 0
-Pointer m a = getD m a 0 ≢ 0 → (236 ≤ getD m a 0) × (getD m a 0 ≤ 255)
+Pointer m a = getD m a 0 ≢ 0 → (firstControl ≤ getD m a 0) × (getD m a 0 ≤ lastControl)
 
 pub chain-path : (n : ℕ) (m : List ℕ) (k a : ℕ) → length (path n m k a) < n → Pointer m (lastCell k a (path n m k a)) → Chain m k a (path n m k a)
 chain-path zero m k a h p = absurd (omega arith)
-chain-path (suc n) m k a h p = go (isControl (getD m a 0)) refl (chain-path n m k (getD m a 0 * 32 + k))
+chain-path (suc n) m k a h p = go (isControl (getD m a 0)) refl (chain-path n m k (place (getD m a 0) k))
   where
     go : (b : Bool) → isControl (getD m a 0) ≡ b
-        → (let c = getD m a 0 * 32 + k in length (path n m k c) < n → Pointer m (lastCell k c (path n m k c)) → Chain m k c (path n m k c))
+        → (let c = place (getD m a 0) k in length (path n m k c) < n → Pointer m (lastCell k c (path n m k c)) → Chain m k c (path n m k c))
         → Chain m k a (path (suc n) m k a)
     go true e ih =
         let h2 = rw (path-on n m k a e) at h in
@@ -102,7 +103,7 @@ chain-path (suc n) m k a h p = go (isControl (getD m a 0)) refl (chain-path n m 
             let y : _≡_ {A = ℕ} 0 1 = cc in absurd (omega arith)
 
 -- ---- the lists met
-pub met-path : (m : List ℕ) (a : ℕ) → isGrant a ≡ false → met m a ≡ path 21 m (linkOf a) a
+pub met-path : (m : List ℕ) (a : ℕ) → isGrant a ≡ false → met m a ≡ path (suc controlPages) m (linkOf a) a
 unfolding Walks.met Lists.reach
 met-path m a e = rw e
 
@@ -115,7 +116,7 @@ met-pages m a = go (isGrant a) refl
   where
     go : (b : Bool) → isGrant a ≡ b → Pages (met m a)
     go true e = rw (met-one m a e) (path-pages 1 m (linkOf a) a)
-    go false e = rw (met-path m a e) (path-pages 21 m (linkOf a) a)
+    go false e = rw (met-path m a e) (path-pages (suc controlPages) m (linkOf a) a)
 
 pub some-pos : (x : ℕ) → 1 ≤ x → some x ≡ x ∷ []
 some-pos zero h = absurd (omega arith)
@@ -130,7 +131,7 @@ met-some m a e p = go (hit-or (getD m a 0) 0)
     go (inr n) =
         let r = p n in
         met-one m a e ∙ path-on 0 m (linkOf a) a (page-control (getD m a 0) (r .0, omega (arith, r .1)))
-        ∙ ap (λ (l : List ℕ). getD m a 0 ∷ l) (path-none m (linkOf a) (getD m a 0 * 32 + linkOf a)) ∙ sym (some-pos (getD m a 0) (omega (arith, r .0)))
+        ∙ ap (λ (l : List ℕ). getD m a 0 ∷ l) (path-none m (linkOf a) (place (getD m a 0) (linkOf a))) ∙ sym (some-pos (getD m a 0) (omega (arith, r .0)))
 
 pub met-none : (m : List ℕ) (a : ℕ) → isGrant a ≡ true → getD m a 0 ≡ 0 → met m a ≡ []
 met-none m a e z = met-one m a e ∙ path-off 1 m (linkOf a) a (zero-control (getD m a 0) z)
@@ -181,21 +182,21 @@ of-gather L (b ∷ hs) a z h i = go (hit-or a b) (of-gather L hs a z)
 
 -- ---- words 1-15 of page 10, and all of them
 abbrev pub spare : List ℕ
-spare = 320 ∷ range 16 1 336
+spare = grants ∷ range 16 1 (grantFor 16)
 
-range-parts : range 32 1 320 ≡ 320 ∷ (range 15 1 321 ++ range 16 1 336)
+range-parts : range pageSize 1 grants ≡ grants ∷ (range lastName 1 (grantFor 1) ++ range 16 1 (grantFor 16))
 unfolding range
 range-parts = refl
 
 pub used-uses : (z : ℕ) (L : Lists) (ps : List ℕ) → ((a : ℕ) → 1 ≤ count a spare → L a ≡ []) → sum z L (uses ps) ≡ sum z L (used ps)
 used-uses z L ps h =
     let n : sum z L spare ≡ 0 = sum-pos z L spare (λ a i. ap (count z) (h a i)) in
-    let e : sum z L (range 32 1 320) ≡ sum z L (320 ∷ (range 15 1 321 ++ range 16 1 336)) = ap (sum z L) range-parts in
+    let e : sum z L (range pageSize 1 grants) ≡ sum z L (grants ∷ (range lastName 1 (grantFor 1) ++ range 16 1 (grantFor 16))) = ap (sum z L) range-parts in
     omega (
       arith,
       n,
       e,
-      sum-append z L (mails ps) (range 32 1 320),
-      sum-append z L (mails ps) (range 15 1 321),
-      sum-append z L (range 15 1 321) (range 16 1 336),
+      sum-append z L (mails ps) (range pageSize 1 grants),
+      sum-append z L (mails ps) (range lastName 1 (grantFor 1)),
+      sum-append z L (range lastName 1 (grantFor 1)) (range 16 1 (grantFor 16)),
     )

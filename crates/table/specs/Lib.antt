@@ -3,3 +3,4 @@ pub mod Program
 pub mod Script
 pub mod Rows
 pub mod Refuting
+pub mod Told

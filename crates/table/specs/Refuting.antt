@@ -175,7 +175,7 @@ fault-spoils-page0-holds = by-trees (λ S. playsFromZero S fault-spoils-page0) r
 
 -- "every control page is used once": one that is free is granted too
 unfoldable pub judge-grants : Script
-judge-grants = begins [] (made (10 * 32 + 1) (237 ∷ []) ∷ judges (21 ∷ []) ∷ [])
+judge-grants = begins [] (made (10 * 32 + 1) (237 ∷ []) ∷ judges (30 ∷ 237 * 32 ∷ []) ∷ [])
 
 pub judge-grants-holds : playsFromZero bytes judge-grants ≡ true
 unfolding Script.playsFromZero judge-grants
