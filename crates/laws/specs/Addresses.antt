@@ -26,6 +26,7 @@ use Rattle.laws.specs.Chain.{Page, Pages}
 use Rattle.laws.specs.Queues.{link-le}
 use Rattle.laws.specs.Heads.{range1-of, Place, queues-place, mails-of}
 use Rattle.laws.specs.Heads.Place.{int, three, grant, slot}
+use Rattle.laws.specs.Sentences.{_and_}
 use Rattle.laws.specs.Tells.{breaks-of, Said, first-said, Tells}
 use Rattle.laws.specs.Tells.Said.{says}
 use Rattle.laws.specs.Tells.Tells.{now, later}
@@ -93,8 +94,8 @@ module _ (m : List ℕ) where
   control-low : (z : ℕ) → 1 ≤ count z controls → place z 0 < memorySize
   control-low z h = omega (arith, range1-of controlPages firstControl z h .1)
 
-  one-low : (x a : ℕ) → x < memorySize → 1 ≤ count a (x ∷ []) → a < memorySize
-  one-low x a l h = go (hit-or a x)
+  one-low : (x : ℕ) → x < memorySize → (a : ℕ) → 1 ≤ count a (x ∷ []) → a < memorySize
+  one-low x l a h = go (hit-or a x)
     where
       go : (a ≡ x) ⊎ (a ≢ x) → a < memorySize
       go (inl e) = omega arith
@@ -146,7 +147,9 @@ module _ (m : List ℕ) where
 
   semaphores-low : Within memorySize (Classes.semaphores bytes m ps (met m))
   unfolding Classes.semaphores
-  semaphores-low = (λ k h. omega (arith, range1-of interrupts 0 k h .1), (λ p h. omega (arith, on-list p h .1), (λ a h. one-low freeSemaphore a (omega arith) h, tt)))
+  semaphores-low =
+      (λ k h. omega (arith, range1-of interrupts 0 k h .1)) and (λ p h. omega (arith, on-list p h .1)) and one-low freeSemaphore (omega arith)
+      and tt
 
   pageWaits-low : Within memorySize (Classes.pageWaits bytes m ps (met m))
   unfolding Classes.pageWaits
@@ -173,19 +176,23 @@ module _ (m : List ℕ) where
 
   codes-low : Within memorySize (Classes.codes bytes m ps (met m))
   unfolding Classes.codes
-  codes-low = (λ k h. omega (arith, range1-of allCodes 0 k h .1), (λ k h. omega (arith, range1-of 2 0 k h .1), (λ k h. omega (arith, range1-of 1 builtInCodes k h .1), tt)))
+  codes-low =
+      (λ k h. omega (arith, range1-of allCodes 0 k h .1)) and (λ k h. omega (arith, range1-of 2 0 k h .1))
+      and (λ k h. omega (arith, range1-of 1 builtInCodes k h .1)) and tt
 
   faults-low : Within memorySize (Classes.faults bytes m ps (met m))
   unfolding Classes.faults
-  faults-low = (λ a h. one-low firstUnused a (omega arith) h, (λ k h. omega (arith, range1-of entries 0 k h .1), tt))
+  faults-low = (one-low firstUnused (omega arith), (λ k h. omega (arith, range1-of entries 0 k h .1), tt))
 
   clock-low : Within memorySize (Classes.clock bytes m ps (met m))
   unfolding Classes.clock
-  clock-low = (λ a h. one-low clockLine a (omega arith) h, (λ a h. one-low Map.c0 a (omega arith) h, (λ a h. one-low Map.c1 a (omega arith) h, (λ a h. one-low Map.c2 a (omega arith) h, (λ a h. one-low Map.c3 a (omega arith) h, (λ a h. one-low zeroWord a (omega arith) h, (λ a h. one-low Map.divider a (omega arith) h, tt)))))))
+  clock-low =
+      one-low clockLine (omega arith) and one-low Map.c0 (omega arith) and one-low Map.c1 (omega arith) and one-low Map.c2 (omega arith)
+      and one-low Map.c3 (omega arith) and one-low zeroWord (omega arith) and one-low Map.divider (omega arith) and tt
 
   running-low : Within memorySize (Classes.running bytes m ps (met m))
   unfolding Classes.running
-  running-low = (λ a h. one-low runningPage a (omega arith) h, (λ p h. omega arith, (λ a h. one-low runningLabel a (omega arith) h, tt)))
+  running-low = one-low runningPage (omega arith) and (λ p h. omega arith) and one-low runningLabel (omega arith) and tt
 
 -- ---- what is told
 abbrev pub AllWithin : ℕ → List Class → Type 0
@@ -198,7 +205,13 @@ tells-within n (class k ss ∷ cs) w (later e s) = tells-within n cs (w .1) s
 
 pub all-low : (m : List ℕ) → AllWithin memorySize (Classes.classes bytes m (met m processorList) (met m))
 unfolding Classes.classes Classes.ofPages Classes.ofWaits Classes.ofRecords Classes.ofTables Classes.ofCounters
-all-low m = ((usedOnce-low m, (usesEnd-low m, tt)), ((queuesEnd-low m, (waitingBits-low m, (reasons-low m, (messageWaits-low m, (semaphores-low m, (pageWaits-low m, tt)))))), ((labels-low m, (granted-low m, (messages-low m, tt))), ((codes-low m, (faults-low m, tt)), ((clock-low m, (running-low m, tt)), tt)))))
+all-low m =
+    (usedOnce-low m and usesEnd-low m and tt)
+    and (queuesEnd-low m and waitingBits-low m and reasons-low m and messageWaits-low m and semaphores-low m and pageWaits-low m and tt)
+    and (labels-low m and granted-low m and messages-low m and tt)
+    and (codes-low m and faults-low m and tt)
+    and (clock-low m and running-low m and tt)
+    and tt
 
 pub told-low : (m : List ℕ) (k a : ℕ) → toldOf bytes m ≡ Broken k a → a < memorySize
 unfolding Classes.toldOf

@@ -18,7 +18,7 @@ use Rattle.model.specs.Judge as Judge
 use Rattle.model.specs.Classes as Classes
 use Rattle.model.specs.Walks as Walks
 use Rattle.model.specs.Walks.{lastCell}
-use Rattle.model.specs.Classes.{used}
+use Rattle.model.specs.Classes.{lines, used}
 use Rattle.laws.specs.Count.{hit-self, hit-other, hit-or, count-append, zero-or}
 use Rattle.laws.specs.Rules.{means}
 use Rattle.laws.specs.Tells.{Means}
@@ -113,7 +113,7 @@ module _ (m : List ℕ) (c : Clean m (met m processorList)) where
 
   -- every list ends by 0
   pointed : (a : ℕ) → Head (met m processorList) a → Pointer m (lastCell (linkOf a) a (met m a))
-  unfolding Classes.usedOnce Classes.usesEnd Classes.queuesEnd Classes.waitingBits Classes.reasons Classes.messageWaits Classes.semaphores Classes.pageWaits Classes.pageSemaphore Classes.ends Classes.pointer
+  unfolding Classes.usesEnd Classes.queuesEnd Classes.ends Classes.pointer
   pointed a h = go (zero-or (count a (uses (met m processorList))))
     where
       go : (count a (uses (met m processorList)) ≡ 0) ⊎ (1 ≤ count a (uses (met m processorList))) → Pointer m (lastCell (linkOf a) a (met m a))
@@ -143,7 +143,8 @@ module _ (m : List ℕ) (c : Clean m (met m processorList)) where
     where
       go : Word10 k → met m (grantFor k) ≡ some (getD m (grantFor k) 0)
       go (holder u v) =
-          met-some m (grantFor k) (grant-is k h) (c .usesEnd .1 .0 (grantFor k) (omega (arith, range1-at lastName (grantFor 1) (grantFor k) (omega arith) (omega arith))))
+          met-some m (grantFor k) (grant-is k h) (c .usesEnd .1 .0 (grantFor k)
+          (omega (arith, range1-at lastName (grantFor 1) (grantFor k) (omega arith) (omega arith))))
       go (spared s) = let e = spare-zero (grantFor k) s in met-none m (grantFor k) (grant-is k h) e ∙ sym (ap some e)
 
   names : (p : ℕ) → 1 ≤ count p (met m processorList) → means (Judge.label bytes m (met m processorList) (met m) p)
@@ -166,7 +167,9 @@ module _ (m : List ℕ) (c : Clean m (met m processorList)) where
           rw (t .is) at (names (t .who) (t .here) .0)
 
   pub clean-inv : length m ≡ memorySize → Inv m (met m processorList) (met m) (view m)
-  unfolding Classes.usedOnce Classes.usesEnd Classes.queuesEnd Classes.waitingBits Classes.reasons Classes.messageWaits Classes.semaphores Classes.pageWaits Classes.pageSemaphore Classes.labels Classes.granted Classes.messages Classes.codes Classes.faults Classes.inRange Classes.clock Classes.running Classes.outer Classes.below Classes.positive Classes.once Classes.pointer Classes.ends Classes.noneFree Classes.noGrant
+  unfolding Classes.usedOnce Classes.usesEnd Classes.queuesEnd Classes.waitingBits Classes.reasons Classes.messageWaits Classes.semaphores
+      Classes.pageWaits Classes.pageSemaphore Classes.labels Classes.granted Classes.messages Classes.codes Classes.faults Classes.inRange Classes.clock
+      Classes.running Classes.outer Classes.below Classes.positive Classes.once Classes.pointer Classes.ends Classes.noneFree Classes.noGrant
       Classes.existing Classes.nought Classes.isBuiltIn Classes.isForeign Classes.runner Classes.notHigher Classes.shown Judge.label Judge.bit Judge.waiter
       Judge.reasoned Judge.reasonless Judge.quiet Judge.unasked Judge.owner Judge.messageWait Judge.interruptSemaphore Judge.messageSemaphore
       Judge.pageSemaphore Judge.sized Judge.message Judge.kind Judge.used Judge.entry Judge.zeroBits
@@ -191,14 +194,16 @@ module _ (m : List ℕ) (c : Clean m (met m processorList)) where
             seats = record {
               bit = λ p h. c .waitingBits .0 p h;
               zeros = λ p h. c .labels .1 .0 p h;
-              served = λ k i p h. c .reasons .0 p (of-gather (met m) (range interrupts 2 (headerAfter 0)) (headerAfter k) p (omega (arith, range2-at interrupts (headerAfter 0) k i)) h);
+              served = λ k i p h. c .reasons .0 p (of-gather (met m) lines (headerAfter k) p
+                  (omega (arith, range2-at interrupts (headerAfter 0) k i)) h);
               asking = λ p h. c .reasons .1 .0 p h;
               quiet = λ p h. c .reasons .1 .1 .0 p h;
             };
             own = λ p h x i. let q = c .messageWaits .0 p h x i in record { owner = q .0; flag = q .1 .0; none = q .1 .1 };
             sems = λ s h. sems m (met m)
                 (λ k i. c .semaphores .0 k (omega (arith, range1-at interrupts 0 k (omega arith) (omega arith))))
-                (proc-page sep) (c .semaphores .1 .0) (c .semaphores .1 .1 .0 freeSemaphore (omega (arith, hit-self freeSemaphore))) s (seat-of (met m processorList) s h);
+                (proc-page sep) (c .semaphores .1 .0) (c .semaphores .1 .1 .0 freeSemaphore (omega (arith, hit-self freeSemaphore))) s
+                (seat-of (met m processorList) s h);
             granted = record {
               bare = λ p h.
                   let g = c .pageWaits .1 .0 p h in
@@ -208,7 +213,8 @@ module _ (m : List ℕ) (c : Clean m (met m processorList)) where
                   );
               known = λ k h d n. known k h n;
             };
-            mail = λ p v h i j q d. of-rule (c .messages .0 q (of-gather (met m) (mails (met m processorList)) (place p v) q (omega (arith, mails-of-at p v h i j)) d));
+            mail = λ p v h i j q d. of-rule (c .messages .0 q (of-gather (met m) (mails (met m processorList)) (place p v) q
+                (omega (arith, mails-of-at p v h i j)) d));
             runs = record {
               idle = c .running .1 .1 .0 runningLabel (omega (arith, hit-self runningLabel)) .0;
               listed = λ z. c .running .0 runningPage (omega (arith, hit-self runningPage)) z .0;

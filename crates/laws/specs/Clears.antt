@@ -9,7 +9,7 @@ use lib.ListN.{length, getD}
 use lib.Dec.{eqb}
 use borrow.Author.Tests.{ne-eqb}
 use Rattle.model.specs.Map as Map
-use Rattle.model.specs.Map.{memorySize, pageSize, place, upper, lower, less, waitBit, interrupts, semaphoreAfter, headerAfter, clockLine}
+use Rattle.model.specs.Map.{lastFlag, memorySize, pageSize, place, upper, lower, less, waitBit, interrupts, semaphoreAfter, headerAfter, clockLine}
 use Rattle.model.specs.Map.{freeList, freeSemaphore, pageQueue, processorList, runningPage, runningLabel, zeroWord, codeWord, allCodes}
 use Rattle.model.specs.Map.{builtInCodes, firstUnused, entries, grants, grantsEnd, grantFor, firstControl, lastControl, controlPages}
 use Rattle.model.specs.Map.{ownSemaphore, ownQueue, q1, lastName}
@@ -24,13 +24,14 @@ use Rattle.model.specs.Walks as Walks
 use Rattle.model.specs.Walks.{lastCell, gather}
 use Rattle.model.specs.Classes.{chains, holders, used, controls, lines}
 use Rattle.laws.specs.Count.{hit-self, hit-other, hit-or, count-append, zero-or}
+use Rattle.laws.specs.Sentences.{_and_}
 use Rattle.laws.specs.Tells.{Means, Clear, clear-means-in, means-clear-in, first-clear, clear-first}
 use Rattle.laws.specs.Heads.{one, page-one, sum-ext, range1-of, range2-of, mails-of, owns-of, Place, queues-place}
 use Rattle.laws.specs.Heads.Place.{int, three, grant, slot}
 use Rattle.laws.specs.Uses.{Among, Sep, proc-page, list-short}
 use Rattle.laws.specs.Met.{met, Pointer, met-path, met-some, met-none, some-pos, path-chain, chain-last, gather-of, used-uses, spare}
-use Rattle.laws.specs.Places.{in-uses, in-queues, in-procs, in-free, in-asking, in-own, in-q, in-grant, int-queue, grant-is, grant-of, grant-low, grant-high, all-pages}
-use Rattle.laws.specs.Places.{own-once, asking-once}
+use Rattle.laws.specs.Places.{in-uses, in-queues, in-procs, in-free, in-asking, in-own, in-q, in-grant, int-queue, own-once, asking-once}
+use Rattle.laws.specs.Places.{grant-is, grant-of, grant-low, grant-high, all-pages}
 use Rattle.laws.specs.Inv.{noOne, view, bearers, stock-page, stock-else, Facts, Inv}
 use Rattle.laws.specs.Accepted.{MessageRule, as-rule, judge-inv}
 use Rattle.laws.specs.Judged.{inv-judge}
@@ -78,7 +79,8 @@ module _ (m : List ℕ) (ps : List ℕ) (L : Lists) (i : Inv m ps L (view m)) wh
           held-there : (grants ≤ a) × (a < grantsEnd) → met m a ≡ L a
           held-there r =
               let q : grantFor (a - grants) ≡ a = omega arith in
-              let x = met-some m (grantFor (a - grants)) (grant-is (a - grants) (omega arith)) (grant-pointer (a - grants) (omega arith)) ∙ sym (held (a - grants) (omega arith)) in
+              let k = a - grants in
+              let x = met-some m (grantFor k) (grant-is k (omega arith)) (grant-pointer k (omega arith)) ∙ sym (held k (omega arith)) in
               rw q at x
       go false e = met-path m a e ∙ path-chain (suc controlPages) m (linkOf a) a (L a) (i .base .mem .holds .rep a (h, e)) (omega (arith, list-short sep a h))
 
@@ -190,7 +192,7 @@ module _ (m : List ℕ) (ps : List ℕ) (L : Lists) (i : Inv m ps L (view m)) wh
                 where
                   pick : (count a (owns ps) ≡ 0) ⊎ (1 ≤ count a (owns ps)) → ⊥
                   pick (inl z) =
-                      let r = range2-of interrupts (headerAfter 0) a (omega (arith, hit-other a pageQueue e, count-append a (owns ps) (range interrupts 2 (headerAfter 0)))) in
+                      let r = range2-of interrupts (headerAfter 0) a (omega (arith, hit-other a pageQueue e, count-append a (owns ps) lines)) in
                       omega (arith, r .1, r .2)
                   pick (inr j) = let s = owns-of a ps j in let p = proc-page sep (s .page) (s .proc) in omega (arith, p .0, s .is)
           go (slot s) = let p = proc-page sep (s .page) (s .proc) in grant-high a (omega (arith, p .0, s .is))
@@ -199,11 +201,13 @@ module _ (m : List ℕ) (ps : List ℕ) (L : Lists) (i : Inv m ps L (view m)) wh
       served p h =
           let t = gather-of (met m) lines p h in
           let r = range2-of interrupts (headerAfter 0) (t .head) (t .here) in
-          let e : met m (t .head) ≡ L (headerAfter (r .0)) = ap (met m) (r .2) ∙ agree (headerAfter (r .0)) (in-queues ps (headerAfter (r .0)) (int-queue ps (r .0) (r .1))) in
+          let a = headerAfter (r .0) in
+          let e : met m (t .head) ≡ L (headerAfter (r .0)) = ap (met m) (r .2) ∙ agree a (in-queues ps a (int-queue ps (r .0) (r .1))) in
           f .seats .served (r .0) (r .1) p (rw e at (t .there))
 
       own : (p : ℕ) → 1 ≤ count p ps → (x : ℕ) → 1 ≤ count x (met m (place p ownQueue))
-          → (x ≡ p) × ((lower (word m p Map.reason) ≤ 7) × ((q : ℕ) → 1 ≤ count q (met m (place p q1)) → fits (upper (word m p Map.reason)) (lower (word m p Map.reason)) (word m q Map.note) ≡ false))
+          → (x ≡ p) × ((lower (word m p Map.reason) ≤ lastFlag) × ((q : ℕ) → 1 ≤ count q (met m (place p q1))
+          → fits (upper (word m p Map.reason)) (lower (word m p Map.reason)) (word m q Map.note) ≡ false))
       own p h x j =
           let t = f .own p h x (rw (agree (place p ownQueue) (in-own ps p h)) at j) in
           (t .owner, (t .flag, λ q c. t .none q (rw (agree (place p q1) (in-q ps p 5 (omega arith) (omega arith) h)) at c)))
@@ -212,14 +216,16 @@ module _ (m : List ℕ) (ps : List ℕ) (L : Lists) (i : Inv m ps L (view m)) wh
       line-sem k h =
           let d : semaphoreAfter k + 1 ≡ headerAfter k = omega arith in
           let q = int-queue ps k h in
-          rw (agree (headerAfter k) (in-queues ps (headerAfter k) q)) (rw (stock-else L (semaphoreAfter k) (omega arith), d) at (f .sems (semaphoreAfter k) (rw d q)))
+          let s = semaphoreAfter k in
+          rw (agree (headerAfter k) (in-queues ps (headerAfter k) q)) (rw (stock-else L s (omega arith), d) at (f .sems s (rw d q)))
 
       own-sem : (p : ℕ) → 1 ≤ count p ps → word m p ownSemaphore ≡ less 0 (length (met m (place p ownQueue)))
       own-sem p h =
           let d : place p ownSemaphore + 1 ≡ place p ownQueue = omega arith in
           let g = proc-page sep p h in
           let q = own-once sep p h .here in
-          rw (agree (place p ownQueue) (in-own ps p h)) (rw (stock-else L (place p ownSemaphore) (omega arith), d) at (f .sems (place p ownSemaphore) (rw d (omega arith))))
+          let s = place p ownSemaphore in
+          rw (agree (place p ownQueue) (in-own ps p h)) (rw (stock-else L s (omega arith), d) at (f .sems s (rw d (omega arith))))
 
       page-sem : getD m freeSemaphore 0 ≡ less (length (met m freeList)) (length (met m pageQueue))
       page-sem = rw (wf, wa) (f .sems freeSemaphore (omega (arith, asking-once sep .here)) ∙ ap (λ (n : ℕ). less n (length (L pageQueue))) (stock-page L))
@@ -227,7 +233,7 @@ module _ (m : List ℕ) (ps : List ℕ) (L : Lists) (i : Inv m ps L (view m)) wh
       bare : (p : ℕ) → 1 ≤ count p (L pageQueue) → getD m (grantFor (lower (word m p Map.label))) 0 ≡ 0
       bare p h =
           let k = lower (word m p Map.label) in
-          some-none (getD m (grantFor (lower (word m p Map.label))) 0) (sym (ap length (held (lower (word m p Map.label)) (omega arith))) ∙ f .granted .bare p h .1)
+          some-none (getD m (grantFor k) 0) (sym (ap length (held k (omega arith))) ∙ f .granted .bare p h .1)
 
   -- "a processor or message record"
   pub record RecordsClean : Type 0 where
@@ -250,7 +256,8 @@ module _ (m : List ℕ) (ps : List ℕ) (L : Lists) (i : Inv m ps L (view m)) wh
       message q h =
           let t = gather-of (met m) (mails ps) q h in
           let s = mails-of (t .head) ps (t .here) in
-          let e : met m (t .head) ≡ L (place (s .page) (s .word)) = ap (met m) (s .is) ∙ agree (place (s .page) (s .word)) (in-q ps (s .page) (s .word) (s .low) (s .high) (s .proc)) in
+          let e : met m (t .head) ≡ L (place (s .page) (s .word)) =
+              ap (met m) (s .is) ∙ agree (place (s .page) (s .word)) (in-q ps (s .page) (s .word) (s .low) (s .high) (s .proc)) in
           as-rule (f .mail (s .page) (s .word) (s .proc) (s .low) (s .high) q (rw e at (t .there)))
 
   pub tables-clean : Means (Classes.codes bytes m ps (met m)) × Means (Classes.faults bytes m ps (met m))
@@ -307,7 +314,8 @@ module _ (m : List ℕ) (ps : List ℕ) (L : Lists) (i : Inv m ps L (view m)) wh
           → (eqb (getD m runningPage 0) 0 ≡ false) × (upper (word m p Map.label) ≤ upper (word m (getD m runningPage 0) Map.label))
       top p h l = go (hit-or (getD m runningPage 0) 0)
         where
-          go : (getD m runningPage 0 ≡ 0) ⊎ (getD m runningPage 0 ≢ 0) → (eqb (getD m runningPage 0) 0 ≡ false) × (upper (word m p Map.label) ≤ upper (word m (getD m runningPage 0) Map.label))
+          go : (getD m runningPage 0 ≡ 0) ⊎ (getD m runningPage 0 ≢ 0)
+              → (eqb (getD m runningPage 0) 0 ≡ false) × (upper (word m p Map.label) ≤ upper (word m (getD m runningPage 0) Map.label))
           go (inl e) = absurd (omega (arith, i .best .top p h l, f .runs .idle e, f .names .range p h .low))
           go (inr n) = (ne-eqb (getD m runningPage 0) 0 n, rw (f .runs .tag n) at (i .best .top p h l))
 
@@ -336,7 +344,13 @@ module _ (m : List ℕ) (ps : List ℕ) (L : Lists) (i : Inv m ps L (view m)) wh
 -- ---- the five are given exactly where (suc controlPages) was
 classes-of : (m : List ℕ) → Clean m (met m processorList) → Clear (Classes.classes bytes m (met m processorList) (met m))
 unfolding Classes.classes Classes.ofPages Classes.ofWaits Classes.ofRecords Classes.ofTables Classes.ofCounters
-classes-of m c = (means-clear-in _ (c .usedOnce, (c .usesEnd, tt)), (means-clear-in _ (c .queuesEnd, (c .waitingBits, (c .reasons, (c .messageWaits, (c .semaphores, (c .pageWaits, tt)))))), (means-clear-in _ (c .labels, (c .granted, (c .messages, tt))), (means-clear-in _ (c .codes, (c .faults, tt)), (means-clear-in _ (c .clock, (c .running, tt)), tt)))))
+classes-of m c =
+    means-clear-in _ (c .usedOnce and c .usesEnd and tt)
+    and means-clear-in _ (c .queuesEnd and c .waitingBits and c .reasons and c .messageWaits and c .semaphores and c .pageWaits and tt)
+    and means-clear-in _ (c .labels and c .granted and c .messages and tt)
+    and means-clear-in _ (c .codes and c .faults and tt)
+    and means-clear-in _ (c .clock and c .running and tt)
+    and tt
 
 of-classes : (m : List ℕ) → Clear (Classes.classes bytes m (met m processorList) (met m)) → Clean m (met m processorList)
 unfolding Classes.classes Classes.ofPages Classes.ofWaits Classes.ofRecords Classes.ofTables Classes.ofCounters

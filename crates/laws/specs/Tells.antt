@@ -148,7 +148,8 @@ least-in a (b ∷ bs) = go (hit-or (least (min a b) bs) (min a b)) (hit-or (min 
 
 -- ---- what is told: its class has it, and nothing lower, and the classes before have nothing
 pub data Tells : List Class → ℕ → ℕ → Type 0 where
-  now : {n a : ℕ} {ss : List (List Row)} {cs : List Class} → 1 ≤ count a (offendingIn ss) → ((b : ℕ) → 1 ≤ count b (offendingIn ss) → a ≤ b) → Tells (class n ss ∷ cs) n a
+  now : {n a : ℕ} {ss : List (List Row)} {cs : List Class} → 1 ≤ count a (offendingIn ss)
+      → ((b : ℕ) → 1 ≤ count b (offendingIn ss) → a ≤ b) → Tells (class n ss ∷ cs) n a
   later : {n a k : ℕ} {ss : List (List Row)} {cs : List Class} → offendingIn ss ≡ [] → Tells cs n a → Tells (class k ss ∷ cs) n a
 
 abbrev pub Clear : List Class → Type 0
