@@ -19,7 +19,7 @@ use Rattle.laws.specs.Count.{hit-self, hit-or, zero-or}
 use Rattle.laws.specs.Rules.{means, sound}
 use Rattle.laws.specs.Sentences.{sentences}
 use Rattle.laws.specs.Chain.{Page, Pages, chain-walk}
-use Rattle.laws.specs.Heads.{one, one-page, page-one, sum-pos, range1-at, Seat, seat-of}
+use Rattle.laws.specs.Heads.{one, page-or, page-one, sum-pos, range1-at, Seat, seat-of}
 use Rattle.laws.specs.Heads.Seat.{line, page, own}
 use Rattle.laws.specs.Uses.{Among, Sep, proc-page}
 use Rattle.laws.specs.Places.{in-uses, in-queues, grant-is}
@@ -38,13 +38,6 @@ lists-some m a e = rw (e, Model.lists)
 pages-of : (xs : List ℕ) → ((z : ℕ) → 1 ≤ count z xs → (firstControl ≤ z) × (z ≤ lastControl)) → Pages xs
 pages-of [] h = tt
 pages-of (x ∷ xs) h = let r = h x (omega (arith, hit-self x)) in ((r .0, omega arith), pages-of xs (λ z i. h z (omega arith)))
-
-pub page-or : (z : ℕ) → Page z ⊎ (one z ≡ 0)
-page-or z = go (zero-or (one z))
-  where
-    go : (one z ≡ 0) ⊎ (1 ≤ one z) → Page z ⊎ (one z ≡ 0)
-    go (inl e) = inr e
-    go (inr i) = inl (one-page z i)
 
 module _ (m : List ℕ) (ps : List ℕ) (L : Lists) (h : means (Judge.listed bytes m ps L)) where
   none : (z a : ℕ) → one z ≡ 0 → Among ps a → count z (L a) ≡ 0

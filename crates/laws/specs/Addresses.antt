@@ -3,7 +3,7 @@ use mathlib.Core.Path.{_≡_}
 use mathlib.Core.Logic.{_≢_, _⊎_, inl, inr}
 use mathlib.Core.Bool.{Bool, true, false, cond}
 use mathlib.Core.List.{List, [], _∷_}
-use Prim.Native.Nat.{ℕ, _+_, _-_, _*_, _/_, _≤_, _<_}
+use Prim.Native.Nat.{ℕ, _-_, _/_, _≤_, _<_}
 use native.Mathlib.Omega.{arith}
 use lib.Dec.{leb}
 use Rattle.model.specs.Map as Map
@@ -18,7 +18,6 @@ use Rattle.model.specs.declared.Finding.{Finding}
 use Rattle.model.specs.declared.Finding.the-variants.{Nothing, Broken}
 use Rattle.model.specs.Tell.Class.{class}
 use Rattle.model.specs.Classes as Classes
-use Rattle.model.specs.Walks as Walks
 use Rattle.model.specs.Walks.{lastCell, gather}
 use Rattle.model.specs.Classes.{page, cell, chains, controls, lines, toldOf}
 use Rattle.laws.specs.Count.{hit-other, hit-or, count-append, zero-or}

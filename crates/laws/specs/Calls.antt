@@ -17,8 +17,7 @@ use Rattle.model.specs.declared.Finding.the-variants.{Nothing}
 use Rattle.model.specs.Address as Address
 use Rattle.model.specs.Address.{guarded}
 use Rattle.model.specs.Answer as Answer
-use Rattle.model.specs.Answer.{Outcome, memoryOf}
-use Rattle.model.specs.Answer.Outcome.{gives}
+use Rattle.model.specs.Answer.{memoryOf}
 use Rattle.model.specs.Fresh as Fresh
 use Rattle.model.specs.Fresh.{startable}
 use Rattle.model.specs.Call as Call
@@ -29,7 +28,7 @@ use Rattle.laws.specs.Judged.{WellFormed}
 use Rattle.laws.specs.Findings.{well-found}
 use Rattle.laws.specs.Frames.{Kept, kept-keeps}
 use Rattle.laws.specs.Start.{Args, started-well}
-use Rattle.laws.specs.Words.{either, Small, small-started, small-delivered, small-turn, small-registers}
+use Rattle.laws.specs.Words.{Small, small-started, small-delivered, small-turn, small-registers}
 use Rattle.laws.specs.Simple.{registers-well}
 use Rattle.laws.specs.Interrupts.{delivered-well}
 use Rattle.laws.specs.Run.{fetched-fine}

@@ -13,6 +13,7 @@ use Rattle.model.specs.Bytes.{store, word}
 use Rattle.model.specs.Store.{bytes}
 use Rattle.model.specs.Queue as Queue
 use Rattle.model.specs.Lists.{count}
+use Rattle.model.specs.Walks.{lastCell}
 use Rattle.laws.specs.Count.{hit-self, hit-other, hit-or, count-append, count-ne, count-mid}
 
 abbrev pub Page : ℕ → Type 0
@@ -85,8 +86,7 @@ off-word q j k xs hj hk n x i = omega arith
 -- ---- join: at the end, with link 0
 -- the cell that ends the chain
 abbrev pub last : ℕ → ℕ → List ℕ → ℕ
-last k a [] = a
-last k a (x ∷ xs) = last k (place x k) xs
+last = lastCell
 
 cell-end : (n : ℕ) (m : List ℕ) (k a : ℕ) (xs : List ℕ) → Chain m k a xs → length xs ≤ n → Queue.cellOf bytes n m k a 0 ≡ last k a xs
 unfolding Queue.cellOf

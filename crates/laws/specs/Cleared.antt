@@ -3,7 +3,7 @@ use mathlib.Core.Path.{_≡_, refl, sym, ap, _∙_}
 use mathlib.Core.Logic.{_≢_, _⊎_, inl, inr}
 use mathlib.Core.Bool.{true}
 use mathlib.Core.List.{List, [], _∷_}
-use Prim.Native.Nat.{ℕ, suc, _+_, _-_, _*_, _/_, _%_, _≤_, _<_}
+use Prim.Native.Nat.{ℕ, suc, _-_, _/_, _≤_, _<_}
 use native.Mathlib.Omega.{arith}
 use lib.ListN.{length, getD}
 use borrow.Author.Tests.{eqb-false}
@@ -16,35 +16,18 @@ use Rattle.model.specs.Bytes.{word}
 use Rattle.model.specs.Lists.{count, sum, each-of, some, linkOf, range, mails, uses, queues, isGrant}
 use Rattle.model.specs.Judge as Judge
 use Rattle.model.specs.Classes as Classes
-use Rattle.model.specs.Walks as Walks
 use Rattle.model.specs.Walks.{lastCell}
 use Rattle.model.specs.Classes.{lines, used}
-use Rattle.laws.specs.Count.{hit-self, hit-other, hit-or, count-append, zero-or}
+use Rattle.laws.specs.Count.{hit-self, hit-other, hit-or, count-append, zero-or, bearer-of}
 use Rattle.laws.specs.Rules.{means}
 use Rattle.laws.specs.Tells.{Means}
 use Rattle.laws.specs.Chain.{Page, Chain}
-use Rattle.laws.specs.Heads.{one, page-one, sum-pos, range1-at, range1-of, range2-at, mails-at, seat-of}
+use Rattle.laws.specs.Heads.{one, page-or, page-one, sum-pos, range1-at, range1-of, range2-at, mails-at, seat-of}
 use Rattle.laws.specs.Uses.{Head, Sep, proc-page, list-short}
 use Rattle.laws.specs.Met.{met, Pointer, met-path, met-pages, met-some, met-none, none-else, of-gather, chain-path, used-uses, spare}
 use Rattle.laws.specs.Places.{grant-is}
 use Rattle.laws.specs.Inv.{view, bearers, Inv}
-use Rattle.laws.specs.Accepted.{page-or, sems, of-rule}
-
--- one who has the name
-pub record Bearer (f : ℕ → ℕ) (ps : List ℕ) (k : ℕ) : Type 0 where
-  pub who : ℕ
-  pub here : 1 ≤ count who ps
-  pub is : f who ≡ k
-
-pub bearer-of : (f : ℕ → ℕ) (ps : List ℕ) (k : ℕ) → 1 ≤ count k (each-of f ps) → Bearer f ps k
-bearer-of f [] k h = absurd (omega arith)
-bearer-of f (p ∷ ps) k h = go (hit-or k (f p)) (bearer-of f ps k)
-  where
-    go : (k ≡ f p) ⊎ (k ≢ f p) → (1 ≤ count k (each-of f ps) → Bearer f ps k) → Bearer f (p ∷ ps) k
-    go (inl e) ih = record { who = p; here = omega (arith, hit-self p); is = sym e }
-    go (inr n) ih =
-        let t = ih (omega (arith, hit-other k (f p) n)) in
-        record { who = t .who; here = omega (arith, t .here); is = t .is }
+use Rattle.laws.specs.Accepted.{sems, of-rule}
 
 -- a word of page 10: of a name, or spare
 pub spare-grant : (a : ℕ) → 1 ≤ count a spare → isGrant a ≡ true

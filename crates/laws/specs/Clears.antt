@@ -3,7 +3,7 @@ use mathlib.Core.Path.{_≡_, refl, sym, ap, _∙_}
 use mathlib.Core.Logic.{_≢_, _⊎_, inl, inr}
 use mathlib.Core.Bool.{Bool, true, false}
 use mathlib.Core.List.{List, [], _∷_}
-use Prim.Native.Nat.{ℕ, suc, _+_, _-_, _*_, _/_, _%_, _≤_, _<_}
+use Prim.Native.Nat.{ℕ, suc, _+_, _-_, _≤_, _<_}
 use native.Mathlib.Omega.{arith}
 use lib.ListN.{length, getD}
 use lib.Dec.{eqb}
@@ -20,10 +20,9 @@ use Rattle.model.specs.Lists.{count, Lists, sum, some, linkOf, range, mails, ow
 use Rattle.model.specs.Judge as Judge
 use Rattle.model.specs.declared.Finding.the-variants.{Nothing}
 use Rattle.model.specs.Classes as Classes
-use Rattle.model.specs.Walks as Walks
 use Rattle.model.specs.Walks.{lastCell, gather}
 use Rattle.model.specs.Classes.{chains, holders, used, controls, lines}
-use Rattle.laws.specs.Count.{hit-self, hit-other, hit-or, count-append, zero-or}
+use Rattle.laws.specs.Count.{hit-self, hit-other, hit-or, count-append, zero-or, bearer-of}
 use Rattle.laws.specs.Sentences.{_and_}
 use Rattle.laws.specs.Tells.{Means, Clear, clear-means-in, means-clear-in, first-clear, clear-first}
 use Rattle.laws.specs.Heads.{one, page-one, sum-ext, range1-of, range2-of, mails-of, owns-of, Place, queues-place}
@@ -35,7 +34,7 @@ use Rattle.laws.specs.Places.{grant-is, grant-of, grant-low, grant-high,
 use Rattle.laws.specs.Inv.{noOne, view, bearers, stock-page, stock-else, Facts, Inv}
 use Rattle.laws.specs.Accepted.{MessageRule, as-rule, judge-inv}
 use Rattle.laws.specs.Judged.{inv-judge}
-use Rattle.laws.specs.Cleared.{bearer-of, spare-grant, Clean, clean-inv}
+use Rattle.laws.specs.Cleared.{spare-grant, Clean, clean-inv}
 
 -- the one of a list of one
 only-one : (a x : ℕ) → 1 ≤ count a (x ∷ []) → a ≡ x

@@ -1,5 +1,5 @@
 -- How often a number stands in a list: what "used once" is counted with. Assumes nothing.
-use mathlib.Core.Path.{_≡_, refl, ap}
+use mathlib.Core.Path.{_≡_, refl, sym, ap}
 use mathlib.Core.Logic.{_≢_, _⊎_, inl, inr}
 use mathlib.Core.Bool.{Bool, true, false}
 use mathlib.Core.List.{List, [], _∷_, _++_}
@@ -7,7 +7,7 @@ use Prim.Native.Nat.{ℕ, zero, suc, _+_, _≤_}
 use native.Mathlib.Omega.{arith}
 use lib.Dec.{eqb}
 use borrow.Author.Tests.{eqb-true, eqb-false, eq-eqb, ne-eqb}
-use Rattle.model.specs.Lists.{hit, count}
+use Rattle.model.specs.Lists.{hit, count, each-of}
 
 pub hit-le : (b : Bool) → hit b ≤ 1
 hit-le true = omega arith
@@ -43,3 +43,19 @@ zero-or (suc n) = inr (omega arith)
 
 pub count-mid : (x : ℕ) (xs ys : List ℕ) → 1 ≤ count x (xs ++ x ∷ ys)
 count-mid x xs ys = omega (arith, count-append x xs (x ∷ ys), hit-self x)
+
+-- one who has the name
+pub record Bearer (f : ℕ → ℕ) (ps : List ℕ) (k : ℕ) : Type 0 where
+  pub who : ℕ
+  pub here : 1 ≤ count who ps
+  pub is : f who ≡ k
+
+pub bearer-of : (f : ℕ → ℕ) (ps : List ℕ) (k : ℕ) → 1 ≤ count k (each-of f ps) → Bearer f ps k
+bearer-of f [] k h = absurd (omega arith)
+bearer-of f (p ∷ ps) k h = go (hit-or k (f p)) (bearer-of f ps k)
+  where
+    go : (k ≡ f p) ⊎ (k ≢ f p) → (1 ≤ count k (each-of f ps) → Bearer f ps k) → Bearer f (p ∷ ps) k
+    go (inl e) ih = record { who = p; here = omega (arith, hit-self p); is = sym e }
+    go (inr n) ih =
+        let t = ih (omega (arith, hit-other k (f p) n)) in
+        record { who = t .who; here = omega (arith, t .here); is = t .is }

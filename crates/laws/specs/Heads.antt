@@ -37,6 +37,14 @@ pub one-le : (z : ℕ) → one z ≤ 1
 unfolding one
 one-le z = hit-le (leb firstControl z && ltb z (suc lastControl))
 
+-- every number is one's, or not
+pub page-or : (z : ℕ) → Page z ⊎ (one z ≡ 0)
+page-or z = go (zero-or (one z))
+  where
+    go : (one z ≡ 0) ⊎ (1 ≤ one z) → Page z ⊎ (one z ≡ 0)
+    go (inl e) = inr e
+    go (inr i) = inl (one-page z i)
+
 -- ---- sums
 pub sum-one : (z : ℕ) (L : Lists) (a : ℕ) (hs : List ℕ) → 1 ≤ count a hs → count z (L a) ≤ sum z L hs
 sum-one z L a [] h = absurd (omega arith)

@@ -4,7 +4,7 @@ use mathlib.Core.Path.{_≡_, refl, sym, ap, _∙_}
 use mathlib.Core.Logic.{_≢_, _⊎_, inl, inr}
 use mathlib.Core.Bool.{Bool, true, false, _&&_}
 use mathlib.Core.List.{List, [], _∷_, _++_}
-use Prim.Native.Nat.{ℕ, zero, suc, _+_, _-_, _*_, _≤_, _<_}
+use Prim.Native.Nat.{ℕ, zero, suc, _+_, _-_, _≤_, _<_}
 use native.Mathlib.Omega.{arith}
 use lib.ListN.{length, getD}
 use lib.Dec.{leb}
@@ -13,7 +13,6 @@ use Rattle.model.specs.Map.{pageSize, place, grants, grantFor, firstControl, la
 use Rattle.model.specs.Store.{bytes}
 use Rattle.model.specs.Lists as Lists
 use Rattle.model.specs.Lists.{count, Lists, sum, some, linkOf, isGrant, range, mails, uses}
-use Rattle.model.specs.Classes as Classes
 use Rattle.model.specs.Walks as Walks
 use Rattle.model.specs.Walks.{isControl, lastCell, gather}
 use Rattle.model.specs.Classes.{used}

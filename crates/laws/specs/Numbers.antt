@@ -1,6 +1,6 @@
 -- Refusals and faults: "The answer gives its number". Every answer of every call, on any memory, has the paper's number and values, and these tell the case:
 -- from the numbers the answer can be had again. Then which memories are refused, and with which numbers. Assumes nothing.
-use mathlib.Core.Path.{_≡_, refl, sym, ap, _∙_}
+use mathlib.Core.Path.{_≡_, refl, ap}
 use mathlib.Core.Logic.{_≢_}
 use mathlib.Core.Bool.{Bool, true, false, cond}
 use mathlib.Core.List.{List, [], _∷_}
@@ -8,7 +8,7 @@ use Prim.Native.Nat.{ℕ, _≤_}
 use native.Mathlib.Omega.{arith}
 use lib.ListN.{length, getD}
 use lib.Dec.{eqb, ltb}
-use borrow.Author.Tests.{eq-eqb, ne-eqb, eqb-true, eqb-false, lt-ltb, le-ltb}
+use borrow.Author.Tests.{eq-eqb, ne-eqb, eqb-false, lt-ltb, le-ltb}
 use Rattle.model.specs.declared.Registers.{Registers}
 use Rattle.model.specs.declared.Answer.{Answer}
 use Rattle.model.specs.declared.Answer.the-variants.{Done, Waits, HandedOut, Fault, Refused, RefusedAt}
@@ -18,7 +18,7 @@ use Rattle.model.specs.declared.Verdict.{Verdict}
 use Rattle.model.specs.declared.Verdict.the-variants as Verdict
 use Rattle.model.specs.declared.Finding.{Finding}
 use Rattle.model.specs.declared.Finding.the-variants.{Nothing, WrongLength, Broken}
-use Rattle.model.specs.Map.{memorySize, lastFault}
+use Rattle.model.specs.Map.{memorySize}
 use Rattle.model.specs.Processor as Processor
 use Rattle.model.specs.Fault as Faults
 use Rattle.model.specs.Fresh.{startable}
@@ -30,11 +30,11 @@ use Rattle.model.specs.Call as Call
 use Rattle.model.specs.Bytes as Model
 use Rattle.model.specs.Bytes.{Step, fresh, instruction, interrupt, readRegisters, setRegisters, judge, judged, finding, running, registersOf}
 use Rattle.laws.specs.Judged.{WellFormed, invariant}
-use Rattle.laws.specs.Findings.{Found, Offends, found, found-well, found-broken, well-found}
+use Rattle.laws.specs.Findings.{Found, Offends, found, found-well, found-broken}
 use Rattle.laws.specs.Who.{running-at}
-use Rattle.laws.specs.Kinds.{Kind, instruction-kind, interrupt-kind, set-kind, fresh-kind}
+use Rattle.laws.specs.Kinds.{Kind, instruction-kind, interrupt-kind, set-kind}
 use Rattle.laws.specs.Kinds as Kinds
-use Rattle.laws.specs.Calls.{Sound, well, unrefused}
+use Rattle.laws.specs.Calls.{Sound, unrefused}
 use Rattle.laws.specs.Refusals.{firstRefusal, kind-told}
 
 -- ---- the answer that has these numbers: faults are below refusals

@@ -1,17 +1,15 @@
 -- Refusals and faults: "The answer gives its number". What the numbers of an answer say of the step, of every call that may write, on any memory: "Refusals
 -- leave all memory untouched", a fault is the one step on the memory as it was, an own code is handed out and leaves it. Assumes nothing.
-use mathlib.Core.Path.{_≡_, refl, sym, ap, _∙_}
+use mathlib.Core.Path.{_≡_, ap, _∙_}
 use mathlib.Core.List.{List, [], _∷_}
 use Prim.Native.Nat.{ℕ, _≤_}
 use native.Mathlib.Omega.{arith}
 use lib.ListN.{length}
 use Rattle.model.specs.Map.{lastFault}
 use Rattle.model.specs.declared.Answer.{Answer}
-use Rattle.model.specs.declared.Answer.the-variants.{Done, Waits, HandedOut, Fault, Refused, RefusedAt}
 use Rattle.model.specs.declared.Finding.the-variants.{Broken}
 use Rattle.model.specs.Answer as Answer
-use Rattle.model.specs.Answer.{answerOf, memoryOf, numbers, brokenCounters, brokenPages, handedOutNumber, outOfRange, wrongLength}
-use Rattle.model.specs.Answer.Outcome.{gives}
+use Rattle.model.specs.Answer.{answerOf, memoryOf, numbers, brokenCounters, brokenPages, handedOutNumber, wrongLength}
 use Rattle.model.specs.Fault as Faults
 use Rattle.model.specs.Bytes as Model
 use Rattle.model.specs.Bytes.{Step, finding}
