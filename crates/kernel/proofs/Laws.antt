@@ -1,4 +1,4 @@
--- The head of a call, what a call comes to behind its refusals, and that a call allows one outcome only.
+-- What is found of a memory, the head of a call, what a call comes to behind its refusals, and that a call allows one outcome only.
 use Prim.Native.Nat.{ℕ, _≤_, _%_}
 use mathlib.Core.Path.{_≡_, refl, sym, ap, _∙_}
 use mathlib.Core.List.{List}
@@ -12,9 +12,11 @@ use Rattle.model.specs.declared.Answer.the-variants.{Done}
 use Rattle.model.specs.declared.Held.{Held}
 use Rattle.model.specs.declared.Verdict.{Verdict}
 use Rattle.model.specs.declared.Registers.{Registers}
+use Rattle.model.specs.declared.Finding.{Finding}
+use Rattle.model.specs.declared.Finding.the-variants.{Nothing, WrongLength, Broken}
 use Rattle.model.specs.declared.Held.the-variants as Held
 use Rattle.model.specs.Map.{memorySize, low}
-use Rattle.model.specs.Answer.{Outcome, wrongLength, illFormed, numbers, heldNumbers, verdictNumbers}
+use Rattle.model.specs.Answer.{Outcome, wrongLength, numbers, heldNumbers, verdictNumbers}
 use Rattle.model.specs.Answer.Outcome.{gives}
 use Rattle.model.specs.Fresh as Fresh
 use Rattle.model.specs.Fresh.{startable}
@@ -22,7 +24,7 @@ use Rattle.model.specs.Call as Call
 use Rattle.model.specs.Call.{isOuter, isClass}
 use Rattle.kernel.specs.Spoken as Spoken
 use Rattle.kernel.specs.Spoken.{spoken}
-use Rattle.model.specs.Bytes.{Memory, Step, refusal, head, judged, running, lr, registersOf, setRegistersOf, whoRuns, delivered, fetched, started}
+use Rattle.model.specs.Bytes.{Memory, Step, finding, toldOf, head, running, lr, registersOf, setRegistersOf, whoRuns, delivered, fetched, started}
 
 -- ---- what a range that was tested says: a test b did not refuse, and the next, x, is passed
 past : (b x : Bool) → cond b false x ≡ true → (b ≡ false) × (x ≡ true)
@@ -45,26 +47,41 @@ class-range : (k c : ℕ) → isClass k c ≡ true → c ≤ 31
 unfolding Call.isClass
 class-range k c h = ltb-false 31 c ((past (ltb 31 c) (cond (ltb k 48) (eqb c 0) true) h) .0)
 
--- ---- the head of a call: k is what refuses it
-long-enough : (b : Bool) (k : ℕ) → cond b k wrongLength ≡ 0 → b ≡ true
-long-enough true k h = refl
-long-enough false k h = absurd (omega (arith, h))
+-- ---- what is found: of the length, then what is told
+pub found-short : (m : Memory) → (length m ≡ memorySize → ⊥) → WrongLength ≡ finding m
+unfolding Call.finding
+found-short m d = rw (ne-eqb (length m) memorySize d)
 
-module _ (m : Memory) (k : ℕ) (ek : k ≡ refusal m) where
-  pub unrefused-length : k ≡ 0 → length m ≡ memorySize
-  unfolding Call.refusal
-  unrefused-length z = eqb-true (length m) memorySize (long-enough (eqb (length m) memorySize) (cond (judged m) 0 illFormed) (sym ek ∙ z))
+pub found-told : (m : Memory) (f : Finding) → length m ≡ memorySize → f ≡ toldOf m → f ≡ finding m
+unfolding Call.finding
+found-told m f l e = rw (eq-eqb (length m) memorySize l) e
 
-  module _ {A : Type 0} (refuses : ℕ → A) (o goes : Outcome A Memory) where
-    pub head-goes : k ≡ 0 → o ≡ goes → o ≡ head m refuses goes
+pub ruleset findings = (found-short, found-told)
+
+-- ---- the head of a call: f is what was found
+long-enough : (b : Bool) (g : Finding) → cond b g WrongLength ≡ Nothing → b ≡ true
+long-enough true g h = refl
+long-enough false g h = let z : _≡_ {A = ℕ} 0 1 = cc in absurd (omega arith)
+
+module _ (m : Memory) (f : Finding) (ef : f ≡ finding m) where
+  pub found-length : f ≡ Nothing → length m ≡ memorySize
+  unfolding Call.finding
+  found-length z = eqb-true (length m) memorySize (long-enough (eqb (length m) memorySize) (toldOf m) (sym ef ∙ z))
+
+  module _ {A : Type 0} (refuses : ℕ → A) (tells : ℕ → ℕ → A) (o goes : Outcome A Memory) where
+    pub head-goes : f ≡ Nothing → o ≡ goes → o ≡ head m refuses tells goes
     unfolding Call.head
-    head-goes z e = rw (← ek, eq-eqb k 0 z) e
+    head-goes z e = rw (← ef, z) e
 
-    pub head-refused : (k ≡ 0 → ⊥) → o ≡ gives (refuses k) m → o ≡ head m refuses goes
+    pub head-length : f ≡ WrongLength → o ≡ gives (refuses wrongLength) m → o ≡ head m refuses tells goes
     unfolding Call.head
-    head-refused z e = rw (← ek, ne-eqb k 0 z) e
+    head-length z e = rw (← ef, z) e
 
-pub ruleset heads = (unrefused-length, head-goes, head-refused)
+    pub head-told : (n a : ℕ) → f ≡ Broken n a → o ≡ gives (tells n a) m → o ≡ head m refuses tells goes
+    unfolding Call.head
+    head-told n a z e = rw (← ef, z) e
+
+pub ruleset heads = (found-length, head-goes, head-length, head-told)
 
 -- ---- what stands behind the refusals
 module _ (m : Memory) where
