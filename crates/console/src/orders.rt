@@ -8,11 +8,11 @@ use kernel::judge;
 use model::Registers;
 use model::Verdict;
 use model::map;
+use screen::broken::broken;
 use screen::lines::answer;
 use screen::lines::held;
 use screen::lines::not_understood;
 use screen::lines::verdict;
-use screen::pieces::address;
 use screen::pieces::text;
 use screen::pieces::word;
 use screen::state;
@@ -70,28 +70,21 @@ fn tell_judged(m: &[u8], lent: usize)
     verdict(judge(&m[0..lent]));
 }
 
-// A memory that the judge refuses could mislead, so nothing of it is shown.
+// A memory that is not lent whole has nothing to show.
 fn not_lent(refusal: u8) {
     text(b"nothing to show: the length is not 8192 (refused ");
     word(refusal);
     text(b")\n");
 }
 
-fn not_shown(refusal: u8, place: u16) {
-    text(b"nothing to show: the memory is not well-formed (refused ");
-    word(refusal);
-    text(b" at ");
-    address(place);
-    text(b")\n");
-}
-
+// The state; of a memory that the judge refuses, whose lists could mislead, only what is broken.
 fn show(m: &[u8], lent: usize)
     requires { ⌜ (length (now m) ≡ bufferWords) × (lent ≤ bufferWords) ⌝ }
 {
     match judge(&m[0..lent]) {
         Verdict::WellFormed => state(&m[0..map::MEMORY_WORDS]),
         Verdict::Refused(refusal) => not_lent(refusal),
-        Verdict::RefusedAt(refusal, place) => not_shown(refusal, place),
+        Verdict::RefusedAt(refusal, place) => broken(refusal, place),
     }
 }
 

@@ -1,4 +1,6 @@
-// What the script program prints: pieces of a line, the lines of the answers, and the state of a well-formed memory for a person to read.
+// What the script program prints: pieces of a line, the lines of the answers, the state of a well-formed memory for a person to read, and what is
+// broken of any other.
+pub mod broken;
 pub mod lines;
 pub mod pieces;
 mod rows;

@@ -92,12 +92,12 @@ fn wanted(name: u8, flag: u8) {
     word(flag);
 }
 
-// The interrupt whose semaphore stands at an address; 0 where that lies before them all.
-fn interrupt_at(semaphore: u16) -> u16 {
-    if semaphore < map::SEMAPHORES {
+// The interrupt whose semaphore or queue stands at an address; 0 where that lies before them all.
+pub fn interrupt_at(place: u16) -> u16 {
+    if place < map::SEMAPHORES {
         return 0;
     }
-    (semaphore - map::SEMAPHORES) / 2
+    (place - map::SEMAPHORES) / 2
 }
 
 // What the processor of a page waits for, by the address of its queue's semaphore: those of the interrupts lie before that of the free
