@@ -96,6 +96,21 @@ static void truck(const char *reading) {
     expect("interrupt", wik_interrupt(memory, sizeof memory, ON_SCALE, 0));
 }
 
+/* A word that is spoiled from outside: every call is refused with what is broken and where, and the memory comes back as it was lent. */
+static void spoil(unsigned place, uint8_t value) {
+    static uint8_t lent[WIK_WORDS];
+    uint8_t good = memory[place];
+    memory[place] = value;
+    memcpy(lent, memory, sizeof lent);
+    uint64_t answer = wik_instruction(memory, sizeof memory);
+    if (!wik_is_broken(answer) || wik_judge(memory, sizeof memory) != answer || memcmp(lent, memory, sizeof lent) != 0) {
+        fprintf(stderr, "word %u spoiled: answer %u\n", place, wik_number(answer));
+        exit(1);
+    }
+    printf("word %u spoiled: answer %u at %u, %s\n", place, wik_number(answer), wik_broken_at(answer), wik_text(answer));
+    memory[place] = good;
+}
+
 int main(void) {
     expect("fresh", wik_fresh(memory, sizeof memory, 16, 5));
     load();
@@ -118,9 +133,12 @@ int main(void) {
     expect("interrupt", wik_interrupt(memory, sizeof memory, BARRIER_OPEN, 0));
     run(100);
 
-    /* a memory that was spoiled from outside is refused, and comes back untouched */
-    memory[243] = 99;
-    printf("a counter out of range: answer %u, judge %u\n", wik_number(wik_instruction(memory, sizeof memory)),
-           wik_number(wik_judge(memory, sizeof memory)));
+    /* the free list, its semaphore, the ledger's name, the table of errors, a counter of the clock: each is spoiled and put back */
+    spoil(244, 236);
+    spoil(245, 200);
+    spoil(7559, 16);
+    spoil(288, 33);
+    spoil(243, 99);
+    expect("judge", wik_judge(memory, sizeof memory));
     return 0;
 }

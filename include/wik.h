@@ -8,16 +8,17 @@
  * between calls. docs/HOSTS.md says what a host may do between calls.
  *
  * ANSWERS. Every call answers with one number of 64 bits (crates/host/specs/Encoded.antt):
- *   bits 0-7    the number of the answer: WIK_DONE, WIK_WAITS, WIK_HANDED_OUT, a fault 1-12 or a refusal 20-26
- *   bits 8-23   of WIK_HANDED_OUT the address of the program; of a fault the name of the processor that it stopped
+ *   bits 0-7    the number of the answer: WIK_DONE, WIK_WAITS, WIK_HANDED_OUT, a fault 1-12 or a refusal 20, 22-26, 30-34
+ *   bits 8-23   of WIK_HANDED_OUT the address of the program; of a fault the name of the processor that it stopped; of a refusal 30-34 the address of
+ *               what is broken
  *   bits 24-39  of WIK_HANDED_OUT the address of word n+1, or of the arguments
- * wik_read_registers puts the registers into these bits instead: see there.
+ * Where it answers WIK_DONE, wik_read_registers puts the registers into bits 8-43: see there.
  *
  * PROMISES, of every call:
  *   - A refusal leaves every word as it was.
  *   - A memory whose length is not 8,192 is refused with 20, by every call.
- *   - A memory that is not well-formed is refused with 21, by every call but wik_fresh. From an accepted wik_fresh on, 21 never comes, as long as the
- *     host writes only page 0 (words 0-31) and words that are not protected (all but 0-15, 128-351 and 7552-8191).
+ *   - A memory that is not well-formed is refused with 30, 31, 32, 33 or 34 and an address, by every call but wik_fresh. From an accepted wik_fresh on,
+ *     none of the five comes, as long as the host writes only page 0 (words 0-31) and words that are not protected (all but 0-15, 128-351 and 7552-8191).
  *   - Answer and memory are exactly those of the definitions in crates/model/specs.
  */
 #ifndef WIK_H
@@ -51,18 +52,28 @@ enum wik_number {
     WIK_BAD_ARGUMENT = 12,
 
     WIK_WRONG_LENGTH = 20,      /* refusals: nothing has changed */
-    WIK_ILL_FORMED = 21,
     WIK_IDLE = 22,              /* nobody runs: deliver an interrupt */
     WIK_NATIVE = 23,            /* the word at LR is not 224: a native instruction, which this kernel does not run */
     WIK_NO_INTERRUPT = 24,
     WIK_WRONG_CLASS = 25,
-    WIK_OUT_OF_RANGE = 26
+    WIK_OUT_OF_RANGE = 26,
+
+    WIK_BROKEN_PAGES = 30,      /* refusals of a broken memory, each with the lowest address that is wrong; the first of the five that applies is given */
+    WIK_BROKEN_WAITS = 31,
+    WIK_BROKEN_RECORDS = 32,
+    WIK_BROKEN_TABLES = 33,
+    WIK_BROKEN_COUNTERS = 34
 };
 
 /* The number of an answer, and its two values. */
 static inline unsigned wik_number(uint64_t answer) { return (unsigned)(answer & 255); }
 static inline unsigned wik_first(uint64_t answer) { return (unsigned)(answer >> 8 & 65535); }
 static inline unsigned wik_second(uint64_t answer) { return (unsigned)(answer >> 24 & 65535); }
+
+/* Whether the memory is broken, by the answer of any call, and then the address: a control page by its word 0, a semaphore by its own word
+ * (docs/WELLFORMED.md). Word k of page p is p * 32 + k. */
+static inline int wik_is_broken(uint64_t answer) { return wik_number(answer) >= WIK_BROKEN_PAGES && wik_number(answer) <= WIK_BROKEN_COUNTERS; }
+static inline unsigned wik_broken_at(uint64_t answer) { return wik_first(answer); }
 
 /* What an answer says, in a few words for a log or a screen; docs/OPERATORS.md has what to do about each. */
 static inline const char *wik_text(uint64_t answer) {
@@ -83,12 +94,16 @@ static inline const char *wik_text(uint64_t answer) {
     case WIK_PROTECTED: return "fault: protected word";
     case WIK_BAD_ARGUMENT: return "fault: bad argument";
     case WIK_WRONG_LENGTH: return "refused: the length is not 8192";
-    case WIK_ILL_FORMED: return "refused: the memory is not well-formed";
     case WIK_IDLE: return "refused: nobody runs";
     case WIK_NATIVE: return "refused: the word at LR is not 224";
     case WIK_NO_INTERRUPT: return "refused: the interrupt is not 16-50";
     case WIK_WRONG_CLASS: return "refused: the class number is over 31, or not 0 below interrupt 48";
     case WIK_OUT_OF_RANGE: return "refused: a value is out of range";
+    case WIK_BROKEN_PAGES: return "refused: a control page is used twice or not at all";
+    case WIK_BROKEN_WAITS: return "refused: a wait queue or a semaphore does not fit";
+    case WIK_BROKEN_RECORDS: return "refused: the record of a processor or of a message does not fit";
+    case WIK_BROKEN_TABLES: return "refused: the table of codes or of errors does not fit";
+    case WIK_BROKEN_COUNTERS: return "refused: a counter or the entry of who runs does not fit";
     default: return "no answer of this kernel";
     }
 }
@@ -98,15 +113,15 @@ static inline const char *wik_text(uint64_t answer) {
 uint64_t wik_fresh(uint8_t *memory, size_t length, uint16_t line, uint16_t divider);
 
 /* One virtual instruction by the running processor.
- * Answers WIK_DONE, WIK_WAITS, WIK_HANDED_OUT or a fault; 20; 21; 22; 23. A fault changes nothing but the stopped bit, page 9 and who runs. */
+ * Answers WIK_DONE, WIK_WAITS, WIK_HANDED_OUT or a fault; 20; 30-34; 22; 23. A fault changes nothing but the stopped bit, page 9 and who runs. */
 uint64_t wik_instruction(uint8_t *memory, size_t length);
 
 /* Delivers interrupt number, 16-50, with a class number, which is 0 but for 48-50, where it is 0-31.
- * Answers WIK_DONE; 20; 21; 24; 25. */
+ * Answers WIK_DONE; 20; 30-34; 24; 25. */
 uint64_t wik_interrupt(uint8_t *memory, size_t length, uint16_t number, uint16_t class_number);
 
 /* The registers of the running processor, which is never stopped: bits 8-15 A, 16-23 S, 24 P, 25 Z, 26 CI, 27-39 LR, 40-43 W; all others are 0.
- * Answers WIK_DONE in bits 0-7; 20; 21; 22. Changes nothing. */
+ * Answers WIK_DONE in bits 0-7; 20; 30-34; 22. Changes nothing. */
 uint64_t wik_read_registers(const uint8_t *memory, size_t length);
 
 static inline unsigned wik_a(uint64_t registers) { return (unsigned)(registers >> 8 & 255); }
@@ -118,10 +133,10 @@ static inline unsigned wik_lr(uint64_t registers) { return (unsigned)(registers 
 static inline unsigned wik_w(uint64_t registers) { return (unsigned)(registers >> 40 & 15); }
 
 /* The running processor's registers become these: A and S 0-255, P, Z and CI 0-1, LR 0-8191, W 0-15.
- * Its stopped and waiting bits stay. Answers WIK_DONE; 20; 21; 22; 26 where a value is out of range. */
+ * Its stopped and waiting bits stay. Answers WIK_DONE; 20; 30-34; 22; 26 where a value is out of range. */
 uint64_t wik_set_registers(uint8_t *memory, size_t length, uint16_t a, uint16_t s, uint16_t p, uint16_t z, uint16_t ci, uint16_t lr, uint16_t w);
 
-/* The judge of well-formed memory. Answers WIK_DONE; 20; 21. Changes nothing. */
+/* The judge of well-formed memory. Answers WIK_DONE; 20; 30-34. Changes nothing. */
 uint64_t wik_judge(const uint8_t *memory, size_t length);
 
 #ifdef __cplusplus

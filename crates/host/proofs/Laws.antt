@@ -4,7 +4,7 @@ use native.Mathlib.Omega.{arith}
 use mathlib.Core.Path.{_≡_, ap, _∙_}
 use Rattle.model.specs.declared.Registers.{Registers}
 use Rattle.model.specs.declared.Answer.{Answer}
-use Rattle.model.specs.declared.Answer.the-variants.{Done, Waits, HandedOut, Fault, Refused}
+use Rattle.model.specs.declared.Answer.the-variants.{Done, Waits, HandedOut, Fault, Refused, RefusedAt}
 use Rattle.model.specs.declared.Held.{Held}
 use Rattle.model.specs.declared.Held.the-variants as Held
 use Rattle.model.specs.declared.Verdict.{Verdict}
@@ -15,7 +15,7 @@ use Rattle.model.specs.Answer.Outcome.{gives}
 use Rattle.model.specs.Bytes.{Memory}
 use Rattle.host.specs.Encoded as Encoded
 use Rattle.host.specs.Encoded.{encoded, encodedHeld, encodedVerdict, lowPart, packed, handed-sum, fault-sum, refused-sum, held-sum, held-refused-sum}
-use Rattle.host.specs.Encoded.{verdict-refused-sum}
+use Rattle.host.specs.Encoded.{verdict-refused-sum, refused-at-sum, held-refused-at-sum, verdict-refused-at-sum}
 
 module _ {A : Type 0} (code : A → ℕ) where
   answers : (o : Outcome A Memory) (a : A) (m : Memory) (r : ℕ) → gives a m ≡ o → r ≡ code a → r ≡ code (answerOf o)
@@ -71,11 +71,17 @@ fault-code a f n x y e ex ey = rw (e, ex, ey, fault-sum f n)
 pub refused-code : (a : Answer) (k x : ℕ) → a ≡ Refused k → x ≡ k → x ≡ encoded a
 refused-code a k x e ex = rw (e, ex, refused-sum k)
 
+pub refused-at-code : (a : Answer) (k b x y : ℕ) → a ≡ RefusedAt k b → x ≡ k → y ≡ b → x + y * 256 ≡ encoded a
+refused-at-code a k b x y e ex ey = rw (e, ex, ey, refused-at-sum k b)
+
 pub held-code : (h : Held) (r : Registers) (x : ℕ) → h ≡ Held.Has r → x ≡ packed r → x ≡ encodedHeld h
 held-code h r x e ex = rw (e, ex, held-sum r)
 
 pub held-refused-code : (h : Held) (k x : ℕ) → h ≡ Held.Refused k → x ≡ k → x ≡ encodedHeld h
 held-refused-code h k x e ex = rw (e, ex, held-refused-sum k)
+
+pub held-refused-at-code : (h : Held) (k b x y : ℕ) → h ≡ Held.RefusedAt k b → x ≡ k → y ≡ b → x + y * 256 ≡ encodedHeld h
+held-refused-at-code h k b x y e ex ey = rw (e, ex, ey, held-refused-at-sum k b)
 
 pub well-formed-code : (v : Verdict) → v ≡ Verdict.WellFormed → doneNumber ≡ encodedVerdict v
 unfolding Encoded.encodedVerdict Encoded.weighed Answer.verdictNumbers
@@ -84,4 +90,20 @@ well-formed-code v e = rw e
 pub verdict-refused-code : (v : Verdict) (k x : ℕ) → v ≡ Verdict.Refused k → x ≡ k → x ≡ encodedVerdict v
 verdict-refused-code v k x e ex = rw (e, ex, verdict-refused-sum k)
 
-pub ruleset coding = (done-code, waits-code, handed-code, fault-code, refused-code, held-code, held-refused-code, well-formed-code, verdict-refused-code)
+pub verdict-refused-at-code : (v : Verdict) (k b x y : ℕ) → v ≡ Verdict.RefusedAt k b → x ≡ k → y ≡ b → x + y * 256 ≡ encodedVerdict v
+verdict-refused-at-code v k b x y e ex ey = rw (e, ex, ey, verdict-refused-at-sum k b)
+
+pub ruleset coding = (
+  done-code,
+  waits-code,
+  handed-code,
+  fault-code,
+  refused-code,
+  refused-at-code,
+  held-code,
+  held-refused-code,
+  held-refused-at-code,
+  well-formed-code,
+  verdict-refused-code,
+  verdict-refused-at-code,
+)

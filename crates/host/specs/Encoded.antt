@@ -7,7 +7,7 @@ use mathlib.Core.List.{List, [], _∷_}
 use lib.ListN.{getD}
 use Rattle.model.specs.declared.Registers.{Registers}
 use Rattle.model.specs.declared.Answer.{Answer}
-use Rattle.model.specs.declared.Answer.the-variants.{HandedOut, Fault, Refused}
+use Rattle.model.specs.declared.Answer.the-variants.{HandedOut, Fault, Refused, RefusedAt}
 use Rattle.model.specs.declared.Held.{Held}
 use Rattle.model.specs.declared.Held.the-variants as Held
 use Rattle.model.specs.declared.Verdict.{Verdict}
@@ -57,6 +57,10 @@ pub refused-sum : (k : ℕ) → encoded (Refused k) ≡ k
 unfolding encoded weighed Answer.numbers
 refused-sum k = omega arith
 
+pub refused-at-sum : (k a : ℕ) → encoded (RefusedAt k a) ≡ k + a * 256
+unfolding encoded weighed Answer.numbers
+refused-at-sum k a = omega arith
+
 unfoldable pub lowPart : Registers → ℕ
 lowPart r = r .a * 256 + r .s * 65536 + r .p * 16777216 + r .z * 33554432 + r .ci * 67108864
 
@@ -71,13 +75,33 @@ pub held-refused-sum : (k : ℕ) → encodedHeld (Held.Refused k) ≡ k
 unfolding encodedHeld weighed Answer.heldNumbers
 held-refused-sum k = omega arith
 
+pub held-refused-at-sum : (k a : ℕ) → encodedHeld (Held.RefusedAt k a) ≡ k + a * 256
+unfolding encodedHeld weighed Answer.heldNumbers
+held-refused-at-sum k a = omega arith
+
 pub verdict-refused-sum : (k : ℕ) → encodedVerdict (Verdict.Refused k) ≡ k
 unfolding encodedVerdict weighed Answer.verdictNumbers
 verdict-refused-sum k = omega arith
 
--- ---- read off again: the numbers of a fault, and of an own code
+pub verdict-refused-at-sum : (k a : ℕ) → encodedVerdict (Verdict.RefusedAt k a) ≡ k + a * 256
+unfolding encodedVerdict weighed Answer.verdictNumbers
+verdict-refused-at-sum k a = omega arith
+
+-- ---- read off again: the numbers of a fault, of a refusal with its address, and of an own code
 pub fault-read : (f n : ℕ) → f < 256 → n < 65536 → (encoded (Fault f n) % 256 ≡ f) × (encoded (Fault f n) / 256 % 65536 ≡ n)
 fault-read f n u v = rw (fault-sum f n) (omega arith, omega arith)
+
+-- the same of all three kinds of answer
+pub refused-at-read : (k a : ℕ) → k < 256 → a < 65536 → (encoded (RefusedAt k a) % 256 ≡ k) × (encoded (RefusedAt k a) / 256 % 65536 ≡ a)
+refused-at-read k a u v = rw (refused-at-sum k a) (omega arith, omega arith)
+
+pub held-refused-at-read : (k a : ℕ) → k < 256 → a < 65536
+    → (encodedHeld (Held.RefusedAt k a) % 256 ≡ k) × (encodedHeld (Held.RefusedAt k a) / 256 % 65536 ≡ a)
+held-refused-at-read k a u v = rw (held-refused-at-sum k a) (omega arith, omega arith)
+
+pub verdict-refused-at-read : (k a : ℕ) → k < 256 → a < 65536
+    → (encodedVerdict (Verdict.RefusedAt k a) % 256 ≡ k) × (encodedVerdict (Verdict.RefusedAt k a) / 256 % 65536 ≡ a)
+verdict-refused-at-read k a u v = rw (verdict-refused-at-sum k a) (omega arith, omega arith)
 
 pub handed-read : (p a : ℕ) → p < 65536 → a < 65536
     → (encoded (HandedOut p a) % 256 ≡ handedOutNumber) × (encoded (HandedOut p a) / 256 % 65536 ≡ p) × (encoded (HandedOut p a) / 16777216 % 65536 ≡ a)
