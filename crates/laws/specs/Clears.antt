@@ -1,4 +1,4 @@
--- Say what is broken: where the judge accepts, no class has an offending address. So the five are given exactly where 21 was. Assumes nothing.
+-- Say what is broken: where the invariant holds, no sentence of the table has an offending address. Assumes nothing.
 use mathlib.Core.Path.{_≡_, refl, sym, ap, _∙_}
 use mathlib.Core.Logic.{_≢_, _⊎_, inl, inr}
 use mathlib.Core.Bool.{Bool, true, false}
@@ -9,22 +9,20 @@ use lib.ListN.{length, getD}
 use lib.Dec.{eqb}
 use borrow.Author.Tests.{ne-eqb}
 use Rattle.model.specs.Map as Map
-use Rattle.model.specs.Map.{lastFlag, memorySize, pageSize, place, upper, lower, less, waitBit, interrupts, semaphoreAfter, headerAfter, clockLine}
+use Rattle.model.specs.Map.{lastFlag, pageSize, place, upper, lower, less, waitBit, interrupts, semaphoreAfter, headerAfter, clockLine}
 use Rattle.model.specs.Map.{freeList, freeSemaphore, pageQueue, processorList, runningPage, runningLabel, zeroWord, codeWord, allCodes}
 use Rattle.model.specs.Map.{builtInCodes, firstUnused, entries, grants, grantsEnd, grantFor, firstControl, lastControl, controlPages}
 use Rattle.model.specs.Map.{ownSemaphore, ownQueue, q1, lastName}
 use Rattle.model.specs.Store.{bytes}
 use Rattle.model.specs.Mail.{fits}
-use Rattle.model.specs.Bytes.{word, lists, judged}
+use Rattle.model.specs.Bytes.{word}
 use Rattle.model.specs.Lists.{count, Lists, sum, some, linkOf, range, mails, owns, uses, queues, isGrant}
 use Rattle.model.specs.Judge as Judge
-use Rattle.model.specs.declared.Finding.the-variants.{Nothing}
 use Rattle.model.specs.Classes as Classes
 use Rattle.model.specs.Walks.{lastCell, gather}
 use Rattle.model.specs.Classes.{chains, holders, used, controls, lines}
 use Rattle.laws.specs.Count.{hit-self, hit-other, hit-or, count-append, zero-or, bearer-of}
-use Rattle.laws.specs.Sentences.{_and_}
-use Rattle.laws.specs.Tells.{Means, Clear, clear-means-in, means-clear-in, first-clear, clear-first}
+use Rattle.laws.specs.Tells.{Means}
 use Rattle.laws.specs.Heads.{one, page-one, sum-ext, range1-of, range2-of, mails-of, owns-of, Place, queues-place}
 use Rattle.laws.specs.Heads.Place.{int, three, grant, slot}
 use Rattle.laws.specs.Uses.{Among, Sep, proc-page, list-short}
@@ -32,9 +30,8 @@ use Rattle.laws.specs.Met.{met, Pointer, met-path, met-some, met-none, s
 use Rattle.laws.specs.Places.{in-uses, in-queues, in-procs, in-free, in-asking, in-own, in-q, in-grant, int-queue, own-once, asking-once}
 use Rattle.laws.specs.Places.{grant-is, grant-of, grant-low, grant-high, all-pages}
 use Rattle.laws.specs.Inv.{noOne, view, bearers, stock-page, stock-else, Facts, Inv}
-use Rattle.laws.specs.Accepted.{MessageRule, as-rule, judge-inv}
-use Rattle.laws.specs.Judged.{inv-judge}
-use Rattle.laws.specs.Cleared.{spare-grant, Clean, clean-inv}
+use Rattle.laws.specs.Accepted.{MessageRule, as-rule}
+use Rattle.laws.specs.Cleared.{spare-grant, Clean}
 
 -- the one of a list of one
 only-one : (a x : ℕ) → 1 ≤ count a (x ∷ []) → a ≡ x
@@ -339,49 +336,3 @@ module _ (m : List ℕ) (ps : List ℕ) (L : Lists) (i : Inv m ps L (view m)) wh
         clock = counts-clean .0;
         running = counts-clean .1;
       })
-
--- ---- the five are given exactly where (suc controlPages) was
-classes-of : (m : List ℕ) → Clean m (met m processorList) → Clear (Classes.classes bytes m (met m processorList) (met m))
-unfolding Classes.classes Classes.ofPages Classes.ofWaits Classes.ofRecords Classes.ofTables Classes.ofCounters
-classes-of m c =
-    means-clear-in _ (c .usedOnce and c .usesEnd and tt)
-    and means-clear-in _ (c .queuesEnd and c .waitingBits and c .reasons and c .messageWaits and c .semaphores and c .pageWaits and tt)
-    and means-clear-in _ (c .labels and c .granted and c .messages and tt)
-    and means-clear-in _ (c .codes and c .faults and tt)
-    and means-clear-in _ (c .clock and c .running and tt)
-    and tt
-
-of-classes : (m : List ℕ) → Clear (Classes.classes bytes m (met m processorList) (met m)) → Clean m (met m processorList)
-unfolding Classes.classes Classes.ofPages Classes.ofWaits Classes.ofRecords Classes.ofTables Classes.ofCounters
-of-classes m c =
-    let p = clear-means-in _ (c .0) in
-    let w = clear-means-in _ (c .1 .0) in
-    let r = clear-means-in _ (c .1 .1 .0) in
-    let t = clear-means-in _ (c .1 .1 .1 .0) in
-    let n = clear-means-in _ (c .1 .1 .1 .1 .0) in
-    record {
-      usedOnce = p .0;
-      usesEnd = p .1 .0;
-      queuesEnd = w .0;
-      waitingBits = w .1 .0;
-      reasons = w .1 .1 .0;
-      messageWaits = w .1 .1 .1 .0;
-      semaphores = w .1 .1 .1 .1 .0;
-      pageWaits = w .1 .1 .1 .1 .1 .0;
-      labels = r .0;
-      granted = r .1 .0;
-      messages = r .1 .1 .0;
-      codes = t .0;
-      faults = t .1 .0;
-      clock = n .0;
-      running = n .1 .0;
-    }
-
-pub judged-nothing : (m : List ℕ) → length m ≡ memorySize → judged m ≡ true → Classes.toldOf bytes m ≡ Nothing
-unfolding Classes.toldOf
-judged-nothing m s e =
-    first-clear (Classes.classes bytes m (met m processorList) (met m)) (classes-of m (inv-clean m (lists m processorList) (lists m) (judge-inv m s e)))
-
-pub nothing-judged : (m : List ℕ) → length m ≡ memorySize → Classes.toldOf bytes m ≡ Nothing → judged m ≡ true
-unfolding Classes.toldOf
-nothing-judged m s e = inv-judge (clean-inv m (of-classes m (clear-first (Classes.classes bytes m (met m processorList) (met m)) e)) s)

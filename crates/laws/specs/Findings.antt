@@ -25,7 +25,7 @@ use Rattle.laws.specs.Tells.{Tells, Said, first-said}
 use Rattle.laws.specs.Tells.Said.{clear, says}
 use Rattle.laws.specs.Tells.Tells.{now, later}
 use Rattle.laws.specs.Met.{met}
-use Rattle.laws.specs.Clears.{judged-nothing, nothing-judged}
+use Rattle.laws.specs.Exactly.{judged-nothing, nothing-judged}
 use Rattle.laws.specs.Addresses.{told-low}
 
 -- the table of a memory, and the addresses that offend in the class of a number

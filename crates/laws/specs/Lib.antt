@@ -23,6 +23,7 @@ pub mod Judged
 -- What is told of a memory that it refuses
 pub mod Cleared
 pub mod Clears
+pub mod Exactly
 pub mod Addresses
 pub mod Findings
 -- Stores: what they leave, what the memory then holds, which sentences stay

@@ -9,12 +9,15 @@ use Prim.Native.Nat.{ℕ, _+_, _≤_}
 use lib.ListN.{length}
 use Rattle.model.specs.Map.{memorySize, place, q1, ownQueue, freeList, pageQueue, processorList, waitIn}
 use Rattle.model.specs.Lists.{count, Lists, uses, queues}
+use Rattle.model.specs.Rule.{Rule}
+use Rattle.model.specs.Tell.{broken}
 use Rattle.model.specs.Bytes.{lists, judged, name, join, leave, giveBack, deliver, putToWait, wake}
 use Rattle.laws.specs.Uses.{Head}
 use Rattle.laws.specs.Places.{InUses}
 use Rattle.laws.specs.Inv.{View, view, Message, Base, Inv}
 use Rattle.laws.specs.Accepted.{judge-inv}
 use Rattle.laws.specs.Judged.{inv-judge}
+use Rattle.laws.specs.Tells.{Breaks, breaks-of, of-breaks}
 use Rattle.laws.specs.Waits.{Fit}
 use Rattle.laws.specs.Witness.{InHand, InHandMessage, InHandAsked, example-hand, example-message, example-asked}
 use Rattle.laws.specs.ListSteps.{Becomes, join-appends, leave-takes, give-frees, Grants, give-grants, deliver-appends, wait-appends, wake-takes}
@@ -25,6 +28,13 @@ judge-says = judge-inv
 
 pub judge-must : {m : List ℕ} {ps : List ℕ} {L : Lists} {W : View} → Inv m ps L W → judged m ≡ true
 judge-must = inv-judge
+
+-- ---- an address offends exactly if one of those that its row speaks of breaks the rule, and tells it: `Breaks` (laws/specs/Tells.antt)
+pub offends-means : (address : ℕ → ℕ) (rule : ℕ → Rule) (whom : List ℕ) (b : ℕ) → 1 ≤ count b (broken address rule whom) → Breaks address rule whom b
+offends-means = breaks-of
+
+pub offends-must : (address : ℕ → ℕ) (rule : ℕ → Rule) (whom : List ℕ) (b : ℕ) → Breaks address rule whom b → 1 ≤ count b (broken address rule whom)
+offends-must = of-breaks
 
 -- ---- the steps mean what they say, of a memory with the page q in hand (below there is one); no other list changes
 module _ {m : List ℕ} {ps : List ℕ} {L : Lists} {W : View} {hs : List ℕ} {g q : ℕ} (b : Base m ps L W (q ∷ hs) g) where
