@@ -15,22 +15,27 @@ static struct answer refused(unsigned number)
     return (struct answer){ .kind = ANSWER_REFUSED, .number = number };
 }
 
-/* "20 length not 8,192; 21 not well-formed (not for fresh)"; 0 if neither. */
-static unsigned unfit(const uint8_t *memory, size_t length)
+/* Done, or refused: "20 length not 8,192"; then 30-34 with the address, if the memory is not well-formed. */
+static struct answer fitness(const uint8_t *memory, size_t length)
 {
+    struct finding broken;
+
     if (length != WORDS)
-        return REFUSE_LENGTH;
-    return well_formed(memory) ? 0 : REFUSE_MEMORY;
+        return refused(REFUSE_LENGTH);
+    broken = judge(memory);
+    if (broken.number != 0)
+        return (struct answer){ .kind = ANSWER_REFUSED, .number = broken.number, .address = broken.address };
+    return done();
 }
 
 /* "22 idle (instruction, registers)" */
-static unsigned unfit_or_idle(const uint8_t *memory, size_t length)
+static struct answer fitness_to_run(const uint8_t *memory, size_t length)
 {
-    unsigned refusal = unfit(memory, length);
+    struct answer fit = fitness(memory, length);
 
-    if (refusal == 0 && memory[RUNNING_PAGE] == 0)
-        refusal = REFUSE_IDLE;
-    return refusal;
+    if (fit.kind == ANSWER_DONE && memory[RUNNING_PAGE] == 0)
+        fit = refused(REFUSE_IDLE);
+    return fit;
 }
 
 /* "processor 1, priority 1, LR 2752 on page 236, running; 237-255 free in order; codes 0-14 built in" */
@@ -68,18 +73,18 @@ struct answer kernel_fresh(uint8_t *memory, size_t length, uint32_t line, uint32
 
 struct answer kernel_instruction(uint8_t *memory, size_t length)
 {
-    unsigned refusal = unfit_or_idle(memory, length);
+    struct answer fit = fitness_to_run(memory, length);
 
-    return refusal != 0 ? refused(refusal) : run_instruction(memory);
+    return fit.kind == ANSWER_DONE ? run_instruction(memory) : fit;
 }
 
 /* "24 interrupt not 16-50; 25 class number over 31, or nonzero below 48" */
 struct answer kernel_interrupt(uint8_t *memory, size_t length, uint32_t number, uint32_t class_number)
 {
-    unsigned refusal = unfit(memory, length);
+    struct answer fit = fitness(memory, length);
 
-    if (refusal != 0)
-        return refused(refusal);
+    if (fit.kind != ANSWER_DONE)
+        return fit;
     if (number < 16 || number > 50)
         return refused(REFUSE_INTERRUPT);
     if (class_number > 31 || (number < 48 && class_number != 0))
@@ -91,11 +96,11 @@ struct answer kernel_interrupt(uint8_t *memory, size_t length, uint32_t number, 
 
 struct answer kernel_read_registers(const uint8_t *memory, size_t length, struct registers *registers)
 {
-    unsigned refusal = unfit_or_idle(memory, length);
+    struct answer fit = fitness_to_run(memory, length);
     unsigned page, bits;
 
-    if (refusal != 0)
-        return refused(refusal);
+    if (fit.kind != ANSWER_DONE)
+        return fit;
     page = memory[RUNNING_PAGE];
     bits = memory[at(page, LR_HIGH)];
     registers->a = memory[at(page, REGISTER_A)];
@@ -111,12 +116,12 @@ struct answer kernel_read_registers(const uint8_t *memory, size_t length, struct
 /* Set changes words 8-11 and the low four bits of word 12, nothing else; so the runner stays. */
 struct answer kernel_set_registers(uint8_t *memory, size_t length, const struct registers *registers)
 {
-    unsigned refusal = unfit_or_idle(memory, length);
+    struct answer fit = fitness_to_run(memory, length);
     const struct registers *in = registers;
     unsigned page;
 
-    if (refusal != 0)
-        return refused(refusal);
+    if (fit.kind != ANSWER_DONE)
+        return fit;
     if (in->a > 255 || in->s > 255 || in->p > 1 || in->z > 1 || in->ci > 1 || in->lr >= WORDS || in->w > 15)
         return refused(REFUSE_VALUE);
     page = memory[RUNNING_PAGE];
@@ -130,7 +135,5 @@ struct answer kernel_set_registers(uint8_t *memory, size_t length, const struct 
 
 struct answer kernel_judge(const uint8_t *memory, size_t length)
 {
-    unsigned refusal = unfit(memory, length);
-
-    return refusal != 0 ? refused(refusal) : done();
+    return fitness(memory, length);
 }

@@ -22,6 +22,7 @@ enum answer_kind {
 struct answer {
     enum answer_kind kind;
     uint32_t number;     /* of a fault or a refusal */
+    uint32_t address;    /* of a refusal 30-34: the lowest offending address */
     uint32_t name;       /* of the processor that made the fault */
     uint32_t program;    /* handed out: where the own code's program is */
     uint32_t arguments;  /* handed out: where its arguments are */
@@ -44,7 +45,7 @@ struct answer kernel_interrupt(uint8_t *memory, size_t length, uint32_t number, 
 struct answer kernel_read_registers(const uint8_t *memory, size_t length, struct registers *registers);
 struct answer kernel_set_registers(uint8_t *memory, size_t length, const struct registers *registers);
 
-/* Done if the memory is well-formed, else a refusal. */
+/* Done if the memory is well-formed, else a refusal: 20, or 30-34 with an address. */
 struct answer kernel_judge(const uint8_t *memory, size_t length);
 
 #endif

@@ -65,8 +65,8 @@ enum {
 };
 
 enum {
-    REFUSE_LENGTH = 20, REFUSE_MEMORY, REFUSE_IDLE, REFUSE_NOT_224, REFUSE_INTERRUPT,
-    REFUSE_CLASS, REFUSE_VALUE
+    REFUSE_LENGTH = 20, REFUSE_IDLE = 22, REFUSE_NOT_224, REFUSE_INTERRUPT, REFUSE_CLASS, REFUSE_VALUE,
+    REFUSE_USES = 30, REFUSE_WAITS, REFUSE_RECORDS, REFUSE_TABLES, REFUSE_RUNNING  /* memory not well-formed */
 };
 
 /* The address of a word of a page. */
@@ -137,7 +137,11 @@ unsigned take_page(uint8_t *m, unsigned name);
 void give_back(uint8_t *m, unsigned page);
 void delete_processor(uint8_t *m, unsigned page);
 
-/* judge.c */
+/* judge.c: what is broken, the number of the refusal and the address told; number 0 if nothing is */
+struct finding {
+    unsigned number, address;
+};
+struct finding judge(const uint8_t *m);
 bool well_formed(const uint8_t *m);
 
 /* operation.c */

@@ -28,7 +28,12 @@ static void print_answer(const struct answer *answer)
     case ANSWER_FAULT:
         printf("fault %u by %u\n", (unsigned)answer->number, (unsigned)answer->name);
         break;
-    case ANSWER_REFUSED: printf("refused %u\n", (unsigned)answer->number); break;
+    case ANSWER_REFUSED:
+        printf("refused %u", (unsigned)answer->number);
+        if (answer->number >= REFUSE_USES && answer->number <= REFUSE_RUNNING)
+            printf(" at %u", (unsigned)answer->address);
+        putchar('\n');
+        break;
     }
 }
 

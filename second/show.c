@@ -116,12 +116,22 @@ static void show_page_0(const uint8_t *m)
     putchar('\n');
 }
 
+static void show_verdict(const uint8_t *m)
+{
+    struct finding broken = judge(m);
+
+    if (broken.number == 0)
+        puts("well-formed");
+    else
+        printf("not well-formed: %u at %u\n", broken.number, broken.address);
+}
+
 void show_state(const uint8_t *m, size_t lent)
 {
     struct queue list = queue_read(m, PROCESSOR_LIST, LIST_LINK);
 
-    printf("state: lent %lu words, %s\n", (unsigned long)lent,
-           kernel_judge(m, WORDS).kind == ANSWER_DONE ? "well-formed" : "not well-formed");
+    printf("state: lent %lu words, ", (unsigned long)lent);
+    show_verdict(m);
     if (m[RUNNING_PAGE] == 0)
         puts("  idle");
     show_page_0(m);
