@@ -299,6 +299,7 @@ static void divider(const struct survey *s, struct told *told)
     tell_unless(told, DIVIDER, s->m[DIVIDER] >= 1);
 }
 
+/* A rule is found by its number, so their order here is only that of the table in the documents. */
 const struct rule rules[RULES] = {
     { REFUSE_USES, "every control page is used once", used_once },
     { REFUSE_USES, "a link or header of a list is 0 or 236-255", lists_end },
@@ -306,7 +307,8 @@ const struct rule rules[RULES] = {
     { REFUSE_WAITS, "a link or header of a wait queue is 0 or 236-255", wait_queues_end },
     { REFUSE_WAITS, "waiting bit set exactly if in one wait queue", waiting_bits },
     { REFUSE_WAITS, "reasons 1-255 in interrupt queues, 0 in the page queue and when not waiting", reasons },
-    { REFUSE_WAITS, "a message wait holds its owner only, reason flag 0-7, and matches nothing in its Q1", message_waits },
+    { REFUSE_WAITS, "a message wait holds its owner only, reason flag 0-7, and matches nothing in its Q1",
+      message_waits },
     { REFUSE_WAITS, "semaphores", semaphores },
     { REFUSE_WAITS, "free list empty if anyone waits for a page", free_list_empty },
     { REFUSE_WAITS, "who waits for a page holds no grant", waiters_hold_no_grant },
@@ -320,34 +322,37 @@ const struct rule rules[RULES] = {
     { REFUSE_TABLES, "names 1-15, faults 1-12, unused zero", page_9_entries },
     { REFUSE_RUNNING, "line 16-47", line },
     { REFUSE_RUNNING, "counters below their ends", counters },
-    { REFUSE_RUNNING, "the running one is ready and none ready is higher, idle only if none is ready", runner_is_right },
+    { REFUSE_RUNNING, "the running one is ready and none ready is higher, idle only if none is ready",
+      runner_is_right },
     { REFUSE_RUNNING, "word 25 of page 7 is the running one's word 7", runner_is_named },
     { REFUSE_RUNNING, "page 7 word 26 zero", word_26 },
     { REFUSE_RUNNING, "divider 1-255", divider }
 };
 
-unsigned lowest_of(const struct rule *rule, const struct survey *s)
+/* The lowest address of all the rules with this number, or NOWHERE. */
+unsigned lowest_of(unsigned number, const struct survey *s)
 {
     struct told told = { NOWHERE };
 
-    rule->offends(s, &told);
+    for (unsigned i = 0; i < RULES; i++)
+        if (rules[i].number == number)
+            rules[i].offends(s, &told);
     return told.lowest;
 }
 
-/* The first number of which a rule is broken, and the lowest address of all its rules. */
+/* The numbers are tried in their order; the first that has an address is given. */
 struct finding judge(const uint8_t *m)
 {
-    struct finding found = { 0, NOWHERE };
     struct survey s;
 
     survey(&s, m);
-    for (unsigned i = 0; i < RULES && (found.number == 0 || found.number == rules[i].number); i++) {
-        unsigned lowest = lowest_of(&rules[i], &s);
+    for (unsigned number = REFUSE_USES; number <= REFUSE_RUNNING; number++) {
+        unsigned lowest = lowest_of(number, &s);
 
-        if (lowest < found.address)
-            found = (struct finding){ rules[i].number, lowest };
+        if (lowest != NOWHERE)
+            return (struct finding){ number, lowest };
     }
-    return found;
+    return (struct finding){ 0, NOWHERE };
 }
 
 bool well_formed(const uint8_t *m)

@@ -38,15 +38,16 @@ struct rule {
 };
 
 /* survey.c */
+struct walk walk_from(const uint8_t *m, unsigned header, unsigned link);
 void survey(struct survey *s, const uint8_t *m);
 static inline unsigned index_of(unsigned page)
 {
     return page - FIRST_PAGE;
 }
 
-/* judge.c: the rules in their order, those of one number together */
+/* judge.c */
 enum { RULES = 24 };
 extern const struct rule rules[RULES];
-unsigned lowest_of(const struct rule *rule, const struct survey *s);
+unsigned lowest_of(unsigned number, const struct survey *s);
 
 #endif

@@ -4,7 +4,7 @@
 #include "judge.h"
 
 /* Ends at the first word that is no number of a control page, or after 21 pages. */
-static struct walk walk_from(const uint8_t *m, unsigned header, unsigned link)
+struct walk walk_from(const uint8_t *m, unsigned header, unsigned link)
 {
     struct walk w = { 0 };
     unsigned word = header;
