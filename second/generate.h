@@ -80,7 +80,9 @@ enum mark {
     MARK_DELETE_MESSAGE, MARK_DELETE_FEEDS, MARK_WAKE_MESSAGE, MARK_WAKE_NOTICE, MARK_NOTICE_SENT, MARK_TME_Q2,
     MARK_TME_TAIL, MARK_RME_MIDDLE, MARK_HANDED_DIRECT, MARK_HANDED_EXI, MARK_EXI_INDEXED, MARK_PAGE_9_FULL,
     MARK_FAULT_FULL, MARK_SWITCH, MARK_TO_IDLE, MARK_PREEMPTED, MARK_EQUAL_STAYS, MARK_STOPPED_WOKEN,
-    MARK_BROKEN_JUDGED, MARK_BROKEN_FINE, MARK_WRONG_LENGTH, MARK_NOT_UNDERSTOOD, MARK_NOT_ALLOWED, MARKS
+    MARK_BROKEN_JUDGED, MARK_BROKEN_FINE, MARK_TOLD_AMONG, MARK_TOLD_FIRST, MARK_TOLD_LOWER, MARK_LOOP,
+    MARK_LEADS_ON, MARK_WAIT_LOOP, MARK_WAIT_LEADS_ON, MARK_WRONG_LENGTH, MARK_NOT_UNDERSTOOD, MARK_NOT_ALLOWED,
+    MARKS
 };
 void mark(enum mark what);
 unsigned long marked(enum mark what);
@@ -89,6 +91,10 @@ void reach_step(const uint8_t *before, const struct answer *answer);
 void reach_interrupt(const uint8_t *before, unsigned number, const struct answer *answer);
 void reach_answer(const struct answer *answer);
 void write_reached(void);
+
+/* told.c: what the judge told */
+void reach_told(const uint8_t *m, const struct answer *answer);
+void write_told(void);
 
 /* plan.c: one instruction, direct or by EXI, put at LR and run */
 struct plan {
@@ -118,7 +124,7 @@ bool do_message(unsigned code, unsigned name, unsigned flag);
 bool do_wait(unsigned interrupt, unsigned count);
 bool others_ready(void);
 
-/* scenes.c, crowd.c, broken.c, lines.c: short plays of some orders each */
+/* scenes.c, crowd.c, broken.c, harmless.c, lines.c: short plays of some orders each */
 void scene_single(void);
 void scene_calls(void);
 void scene_interrupts(void);
@@ -146,6 +152,7 @@ void scene_litter(void);
 void scene_nobody(void);
 void scene_length(void);
 void scene_lines(void);
+void write_ways(void);  /* how memories were broken */
 void unstick(void);
 void opening(void);
 

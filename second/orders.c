@@ -73,6 +73,7 @@ static void answered(struct answer answer)
 {
     last = answer;
     reach_answer(&last);
+    reach_told(world, &last);
 }
 
 void order_fresh(unsigned line, unsigned divider)

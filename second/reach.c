@@ -4,7 +4,7 @@
 
 #include "generate.h"
 
-enum { WAIT_KINDS = 7, FAULT_NUMBERS = 13, REFUSALS = 27 };
+enum { WAIT_KINDS = 7, FAULT_NUMBERS = 13, REFUSALS = 35 };
 
 static const char *const mark_names[MARKS] = {
     "grants given", "grants used", "grants used by another instruction than the one that waited",
@@ -16,13 +16,18 @@ static const char *const mark_names[MARKS] = {
     "handed out direct", "handed out by EXI", "EXI with indexing", "page 9 filled", "faults with page 9 full",
     "changes of the runner", "going idle", "runner put aside while ready",
     "runner stays before an equal one earlier on the list", "stopped ones woken", "broken memories refused",
-    "broken words that do no harm", "calls with a wrong length", "lines not understood", "orders not allowed"
+    "broken words that do no harm", "told with other rules of the same number broken elsewhere",
+    "told before a later number", "told before a later number with a lower address",
+    "30 with a list that comes back on itself", "30 with a false number that leads to a control page",
+    "31 with a wait queue that comes back on itself", "31 with a false number that leads to a control page",
+    "calls with a wrong length", "lines not understood", "orders not allowed"
 };
 static const char *const wait_names[WAIT_KINDS] = {
     "interrupt 1-15", "interrupt 16-47", "interrupt 48-50", "interrupt 51-54", "page by SME", "page by CRP", "message"
 };
 static const char *const code_names[CODES] = {
-    "CVI", "DVI", "GIN", "WIN", "SME", "WNM", "RME", "TME", "ST1", "STP", "ST2", "CRP", "DEP", "code 13", "EXI", "code 15"
+    "CVI", "DVI", "GIN", "WIN", "SME", "WNM", "RME", "TME",
+    "ST1", "STP", "ST2", "CRP", "DEP", "code 13", "EXI", "code 15"
 };
 
 static unsigned long marks[MARKS], outcomes[CODES][FORMS][OUTCOMES], waits[WAIT_KINDS];
@@ -275,8 +280,9 @@ void write_reached(void)
     write_codes();
     for (unsigned n = 1; n < FAULT_NUMBERS; n++)
         printf("# reached fault %u: %lu\n", n, faults[n]);
-    for (unsigned n = REFUSE_LENGTH; n <= REFUSE_VALUE; n++)
-        printf("# reached refusal %u: %lu\n", n, refusals[n]);
+    for (unsigned n = REFUSE_LENGTH; n <= REFUSE_RUNNING; n++)
+        if (n == REFUSE_LENGTH || (n >= REFUSE_IDLE && n <= REFUSE_VALUE) || n >= REFUSE_USES)
+            printf("# reached refusal %u: %lu\n", n, refusals[n]);
     for (unsigned n = 0; n < WAIT_KINDS; n++)
         printf("# reached waits, %s: %lu\n", wait_names[n], waits[n]);
     for (unsigned n = 0; n < 3; n++)
@@ -287,5 +293,7 @@ void write_reached(void)
         printf("# reached %s: %lu\n", mark_names[n], marks[n]);
     printf("# reached most processors: %u\n", most_processors);
     printf("# reached most page waiters: %u\n", most_page_waiters);
+    write_told();
+    write_ways();
     write_faults_by_code();
 }

@@ -1,0 +1,3 @@
+# file: script.c
+# says: every refusal is printed with an address
+s/answer->number >= REFUSE_USES && //
