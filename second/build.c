@@ -397,7 +397,8 @@ bool do_send(unsigned name, unsigned flag, unsigned length)
 /* WNM, RME or TME. */
 bool do_message(unsigned code, unsigned name, unsigned flag)
 {
-    struct plan p = { .code = code, .g = { .field = name, .flag = flag, .address = code == 7 ? some_lr() : place(32) } };
+    struct plan p = { .code = code,
+                      .g = { .field = name, .flag = flag, .address = code == 7 ? some_lr() : place(32) } };
 
     return issue_plain(&p);
 }

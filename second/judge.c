@@ -309,7 +309,7 @@ const struct rule rules[RULES] = {
     { REFUSE_WAITS, "reasons 1-255 in interrupt queues, 0 in the page queue and when not waiting", reasons },
     { REFUSE_WAITS, "a message wait holds its owner only, reason flag 0-7, and matches nothing in its Q1",
       message_waits },
-    { REFUSE_WAITS, "semaphores", semaphores },
+    { REFUSE_WAITS, "semaphores as above", semaphores },
     { REFUSE_WAITS, "free list empty if anyone waits for a page", free_list_empty },
     { REFUSE_WAITS, "who waits for a page holds no grant", waiters_hold_no_grant },
     { REFUSE_RECORDS, "names differ and lie in 1-15, priorities 1-15", names_and_priorities },

@@ -8,21 +8,22 @@
 static const char *const odd[] = {
     "fresh", "fresh 16", "fresh 16 1 2", "step 1", "step step", "Step", "STEP", "ste", "steps", "interrupt",
     "interrupt 16 0 0", "registers 1", "set", "set 1 2 3 4 5 6", "set 1 2 3 4 5 6 7 8", "judge 0", "put", "put 400",
-    "break", "break 400", "length", "length 1 2", "words", "words 5", "words 5 1 1", "changes 1", "show 1", "put 400 65536",
-    "put 65536 1", "break 8000 99999", "length 65536", "words 65536 1", "interrupt 65536", "fresh 65536 1", "put -1 1",
-    "put 400 -1", "put 400 +1", "put 400 1.5", "put 400 0x10", "put 400 1,2", "put 400 1;", "put 4 00 1 x", "interrupt 1 6x",
-    "interrupt 99999999999999999999999999", "set 1 1 1 1 1 1 4294967296", "words 18446744073709551616 1", "step\t", "\tstep",
-    "put\t400 1", "put 400\t1", "step\r", "\t", "'step'", "1", "42 fresh", "step;changes", "fresh16 1", "brake 1 2", "\xc5\xbc",
-    "judge judge", "interrupt #16", "put 400 #1", "set 1 2 3 4 5 6# 7", "fresh 16 #1", "words 400 #", "length #5"
+    "break", "break 400", "length", "length 1 2", "words", "words 5", "words 5 1 1", "changes 1", "show 1",
+    "put 400 65536", "put 65536 1", "break 8000 99999", "length 65536", "words 65536 1", "interrupt 65536",
+    "fresh 65536 1", "put -1 1", "put 400 -1", "put 400 +1", "put 400 1.5", "put 400 0x10", "put 400 1,2",
+    "put 400 1;", "put 4 00 1 x", "interrupt 1 6x", "interrupt 99999999999999999999999999",
+    "set 1 1 1 1 1 1 4294967296", "words 18446744073709551616 1", "step\t", "\tstep", "put\t400 1", "put 400\t1",
+    "step\r", "\t", "'step'", "1", "42 fresh", "step;changes", "fresh16 1", "brake 1 2", "\xc5\xbc", "judge judge",
+    "interrupt #16", "put 400 #1", "set 1 2 3 4 5 6# 7", "fresh 16 #1", "words 400 #", "length #5"
 };
 
 /* Each of these is understood and not allowed, and changes nothing. */
 static const char *const forbidden[] = {
-    "put 128 1", "put 351 1", "put 127 1 2", "put 350 1 2 3", "put 7552 1", "put 7551 1 2", "put 8191 1", "put 8192 1",
-    "put 8199 1", "put 8200 1", "put 65535 1", "put 400 256", "put 400 1 2 65535", "put 31 1 256", "break 8200 1",
-    "break 8199 1 2", "break 65535 1", "break 400 256", "break 8000 1 2 999", "length 8201", "length 65535", "words 8200 1",
-    "words 8199 2", "words 0 0", "words 0 33", "words 65535 32", "words 8169 32", "words 400 65535", "words 8200 0",
-    "put 100 1 1 1 1 1 1 1 1 1 1 1 1 1 1 1 1 1 1 1 1 1 1 1 1 1 1 1 1 1"
+    "put 128 1", "put 351 1", "put 127 1 2", "put 350 1 2 3", "put 7552 1", "put 7551 1 2", "put 8191 1",
+    "put 8192 1", "put 8199 1", "put 8200 1", "put 65535 1", "put 400 256", "put 400 1 2 65535", "put 31 1 256",
+    "break 8200 1", "break 8199 1 2", "break 65535 1", "break 400 256", "break 8000 1 2 999", "length 8201",
+    "length 65535", "words 8200 1", "words 8199 2", "words 0 0", "words 0 33", "words 65535 32", "words 8169 32",
+    "words 400 65535", "words 8200 0", "put 100 1 1 1 1 1 1 1 1 1 1 1 1 1 1 1 1 1 1 1 1 1 1 1 1 1 1 1 1 1"
 };
 
 /* Each of these does nothing at all. */
