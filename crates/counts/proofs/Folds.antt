@@ -1,5 +1,5 @@
--- Laws of the rules' parts, and of the folds along a walk and over a range, a law for each way out: they serve every rule. And that the
--- list of a head, a grant too, is a walk.
+-- Laws of the rules' parts, and of the folds of a list, be it a walk or a range, a law for each way out: they serve every rule. And that
+-- the list of a head, a grant too, is a walk.
 use Prim.Native.Nat.{ℕ, zero, suc, _+_, _*_, _-_, _%_, _≤_, _<_}
 use mathlib.Core.Path.{_≡_, refl}
 use mathlib.Core.Bool.{Bool, true, false, cond, _&&_}
@@ -13,11 +13,10 @@ use Rattle.model.specs.Map.{place, grants, grantsEnd, headerAfter, ownQueue, pr
 use Rattle.model.specs.Queue as Queue
 use Rattle.model.specs.Rule.{Rule, same, most, both, each, below, whenSame, unlessSame, whenMost, among, holds, all, every}
 use Rattle.model.specs.Lists as Lists
-use Rattle.model.specs.Lists.{count, each-of, range, some, mails, owns, isGrant, linkOf}
+use Rattle.model.specs.Lists.{count, each-of, range, some, mails, owns, isGrant, linkOf, reach}
 use Rattle.model.specs.Bytes.{Memory, at, word, walk, lists, name}
 use Rattle.queues.proofs.Laws.{walk-none, walk-end, walk-on}
-use Rattle.counts.specs.Reach as Reach
-use Rattle.counts.specs.Reach.{leftOf, headsOf}
+use Rattle.counts.specs.Reach.{headsOf}
 
 -- ---- the parts of a rule
 module _ (r s : Rule) (b : Bool) (e : b ≡ holds r) where
@@ -94,34 +93,51 @@ module _ (x y : ℕ) where
 pub lies-is : (x lo hi : ℕ) (r : Bool) → r ≡ (leb lo x && leb x hi) → r ≡ holds (among x lo hi)
 lies-is x lo hi r e = both-is (most lo x) (most x hi) (leb lo x) (leb x hi) r e (most-is lo x) (most-is x hi)
 
--- ---- each of a list
-module _ (f : ℕ → Rule) (b : Bool) where
-  pub cons-yes : (x : ℕ) (xs : List ℕ) (c : Bool) → b ≡ holds (f x) → b ≡ true → c ≡ holds (each xs f) → c ≡ holds (each (x ∷ xs) f)
-  unfolding holds all
-  cons-yes x xs c e h k = rw (← e, h, all) k
+-- ---- a list that is empty, and one that begins with w: each of it, how long it is, how often z stands in it, how many of it have the name z
+module _ (xs : List ℕ) where
+  module _ (f : ℕ → Rule) where
+    pub each-none : xs ≡ [] → true ≡ holds (each xs f)
+    unfolding holds all
+    each-none e = rw e
 
-  pub cons-no : (x : ℕ) (xs : List ℕ) → b ≡ holds (f x) → b ≡ false → false ≡ holds (each (x ∷ xs) f)
-  unfolding holds all
-  cons-no x xs e h = rw (← e, h, all)
+    module _ (w : ℕ) (ys : List ℕ) (b : Bool) (e : xs ≡ w ∷ ys) (eb : b ≡ holds (f w)) where
+      pub each-bad : b ≡ false → false ≡ holds (each xs f)
+      unfolding holds all
+      each-bad h = rw (e, ← eb, h, all)
 
--- ---- each along a walk
-module _ (n : ℕ) (m : Memory) (k a : ℕ) (f : ℕ → Rule) where
-  pub each-none : n ≡ 0 → true ≡ holds (each (walk n m k a) f)
-  unfolding holds all
-  each-none e = rw (walk-none n m k a e)
+      pub each-on : (r : Bool) → b ≡ true → r ≡ holds (each ys f) → r ≡ holds (each xs f)
+      unfolding holds all
+      each-on r h k = rw (e, ← eb, h, all) k
 
-  pub each-end : (w : ℕ) → w ≡ at m a → w ≡ 0 → true ≡ holds (each (walk n m k a) f)
-  unfolding holds all
-  each-end w e h = rw (walk-end n m k a w e h)
+  pub length-none : xs ≡ [] → 0 ≡ length xs
+  length-none e = rw e
 
-  pub each-bad : (w : ℕ) (b : Bool) → (n ≡ 0 → ⊥) → w ≡ at m a → (w ≡ 0 → ⊥) → b ≡ holds (f w) → b ≡ false → false ≡ holds (each (walk n m k a) f)
-  each-bad w b o e z eb h = rw (walk-on n m k a w (place w k) o e z refl) (cons-no f b w (walk (n - 1) m k (place w k)) eb h)
+  pub length-on : (w c k r : ℕ) (ys : List ℕ) → c ≡ place w k → xs ≡ w ∷ ys → r ≡ length ys → r + 1 ≡ length xs
+  length-on w c k r ys ec e er = rw e (omega arith)
 
-  pub each-on : (w c : ℕ) (b r : Bool) → (n ≡ 0 → ⊥) → w ≡ at m a → (w ≡ 0 → ⊥) → b ≡ holds (f w) → b ≡ true → c ≡ place w k
-      → r ≡ holds (each (walk (n - 1) m k c) f) → r ≡ holds (each (walk n m k a) f)
-  each-on w c b r o e z eb h ec er = rw (walk-on n m k a w c o e z ec) (cons-yes f b w (walk (n - 1) m k c) r eb h er)
+  module _ (z : ℕ) where
+    pub count-none : xs ≡ [] → 0 ≡ count z xs
+    count-none e = rw e
 
--- ---- each of a range, of heads or of pages; each of 0 .. n - 1
+    pub name-none : (m : Memory) → xs ≡ [] → 0 ≡ count z (each-of (name m) xs)
+    name-none m e = rw e
+
+    module _ (w r : ℕ) (ys : List ℕ) (e : xs ≡ w ∷ ys) where
+      module _ (er : r ≡ count z ys) where
+        pub count-here : z ≡ w → r + 1 ≡ count z xs
+        count-here h = rw (e, eq-eqb z w h) (omega arith)
+
+        pub count-other : (c k : ℕ) → c ≡ place w k → (z ≡ w → ⊥) → r ≡ count z xs
+        count-other c k ec h = rw (e, ne-eqb z w h) (omega arith)
+
+      module _ (m : Memory) (x : ℕ) (ex : x ≡ word m w 7) (er : r ≡ count z (each-of (name m) ys)) where
+        pub name-here : z ≡ x % 16 → r + 1 ≡ count z (each-of (name m) xs)
+        name-here h = rw (e, ← ex, eq-eqb z (x % 16) h) (omega arith)
+
+        pub name-other : (z ≡ x % 16 → ⊥) → r ≡ count z (each-of (name m) xs)
+        name-other h = rw (e, ← ex, ne-eqb z (x % 16) h) (omega arith)
+
+-- ---- a range, of heads or of pages; each of 0 .. n - 1
 pub range-zero : (n d a : ℕ) → n ≡ 0 → range n d a ≡ []
 unfolding range
 range-zero zero d a e = refl
@@ -132,16 +148,13 @@ unfolding range
 range-suc zero d a o = absurd (o refl)
 range-suc (suc n) d a o = rw sub-one
 
-module _ (f : ℕ → Rule) (n d a : ℕ) where
-  pub range-none : n ≡ 0 → true ≡ holds (each (range n d a) f)
-  unfolding holds all
-  range-none e = rw (range-zero n d a e)
+-- one of it is bad, and what comes after is not looked at
+pub walk-bad : (n : ℕ) (m : Memory) (k a : ℕ) (f : ℕ → Rule) (w : ℕ) (b : Bool) → (n ≡ 0 → ⊥) → w ≡ at m a → (w ≡ 0 → ⊥) → b ≡ holds (f w) → b ≡ false
+    → false ≡ holds (each (walk n m k a) f)
+walk-bad n m k a f w b o e z eb h = each-bad (walk n m k a) f w _ b (walk-on n m k a w (place w k) o e z refl) eb h
 
-  pub range-bad : (b : Bool) → (n ≡ 0 → ⊥) → b ≡ holds (f a) → b ≡ false → false ≡ holds (each (range n d a) f)
-  range-bad b o eb h = rw (range-suc n d a o) (cons-no f b a (range (n - 1) d (a + d)) eb h)
-
-  pub range-on : (b r : Bool) → (n ≡ 0 → ⊥) → b ≡ holds (f a) → b ≡ true → r ≡ holds (each (range (n - 1) d (a + d)) f) → r ≡ holds (each (range n d a) f)
-  range-on b r o eb h er = rw (range-suc n d a o) (cons-yes f b a (range (n - 1) d (a + d)) r eb h er)
+pub range-bad : (f : ℕ → Rule) (n d a : ℕ) (b : Bool) → (n ≡ 0 → ⊥) → b ≡ holds (f a) → b ≡ false → false ≡ holds (each (range n d a) f)
+range-bad f n d a b o eb h = each-bad (range n d a) f a _ b (range-suc n d a o) eb h
 
 pub below-none : (f : ℕ → Rule) (n : ℕ) → n ≡ 0 → true ≡ holds (below n f)
 unfolding holds every
@@ -163,15 +176,15 @@ some-walk : (w : ℕ) → some w ≡ elim (eqb w 0) [ true ↦ [] | false ↦ w 
 some-walk zero = refl
 some-walk (suc n) = rw (ne-eqb (suc n) 0 (λ e. omega arith))
 
-pub lists-is : (m : Memory) (a : ℕ) → lists m a ≡ walk (leftOf a) m (linkOf a) a
-unfolding Lists.lists Reach.leftOf Queue.walk
+pub lists-is : (m : Memory) (a : ℕ) → lists m a ≡ walk (reach a) m (linkOf a) a
+unfolding Lists.lists Lists.reach Queue.walk
 lists-is m a = go (isGrant a)
   where
     go : (b : Bool) → elim b [ true ↦ some (at m a) | false ↦ walk 21 m (linkOf a) a ] ≡ walk (cond b 1 21) m (linkOf a) a
     go true = some-walk (at m a)
     go false = refl
 
-module _ (m : Memory) (a k n : ℕ) (ek : k ≡ linkOf a) (en : n ≡ leftOf a) where
+module _ (m : Memory) (a k n : ℕ) (ek : k ≡ linkOf a) (en : n ≡ reach a) where
   pub lists-each : (f : ℕ → Rule) (r : Bool) → r ≡ holds (each (walk n m k a) f) → r ≡ holds (each (lists m a) f)
   lists-each f r e = rw (lists-is m a, ← ek, ← en) e
 
@@ -205,69 +218,31 @@ pub link-other : (a : ℕ) → (a ≡ processorList → ⊥) → 0 ≡ linkOf a
 unfolding Lists.linkOf
 link-other a h = rw (ne-eqb a processorList h)
 
-pub left-low : (a : ℕ) → a < grants → 21 ≡ leftOf a
-unfolding Reach.leftOf Lists.isGrant
+pub left-low : (a : ℕ) → a < grants → 21 ≡ reach a
+unfolding Lists.reach Lists.isGrant
 left-low a h = rw (lt-leb grants a h)
 
-pub left-grant : (a : ℕ) → grants ≤ a → a < grantsEnd → 1 ≡ leftOf a
-unfolding Reach.leftOf Lists.isGrant
+pub left-grant : (a : ℕ) → grants ≤ a → a < grantsEnd → 1 ≡ reach a
+unfolding Lists.reach Lists.isGrant
 left-grant a h k = rw (le-leb grants a h, le-leb (suc a) grantsEnd k)
 
-pub left-high : (a : ℕ) → grantsEnd ≤ a → 21 ≡ leftOf a
-unfolding Reach.leftOf Lists.isGrant
+pub left-high : (a : ℕ) → grantsEnd ≤ a → 21 ≡ reach a
+unfolding Lists.reach Lists.isGrant
 left-high a h = rw (le-leb grants a (omega arith), lt-leb (suc a) grantsEnd (omega arith))
-
--- ---- how long, how often
-module _ (n : ℕ) (m : Memory) (k a : ℕ) where
-  pub length-none : n ≡ 0 → 0 ≡ length (walk n m k a)
-  length-none e = rw (walk-none n m k a e)
-
-  pub length-end : (w : ℕ) → w ≡ at m a → w ≡ 0 → 0 ≡ length (walk n m k a)
-  length-end w e h = rw (walk-end n m k a w e h)
-
-  pub length-on : (w c r : ℕ) → (n ≡ 0 → ⊥) → w ≡ at m a → (w ≡ 0 → ⊥) → c ≡ place w k → r ≡ length (walk (n - 1) m k c) → r + 1 ≡ length (walk n m k a)
-  length-on w c r o e z ec er = rw (walk-on n m k a w c o e z ec) (omega arith)
-
-  module _ (z : ℕ) where
-    pub count-none : n ≡ 0 → 0 ≡ count z (walk n m k a)
-    count-none e = rw (walk-none n m k a e)
-
-    pub count-end : (w : ℕ) → w ≡ at m a → w ≡ 0 → 0 ≡ count z (walk n m k a)
-    count-end w e h = rw (walk-end n m k a w e h)
-
-    module _ (w c r : ℕ) (o : n ≡ 0 → ⊥) (e : w ≡ at m a) (nz : w ≡ 0 → ⊥) (ec : c ≡ place w k) (er : r ≡ count z (walk (n - 1) m k c)) where
-      pub count-here : z ≡ w → r + 1 ≡ count z (walk n m k a)
-      count-here h = rw (walk-on n m k a w c o e nz ec, eq-eqb z w h) (omega arith)
-
-      pub count-other : (z ≡ w → ⊥) → r ≡ count z (walk n m k a)
-      count-other h = rw (walk-on n m k a w c o e nz ec, ne-eqb z w h) (omega arith)
-
-  module _ (z : ℕ) where
-    pub name-none : n ≡ 0 → 0 ≡ count z (each-of (name m) (walk n m k a))
-    name-none e = rw (walk-none n m k a e)
-
-    pub name-end : (w : ℕ) → w ≡ at m a → w ≡ 0 → 0 ≡ count z (each-of (name m) (walk n m k a))
-    name-end w e h = rw (walk-end n m k a w e h)
-
-    module _ (w x c r : ℕ) (o : n ≡ 0 → ⊥) (e : w ≡ at m a) (nz : w ≡ 0 → ⊥) (ex : x ≡ word m w 7) (ec : c ≡ place w k) where
-      module _ (er : r ≡ count z (each-of (name m) (walk (n - 1) m k c))) where
-        pub name-here : z ≡ x % 16 → r + 1 ≡ count z (each-of (name m) (walk n m k a))
-        name-here h = rw (walk-on n m k a w c o e nz ec, ← ex, eq-eqb z (x % 16) h) (omega arith)
-
-        pub name-other : (z ≡ x % 16 → ⊥) → r ≡ count z (each-of (name m) (walk n m k a))
-        name-other h = rw (walk-on n m k a w c o e nz ec, ← ex, ne-eqb z (x % 16) h) (omega arith)
 
 pub ruleset folds = (
   both-is,
   lies-is,
   cons-is,
-  each-none,
-  each-end,
-  each-bad,
-  each-on,
-  range-none,
+  walk-none,
+  walk-end,
+  walk-on,
+  range-zero,
+  range-suc,
+  walk-bad,
   range-bad,
-  range-on,
+  each-none,
+  each-on,
   below-none,
   below-bad,
   below-on,
@@ -281,14 +256,11 @@ pub ruleset folds = (
   left-grant,
   left-high,
   length-none,
-  length-end,
   length-on,
   count-none,
-  count-end,
   count-here,
   count-other,
   name-none,
-  name-end,
   name-here,
   name-other,
 )

@@ -9,9 +9,8 @@ ghost use Prim.Native.Nat.{_<_, _≤_, _+_};
 ghost use lib.ListN.{length};
 ghost use Rattle.model.specs.Map as Map;
 ghost use Rattle.model.specs.Rule.{holds, among};
-ghost use Rattle.model.specs.Lists.{count, each-of, linkOf};
+ghost use Rattle.model.specs.Lists.{count, each-of, linkOf, reach};
 ghost use Rattle.model.specs.Bytes as Model;
-ghost use Rattle.counts.specs.Reach.{leftOf};
 
 // Whether both hold; a rule that is two is tested so.
 pub fn both(a: bool, b: bool) -> bool
@@ -49,7 +48,7 @@ pub fn link_of(head: u16) -> u16
 
 // How far it goes: one page more than there are, and one page for a grant.
 pub fn left_of(head: u16) -> u8
-    ensures { λ r. ⌜ r ≡ leftOf head ⌝ }
+    ensures { λ r. ⌜ r ≡ reach head ⌝ }
 {
     if head < map::GRANTS {
         return map::ONE_MORE;

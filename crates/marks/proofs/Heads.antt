@@ -8,10 +8,10 @@ use Rattle.model.specs.Map.{ownQueue, pageQueue, pageSize, processorList}
 use Rattle.model.specs.Map.{q1}
 use Rattle.model.specs.Rule.{each, holds}
 use Rattle.model.specs.Lists as Lists
-use Rattle.model.specs.Lists.{Lists, range, uses, queues, linkOf}
+use Rattle.model.specs.Lists.{Lists, range, uses, queues, linkOf, reach}
 use Rattle.model.specs.Bytes.{Memory, at, walk, lists}
 use Rattle.queues.proofs.Laws.{walk-none, walk-end, walk-on}
-use Rattle.counts.specs.Reach.{leftOf, headsOf}
+use Rattle.counts.specs.Reach.{headsOf}
 use Rattle.counts.proofs.Folds.{lists-is, mails-heads, owns-heads, range-zero, range-suc, both-is}
 use Rattle.marks.specs.Marks as Marks
 use Rattle.marks.specs.Marks.{Marks, unmarked, marked, markedAll, markedLists, bitBy, waiterBy, marksIn, bits}
@@ -31,7 +31,7 @@ module _ (n : ℕ) (m : Memory) (k a : ℕ) (t : Marks) where
   unfolding Marks.markedAll
   mark-on w c u r o e z eu ec er = rw (walk-on n m k a w c o e z ec) (rw eu at er)
 
-pub lists-marked : (m : Memory) (a k n : ℕ) (t r : Marks) → k ≡ linkOf a → n ≡ leftOf a → r ≡ markedAll t (walk n m k a) → r ≡ markedAll t (lists m a)
+pub lists-marked : (m : Memory) (a k n : ℕ) (t r : Marks) → k ≡ linkOf a → n ≡ reach a → r ≡ markedAll t (walk n m k a) → r ≡ markedAll t (lists m a)
 lists-marked m a k n t r ek en e = rw (lists-is m a, ← ek, ← en) e
 
 -- ---- marks of a range of heads

@@ -3,6 +3,7 @@
 use Prim.Native.Nat.{ℕ, suc, _+_, _/_, _%_, _≤_, _<_}
 use mathlib.Core.Path.{_≡_, refl}
 use mathlib.Core.Bool.{Bool, true, _&&_}
+use mathlib.Core.List.{List}
 use native.Mathlib.Omega.{arith}
 use lib.ListN.{length}
 use lib.Dec.{eqb, leb}
@@ -10,7 +11,7 @@ use Rattle.model.specs.Map.{place, entryAfter, firstUnused, freeList, grantFor,
 use Rattle.model.specs.Store.{bytes}
 use Rattle.model.specs.Rule.{each, among, holds}
 use Rattle.model.specs.Lists as Lists
-use Rattle.model.specs.Lists.{count, each-of}
+use Rattle.model.specs.Lists.{Lists, count, each-of}
 use Rattle.model.specs.Judge as Judge
 use Rattle.model.specs.Bytes.{Memory, at, word, walk, lists, name}
 use Rattle.counts.specs.Reach.{rule}
@@ -26,27 +27,32 @@ test-at m t u x b e h = rw e h
 pub deep-at : (m : Memory) (t u : Deep) (x : ℕ) (b : Bool) → t ≡ u → b ≡ holds (deepOf m u x) → b ≡ holds (deepOf m t x)
 deep-at m t u x b e h = rw e h
 
--- ---- names
-pub label-is : (m : Memory) (p w n : ℕ) (b c d r : Bool) → w ≡ word m p label → n ≡ count (w % 16) (each-of (name m) (walk 21 m listLink processorList))
-    → b ≡ holds (among (w % 16) 1 15) → c ≡ holds (among (w / 16) 1 15) → d ≡ (b && c) → r ≡ (eqb n 1 && d) → r ≡ holds (rule (Judge.label bytes) m p)
-unfolding Judge.label Lists.lists Lists.isGrant Lists.linkOf
-label-is m p w n b c d r ew en eb ec ed er = rw (← ew, ← en) (both-is _ _ (eqb n 1) d r er (same-is n 1) (both-is _ _ b c d ed eb ec))
+pub processors-are : (m : Memory) → walk 21 m listLink processorList ≡ lists m processorList
+unfolding Lists.lists Lists.isGrant Lists.linkOf
+processors-are m = refl
+
+-- ---- names: xs are the processors, as the code walks them
+pub label-is : (m : Memory) (ps xs : List ℕ) (L : Lists) (p w n : ℕ) (b c d r : Bool) → w ≡ word m p label → n ≡ count (w % 16) (each-of (name m) xs)
+    → xs ≡ ps → b ≡ holds (among (w % 16) 1 15) → c ≡ holds (among (w / 16) 1 15) → d ≡ (b && c) → r ≡ (eqb n 1 && d)
+    → r ≡ holds (Judge.label bytes m ps L p)
+unfolding Judge.label
+label-is m ps xs L p w n b c d r ew en ex eb ec ed er = rw (← ew, ← ex, ← en) (both-is _ _ (eqb n 1) d r er (same-is n 1) (both-is _ _ b c d ed eb ec))
 
 -- ---- reasons
 module _ (m : Memory) (p w : ℕ) (ew : w ≡ word m p 12) where
-  pub quiet-idle : (b : Bool) → w % 128 / 64 ≡ 0 → b ≡ holds (rule (Judge.reasonless bytes) m p) → b ≡ holds (rule (Judge.quiet bytes) m p)
+  pub quiet-idle : (b : Bool) → w % 128 / 64 ≡ 0 → b ≡ holds (Judge.reasonless bytes m p) → b ≡ holds (Judge.quiet bytes m p)
   unfolding Judge.quiet
   quiet-idle b h eb = rw (← ew) (when-yes _ _ _ b h eb)
 
-  pub quiet-waits : (w % 128 / 64 ≡ 0 → ⊥) → true ≡ holds (rule (Judge.quiet bytes) m p)
+  pub quiet-waits : (w % 128 / 64 ≡ 0 → ⊥) → true ≡ holds (Judge.quiet bytes m p)
   unfolding Judge.quiet
   quiet-waits h = rw (← ew) (when-no _ _ _ h)
 
 -- ---- message waits: x is in the own queue of p
-pub owner-is : (m : Memory) (p x w : ℕ) (b d r : Bool) → w ≡ word m p 2 → b ≡ holds (each (lists m (place p 5)) (rule (Judge.unasked bytes) m p))
-    → d ≡ (leb (w % 16) 7 && b) → r ≡ (eqb x p && d) → r ≡ holds (rule (Judge.owner bytes) m p x)
+pub owner-is : (m : Memory) (ps : List ℕ) (L : Lists) (p x w : ℕ) (b d r : Bool) → w ≡ word m p 2 → b ≡ holds (each (L (place p 5)) (Judge.unasked bytes m p))
+    → d ≡ (leb (w % 16) 7 && b) → r ≡ (eqb x p && d) → r ≡ holds (Judge.owner bytes m ps L p x)
 unfolding Judge.owner
-owner-is m p x w b d r ew eb ed er = rw (← ew) (both-is _ _ (eqb x p) d r er (same-is x p) (both-is _ _ (leb (w % 16) 7) b d ed (most-is (w % 16) 7) eb))
+owner-is m ps L p x w b d r ew eb ed er = rw (← ew) (both-is _ _ (eqb x p) d r er (same-is x p) (both-is _ _ (leb (w % 16) 7) b d ed (most-is (w % 16) 7) eb))
 
 -- ---- pages
 pub page-wait-is : (m : Memory) (p n w i g : ℕ) (r : Bool) → n ≡ length (lists m freeList) → w ≡ word m p label → i ≡ w % 16 → g ≡ length (lists m (grantFor i))
@@ -59,22 +65,23 @@ module _ (m : Memory) (k i g : ℕ) (ei : i ≡ k) (eg : g ≡ length (lists m (
   unfolding Judge.grant
   grant-none h = let e : g ≡ length (lists m (grantFor k)) = rw ei at eg in rw (← e) (unless-yes g 0 _ h)
 
-  pub grant-some : (n : ℕ) → (g ≡ 0 → ⊥) → n ≡ count k (each-of (name m) (walk 21 m listLink processorList)) → eqb n 1 ≡ holds (rule (Judge.grant bytes) m k)
-  unfolding Judge.grant Lists.lists Lists.isGrant Lists.linkOf
-  grant-some n h en = let e : g ≡ length (lists m (grantFor k)) = rw ei at eg in rw (← e, ← en) (unless-no g 0 _ (eqb n 1) h (same-is n 1))
+  pub grant-some : (n : ℕ) (xs : List ℕ) → (g ≡ 0 → ⊥) → n ≡ count k (each-of (name m) xs) → xs ≡ lists m processorList
+      → eqb n 1 ≡ holds (rule (Judge.grant bytes) m k)
+  unfolding Judge.grant
+  grant-some n xs h en ex = let e : g ≡ length (lists m (grantFor k)) = rw ei at eg in rw (← e, ← ex, ← en) (unless-no g 0 _ (eqb n 1) h (same-is n 1))
 
 -- ---- messages
 module _ (m : Memory) (q w : ℕ) (ew : w ≡ word m q 2) where
-  pub sized-notice : w ≡ 128 → true ≡ holds (rule (Judge.sized bytes) m q)
+  pub sized-notice : w ≡ 128 → true ≡ holds (Judge.sized bytes m q)
   unfolding Judge.sized
   sized-notice h = rw (← ew) (unless-yes w 128 _ h)
 
-  pub sized-text : (w ≡ 128 → ⊥) → leb w 29 ≡ holds (rule (Judge.sized bytes) m q)
+  pub sized-text : (w ≡ 128 → ⊥) → leb w 29 ≡ holds (Judge.sized bytes m q)
   unfolding Judge.sized
   sized-text h = rw (← ew) (unless-no w 128 _ (leb w 29) h (most-is w 29))
 
 pub message-is : (m : Memory) (q w : ℕ) (b c d e r : Bool) → w ≡ word m q 1 → b ≡ holds (among (w / 16) 1 15) → c ≡ holds (among (w % 16) 1 7)
-    → d ≡ holds (rule (Judge.sized bytes) m q) → e ≡ (c && d) → r ≡ (b && e) → r ≡ holds (rule (Judge.message bytes) m q)
+    → d ≡ holds (Judge.sized bytes m q) → e ≡ (c && d) → r ≡ (b && e) → r ≡ holds (Judge.message bytes m q)
 unfolding Judge.message
 message-is m q w b c d e r ew eb ec ed ee er = rw (← ew) (both-is _ _ b e r er eb (both-is _ _ c d e ee ec ed))
 
@@ -90,24 +97,24 @@ module _ (m : Memory) (p s : ℕ) (es : s ≡ word m p 12) where
 
 -- ---- page 9
 pub used-is : (m : Memory) (i j w : ℕ) (b c r : Bool) → j ≡ i → w ≡ at m (entryAfter j) → b ≡ holds (among (w / 16) 1 15) → c ≡ holds (among (w % 16) 1 12)
-    → r ≡ (b && c) → r ≡ holds (rule (Judge.used bytes) m i)
+    → r ≡ (b && c) → r ≡ holds (Judge.used bytes m i)
 unfolding Judge.used
 used-is m i j w b c r ej ew eb ec er = rw (← ej, ← ew) (both-is _ _ b c r er eb ec)
 
 module _ (m : Memory) (i f j k : ℕ) (ef : f ≡ at m firstUnused) (ej : j ≡ i) (ek : k ≡ f) where
-  pub entry-used : (b : Bool) → j + 2 ≤ k → b ≡ holds (rule (Judge.used bytes) m i) → b ≡ holds (rule (Judge.entry bytes) m i)
+  pub entry-used : (b : Bool) → j + 2 ≤ k → b ≡ holds (Judge.used bytes m i) → b ≡ holds (Judge.entry bytes m i)
   unfolding Judge.entry
   entry-used b h eb =
       rw (← ef) (both-true _ _ b (least-yes (i + 2) f _ b (omega arith) eb) (least-no f (i + 1) _ (omega arith)))
 
-  pub entry-unused : (l w : ℕ) → k < j + 2 → l ≡ i → w ≡ at m (entryAfter l) → eqb w 0 ≡ holds (rule (Judge.entry bytes) m i)
+  pub entry-unused : (l w : ℕ) → k < j + 2 → l ≡ i → w ≡ at m (entryAfter l) → eqb w 0 ≡ holds (Judge.entry bytes m i)
   unfolding Judge.entry
   entry-unused l w h el ew =
       let e : w ≡ at m (entryAfter i) = rw el at ew in
       rw (← ef, ← e) (both-yes _ _ true (least-no (i + 2) f _ (omega arith)) (eqb w 0) refl (least-yes f (i + 1) _ (eqb w 0) (omega arith) (same-is w 0)))
 
 -- ---- that a list ends and holds control pages
-pub list-is : (m : Memory) (a n : ℕ) (b r : Bool) → n ≡ length (lists m a) → b ≡ holds (each (lists m a) (rule (Judge.page bytes) m)) → r ≡ (leb n 20 && b)
+pub list-is : (m : Memory) (a n : ℕ) (b r : Bool) → n ≡ length (lists m a) → b ≡ holds (each (lists m a) Judge.page) → r ≡ (leb n 20 && b)
     → r ≡ holds (rule (Judge.list bytes) m a)
 unfolding Judge.list
 list-is m a n b r en eb er = rw (← en) (both-is _ _ (leb n 20) b r er (most-is n 20) eb)
@@ -115,6 +122,7 @@ list-is m a n b r en eb er = rw (← en) (both-is _ _ (leb n 20) b r er (most-is
 pub ruleset sentences = (
   test-at,
   deep-at,
+  processors-are,
   label-is,
   quiet-idle,
   quiet-waits,

@@ -15,21 +15,21 @@ use Rattle.rules.specs.declared.deep.Deep.{Deep}
 use Rattle.rules.specs.declared.deep.Deep.the-variants.{MailLists, OwnList, Mail, Owner}
 
 abbrev pub ruleOf : Memory → Test → (ℕ → Rule)
-ruleOf m Page = rule (Judge.page bytes) m
+ruleOf m Page = Judge.page
 ruleOf m Label = rule (Judge.label bytes) m
-ruleOf m Reasoned = rule (Judge.reasoned bytes) m
-ruleOf m Reasonless = rule (Judge.reasonless bytes) m
-ruleOf m Quiet = rule (Judge.quiet bytes) m
-ruleOf m (Unasked p) = rule (Judge.unasked bytes) m (p .0)
+ruleOf m Reasoned = Judge.reasoned bytes m
+ruleOf m Reasonless = Judge.reasonless bytes m
+ruleOf m Quiet = Judge.quiet bytes m
+ruleOf m (Unasked p) = Judge.unasked bytes m (p .0)
 ruleOf m MessageSemaphore = rule (Judge.messageSemaphore bytes) m
-ruleOf m Message = rule (Judge.message bytes) m
+ruleOf m Message = Judge.message bytes m
 ruleOf m NotHigher = rule (Judge.notHigher bytes) m
-ruleOf m ZeroBits = rule (Judge.zeroBits bytes) m
+ruleOf m ZeroBits = Judge.zeroBits bytes m
 ruleOf m PageWait = rule (Judge.pageWait bytes) m
 ruleOf m InterruptSemaphore = rule (Judge.interruptSemaphore bytes) m
 ruleOf m Grant = rule (Judge.grant bytes) m
-ruleOf m Kind = rule (Judge.kind bytes) m
-ruleOf m Entry = rule (Judge.entry bytes) m
+ruleOf m Kind = Judge.kind bytes m
+ruleOf m Entry = Judge.entry bytes m
 
 -- of those that look through a list: the lists of Q1 and Q2, of the own queue, what is in Q1 and Q2, who is in the own queue of page p
 unfoldable pub mailLists : Memory → ℕ → Rule

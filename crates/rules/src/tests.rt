@@ -41,8 +41,8 @@ pub enum Test {
     Entry,
 }
 
-fn page(m: &[u8], x: u8) -> bool
-    ensures { λ r. ⌜ r ≡ holds (rule (Judge.page bytes) (now (m .entry)) x) ⌝ }
+fn page(x: u8) -> bool
+    ensures { λ r. ⌜ r ≡ holds (Judge.page x) ⌝ }
 {
     lies(x, map::FIRST_CONTROL, map::LAST_CONTROL)
 }
@@ -65,7 +65,7 @@ fn label(m: &[u8], p: ControlPage) -> bool
 
 pub fn reasoned(m: &[u8], p: ControlPage) -> bool
     requires { ⌜ length (now m) ≡ 8192 ⌝ }
-    ensures { λ r. ⌜ r ≡ holds (rule (Judge.reasoned bytes) (now (m .entry)) (p .0)) ⌝ }
+    ensures { λ r. ⌜ r ≡ holds (Judge.reasoned bytes (now (m .entry)) (p .0)) ⌝ }
 {
     let w = p.word(m, map::REASON);
     lies(w, 1, map::A_WORD)
@@ -73,7 +73,7 @@ pub fn reasoned(m: &[u8], p: ControlPage) -> bool
 
 pub fn reasonless(m: &[u8], p: ControlPage) -> bool
     requires { ⌜ length (now m) ≡ 8192 ⌝ }
-    ensures { λ r. ⌜ r ≡ holds (rule (Judge.reasonless bytes) (now (m .entry)) (p .0)) ⌝ }
+    ensures { λ r. ⌜ r ≡ holds (Judge.reasonless bytes (now (m .entry)) (p .0)) ⌝ }
 {
     let w = p.word(m, map::REASON);
     w == 0
@@ -81,7 +81,7 @@ pub fn reasonless(m: &[u8], p: ControlPage) -> bool
 
 pub fn quiet(m: &[u8], p: ControlPage) -> bool
     requires { ⌜ length (now m) ≡ 8192 ⌝ }
-    ensures { λ r. ⌜ r ≡ holds (rule (Judge.quiet bytes) (now (m .entry)) (p .0)) ⌝ }
+    ensures { λ r. ⌜ r ≡ holds (Judge.quiet bytes (now (m .entry)) (p .0)) ⌝ }
 {
     let w = p.word(m, map::STATE);
     if w % map::STOP_BIT / map::WAIT_BIT == 0 {
@@ -93,7 +93,7 @@ pub fn quiet(m: &[u8], p: ControlPage) -> bool
 // What page p waits for is not message q.
 pub fn unasked(m: &[u8], p: ControlPage, q: ControlPage) -> bool
     requires { ⌜ length (now m) ≡ 8192 ⌝ }
-    ensures { λ r. ⌜ r ≡ holds (rule (Judge.unasked bytes) (now (m .entry)) (p .0) (q .0)) ⌝ }
+    ensures { λ r. ⌜ r ≡ holds (Judge.unasked bytes (now (m .entry)) (p .0) (q .0)) ⌝ }
 {
     let w = p.word(m, map::REASON);
     let x = q.word(m, map::NOTE);
@@ -122,7 +122,7 @@ fn interrupt_semaphore(m: &[u8], k: u8) -> bool
 
 fn sized(m: &[u8], q: ControlPage) -> bool
     requires { ⌜ length (now m) ≡ 8192 ⌝ }
-    ensures { λ r. ⌜ r ≡ holds (rule (Judge.sized bytes) (now (m .entry)) (q .0)) ⌝ }
+    ensures { λ r. ⌜ r ≡ holds (Judge.sized bytes (now (m .entry)) (q .0)) ⌝ }
 {
     let w = q.word(m, map::SIZE);
     if w == map::NOTICE {
@@ -133,7 +133,7 @@ fn sized(m: &[u8], q: ControlPage) -> bool
 
 pub fn message(m: &[u8], q: ControlPage) -> bool
     requires { ⌜ length (now m) ≡ 8192 ⌝ }
-    ensures { λ r. ⌜ r ≡ holds (rule (Judge.message bytes) (now (m .entry)) (q .0)) ⌝ }
+    ensures { λ r. ⌜ r ≡ holds (Judge.message bytes (now (m .entry)) (q .0)) ⌝ }
 {
     let w = q.word(m, map::NOTE);
     both(
@@ -157,7 +157,7 @@ fn not_higher(m: &[u8], p: ControlPage) -> bool
 
 pub fn zero_bits(m: &[u8], p: ControlPage) -> bool
     requires { ⌜ length (now m) ≡ 8192 ⌝ }
-    ensures { λ r. ⌜ r ≡ holds (rule (Judge.zeroBits bytes) (now (m .entry)) (p .0)) ⌝ }
+    ensures { λ r. ⌜ r ≡ holds (Judge.zeroBits bytes (now (m .entry)) (p .0)) ⌝ }
 {
     let w = p.word(m, map::STATE);
     w % map::WAIT_BIT / map::FIELD == 0
@@ -188,7 +188,7 @@ fn grant(m: &[u8], k: u8) -> bool
 
 pub fn kind(m: &[u8], c: u8) -> bool
     requires { ⌜ length (now m) ≡ 8192 ⌝ }
-    ensures { λ r. ⌜ r ≡ holds (rule (Judge.kind bytes) (now (m .entry)) c) ⌝ }
+    ensures { λ r. ⌜ r ≡ holds (Judge.kind bytes (now (m .entry)) c) ⌝ }
 {
     let w = at(m, map::CODE_WORDS + 2 * wide(c));
     w / map::HIGHS <= instructions::OWN
@@ -197,7 +197,7 @@ pub fn kind(m: &[u8], c: u8) -> bool
 // Entry i + 1 of page 9, used; used or not.
 fn used(m: &[u8], i: u8) -> bool
     requires { ⌜ length (now m) ≡ 8192 ⌝ }
-    ensures { λ r. ⌜ r ≡ holds (rule (Judge.used bytes) (now (m .entry)) i) ⌝ }
+    ensures { λ r. ⌜ r ≡ holds (Judge.used bytes (now (m .entry)) i) ⌝ }
 {
     let w = at(m, map::ENTRIES_AFTER + wide(i));
     both(
@@ -208,7 +208,7 @@ fn used(m: &[u8], i: u8) -> bool
 
 pub fn entry(m: &[u8], i: u8) -> bool
     requires { ⌜ length (now m) ≡ 8192 ⌝ }
-    ensures { λ r. ⌜ r ≡ holds (rule (Judge.entry bytes) (now (m .entry)) i) ⌝ }
+    ensures { λ r. ⌜ r ≡ holds (Judge.entry bytes (now (m .entry)) i) ⌝ }
 {
     let f = at(m, map::FIRST_UNUSED);
     if wide(i) + 2 <= wide(f) {
@@ -224,7 +224,7 @@ fn passes(m: &[u8], t: Test, x: u8) -> bool
     ensures { λ r. ⌜ r ≡ holds (ruleOf (now (m .entry)) t x) ⌝ }
 {
     match t {
-        Test::Page => page(m, x),
+        Test::Page => page(x),
         Test::Label => label(m, ControlPage(x)),
         Test::Reasoned => reasoned(m, ControlPage(x)),
         Test::Reasonless => reasonless(m, ControlPage(x)),
