@@ -105,3 +105,9 @@ addressAt m Shown = Classes.itself
 -- ---- the lowest of low and of what those of xs tell that break the rule
 abbrev pub lowestBy : (ℕ → ℕ) → (ℕ → Rule) → ℕ → List ℕ → ℕ
 lowestBy a r low xs = least low (broken a r xs)
+
+abbrev pub lowestOf : Memory → Asked → ℕ → List ℕ → ℕ
+lowestOf m t low xs = lowestBy (addressOf m t) (ruleOf m t) low xs
+
+abbrev pub lowestAt : Memory → AskedAt → ℕ → List ℕ → ℕ
+lowestAt m t low xs = lowestBy (addressAt m t) (ruleAt m t) low xs

@@ -9,6 +9,7 @@ use counts::both;
 use counts::left_of;
 use counts::less;
 use counts::lies;
+use counts::link_of;
 use model::ControlPage;
 use model::map;
 use model::wide;
@@ -57,6 +58,37 @@ pub enum Asked {
     NotHigher,
 }
 
+// ---- The words of interrupt k + 1, of code c, of entry i + 1, and the grant of a name.
+fn semaphore_after(k: u8) -> u16
+    ensures { λ r. ⌜ (r ≡ Map.semaphoreAfter k) × (r < 8192) ⌝ }
+{
+    map::SEMAPHORES_AFTER + 2 * wide(k)
+}
+
+fn header_after(k: u8) -> u16
+    ensures { λ r. ⌜ (r ≡ Map.headerAfter k) × (r < 8192) ⌝ }
+{
+    map::HEADERS_AFTER + 2 * wide(k)
+}
+
+fn code_word(c: u8) -> u16
+    ensures { λ r. ⌜ r ≡ Map.codeWord c ⌝ }
+{
+    map::CODE_WORDS + 2 * wide(c)
+}
+
+fn entry_after(i: u8) -> u16
+    ensures { λ r. ⌜ r ≡ Map.entryAfter i ⌝ }
+{
+    map::ENTRIES_AFTER + wide(i)
+}
+
+fn grant_for(name: u8) -> u16
+    ensures { λ r. ⌜ (r ≡ Map.grantFor name) × (r < 8192) ⌝ }
+{
+    map::GRANTS + wide(name)
+}
+
 // ---- 30 and 31: uses, waits, semaphores.
 fn once(m: &[u8], page: u8) -> bool
     requires { ⌜ length (now m) ≡ 8192 ⌝ }
@@ -85,9 +117,9 @@ fn waiter(m: &[u8], page: u8) -> bool
 }
 
 // What page p waits for is none of the messages that are met from a cell on.
-fn all_unasked(m: &[u8], p: ControlPage, cell: u16, left: u8) -> bool
-    requires { ⌜ (length (now m) ≡ 8192) × (cell < 8192) ⌝ }
-    ensures { λ r. ⌜ r ≡ holds (each (Model.path left (now (m .entry)) Map.link cell) (Judge.unasked bytes (now (m .entry)) (p .0))) ⌝ }
+fn all_unasked(m: &[u8], p: ControlPage, link: u16, cell: u16, left: u8) -> bool
+    requires { ⌜ (length (now m) ≡ 8192) × (link < 32) × (cell < 8192) ⌝ }
+    ensures { λ r. ⌜ r ≡ holds (each (Model.path left (now (m .entry)) link cell) (Judge.unasked bytes (now (m .entry)) (p .0))) ⌝ }
 {
     if left == 0 {
         return true;
@@ -97,7 +129,7 @@ fn all_unasked(m: &[u8], p: ControlPage, cell: u16, left: u8) -> bool
         return true;
     }
     if unasked(m, p, ControlPage(w)) {
-        return all_unasked(m, p, ControlPage(w).place(map::LINK), left - 1);
+        return all_unasked(m, p, link, ControlPage(w).place(link), left - 1);
     }
     false
 }
@@ -113,14 +145,14 @@ fn owner(m: &[u8], p: ControlPage, x: u8) -> bool
         x == p.0,
         both(
             w % map::FIELD <= map::LAST_FLAG,
-            all_unasked(m, p, a, left_of(a)),
+            all_unasked(m, p, link_of(a), a, left_of(a)),
         ),
     )
 }
 
-fn all_owners(m: &[u8], p: ControlPage, cell: u16, left: u8) -> bool
-    requires { ⌜ (length (now m) ≡ 8192) × (cell < 8192) ⌝ }
-    ensures { λ r. ⌜ r ≡ holds (each (Model.path left (now (m .entry)) Map.link cell) (here (Judge.owner bytes) (now (m .entry)) (p .0))) ⌝ }
+fn all_owners(m: &[u8], p: ControlPage, link: u16, cell: u16, left: u8) -> bool
+    requires { ⌜ (length (now m) ≡ 8192) × (link < 32) × (cell < 8192) ⌝ }
+    ensures { λ r. ⌜ r ≡ holds (each (Model.path left (now (m .entry)) link cell) (here (Judge.owner bytes) (now (m .entry)) (p .0))) ⌝ }
 {
     if left == 0 {
         return true;
@@ -130,7 +162,7 @@ fn all_owners(m: &[u8], p: ControlPage, cell: u16, left: u8) -> bool
         return true;
     }
     if owner(m, p, w) {
-        return all_owners(m, p, ControlPage(w).place(map::LINK), left - 1);
+        return all_owners(m, p, link, ControlPage(w).place(link), left - 1);
     }
     false
 }
@@ -140,7 +172,7 @@ fn message_wait(m: &[u8], p: ControlPage) -> bool
     ensures { λ r. ⌜ r ≡ holds (here (Judge.messageWait bytes) (now (m .entry)) (p .0)) ⌝ }
 {
     let a = p.place(map::OWN_QUEUE);
-    all_owners(m, p, a, left_of(a))
+    all_owners(m, p, link_of(a), a, left_of(a))
 }
 
 // Interrupt k + 1.
@@ -148,9 +180,8 @@ fn interrupt_semaphore(m: &[u8], k: u8) -> bool
     requires { ⌜ length (now m) ≡ 8192 ⌝ }
     ensures { λ r. ⌜ r ≡ holds (here (Judge.interruptSemaphore bytes) (now (m .entry)) k) ⌝ }
 {
-    let j = wide(k);
-    let s = at(m, map::SEMAPHORES_AFTER + 2 * j);
-    let n = length_of(m, map::HEADERS_AFTER + 2 * j);
+    let s = at(m, semaphore_after(k));
+    let n = length_of(m, header_after(k));
     s == less(0, n)
 }
 
@@ -178,7 +209,7 @@ fn grant_of(m: &[u8], p: ControlPage) -> u16
     ensures { λ r. ⌜ (r ≡ here (Classes.grantOf bytes) (now (m .entry)) (p .0)) × (r < 8192) ⌝ }
 {
     let w = p.word(m, map::LABEL);
-    map::GRANTS + wide(w % map::FIELD)
+    grant_for(w % map::FIELD)
 }
 
 fn no_grant(m: &[u8], p: ControlPage) -> bool
@@ -209,7 +240,7 @@ fn existing(m: &[u8], name: u8) -> bool
     requires { ⌜ length (now m) ≡ 8192 ⌝ }
     ensures { λ r. ⌜ r ≡ holds (here (Classes.existing bytes) (now (m .entry)) name) ⌝ }
 {
-    let w = at(m, map::GRANTS + wide(name));
+    let w = at(m, grant_for(name));
     if w == 0 {
         return true;
     }
@@ -273,18 +304,18 @@ pub fn address(m: &[u8], asked: Asked, x: u8) -> u16
         Asked::Reasonless => ControlPage(x).place(map::LINK),
         Asked::Quiet => ControlPage(x).place(map::LINK),
         Asked::MessageWait => ControlPage(x).place(map::LINK),
-        Asked::InterruptSemaphore => map::SEMAPHORES_AFTER + 2 * wide(x),
+        Asked::InterruptSemaphore => semaphore_after(x),
         Asked::MessageSemaphore => ControlPage(x).place(map::OWN_SEMAPHORE),
         Asked::NoneFree => map::FREE_LIST,
         Asked::NoGrant => grant_of(m, ControlPage(x)),
         Asked::Label => ControlPage(x).place(map::LINK),
         Asked::ZeroBits => ControlPage(x).place(map::LINK),
-        Asked::Existing => map::GRANTS + wide(x),
+        Asked::Existing => grant_for(x),
         Asked::Message => ControlPage(x).place(map::LINK),
-        Asked::Kind => map::CODE_WORDS + 2 * wide(x),
-        Asked::BuiltIn => map::CODE_WORDS + 2 * wide(x),
-        Asked::Foreign => map::CODE_WORDS + 2 * wide(x),
-        Asked::Entry => map::ENTRIES_AFTER + wide(x),
+        Asked::Kind => code_word(x),
+        Asked::BuiltIn => code_word(x),
+        Asked::Foreign => code_word(x),
+        Asked::Entry => entry_after(x),
         Asked::NotHigher => map::RUNNING_PAGE,
     }
 }

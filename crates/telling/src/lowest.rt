@@ -19,7 +19,7 @@ ghost use Rattle.model.specs.Lists.{range};
 ghost use Rattle.model.specs.Walks.{gather};
 ghost use Rattle.model.specs.Bytes as Model;
 ghost use Rattle.counts.specs.Reach.{headsOf};
-ghost use Rattle.telling.specs.Rows.{ruleOf, addressOf, ruleAt, addressAt, lowestBy};
+ghost use Rattle.telling.specs.Rows.{lowestOf, lowestAt};
 
 fn lower(low: u16, a: u16) -> u16
     ensures { λ r. ⌜ r ≡ min low a ⌝ }
@@ -33,7 +33,7 @@ fn lower(low: u16, a: u16) -> u16
 // ---- A page or an index: x; those of a range; those that are met from a cell on; in a list; in so many lists; in the mail.
 fn tell(m: &[u8], asked: Asked, x: u8, low: u16) -> u16
     requires { ⌜ length (now m) ≡ 8192 ⌝ }
-    ensures { λ r. ⌜ r ≡ lowestBy (addressOf (now (m .entry)) asked) (ruleOf (now (m .entry)) asked) low (x ∷ []) ⌝ }
+    ensures { λ r. ⌜ r ≡ lowestOf (now (m .entry)) asked low (x ∷ []) ⌝ }
 {
     if passes(m, asked, x) {
         return low;
@@ -43,7 +43,7 @@ fn tell(m: &[u8], asked: Asked, x: u8, low: u16) -> u16
 
 pub fn by_range(m: &[u8], asked: Asked, count: u8, x: u16, low: u16) -> u16
     requires { ⌜ (length (now m) ≡ 8192) × (x + count ≤ 256) ⌝ }
-    ensures { λ r. ⌜ r ≡ lowestBy (addressOf (now (m .entry)) asked) (ruleOf (now (m .entry)) asked) low (range count 1 x) ⌝ }
+    ensures { λ r. ⌜ r ≡ lowestOf (now (m .entry)) asked low (range count 1 x) ⌝ }
 {
     if count == 0 {
         return low;
@@ -54,7 +54,7 @@ pub fn by_range(m: &[u8], asked: Asked, count: u8, x: u16, low: u16) -> u16
 
 fn by_path(m: &[u8], asked: Asked, link: u16, cell: u16, left: u8, low: u16) -> u16
     requires { ⌜ (length (now m) ≡ 8192) × (link < 32) × (cell < 8192) ⌝ }
-    ensures { λ r. ⌜ r ≡ lowestBy (addressOf (now (m .entry)) asked) (ruleOf (now (m .entry)) asked) low (Model.path left (now (m .entry)) link cell) ⌝ }
+    ensures { λ r. ⌜ r ≡ lowestOf (now (m .entry)) asked low (Model.path left (now (m .entry)) link cell) ⌝ }
 {
     if left == 0 {
         return low;
@@ -69,14 +69,14 @@ fn by_path(m: &[u8], asked: Asked, link: u16, cell: u16, left: u8, low: u16) -> 
 
 pub fn by_list(m: &[u8], asked: Asked, head: u16, low: u16) -> u16
     requires { ⌜ (length (now m) ≡ 8192) × (head < 8192) ⌝ }
-    ensures { λ r. ⌜ r ≡ lowestBy (addressOf (now (m .entry)) asked) (ruleOf (now (m .entry)) asked) low (Model.met (now (m .entry)) head) ⌝ }
+    ensures { λ r. ⌜ r ≡ lowestOf (now (m .entry)) asked low (Model.met (now (m .entry)) head) ⌝ }
 {
     by_path(m, asked, link_of(head), head, left_of(head), low)
 }
 
 pub fn by_lists(m: &[u8], asked: Asked, heads: u8, step: u16, head: u16, low: u16) -> u16
     requires { ⌜ (length (now m) ≡ 8192) × (step ≤ 2) × (head + 2 * heads < 8192) ⌝ }
-    ensures { λ r. ⌜ r ≡ lowestBy (addressOf (now (m .entry)) asked) (ruleOf (now (m .entry)) asked) low (gather (Model.met (now (m .entry))) (range heads step head)) ⌝ }
+    ensures { λ r. ⌜ r ≡ lowestOf (now (m .entry)) asked low (gather (Model.met (now (m .entry))) (range heads step head)) ⌝ }
 {
     if heads == 0 {
         return low;
@@ -87,7 +87,7 @@ pub fn by_lists(m: &[u8], asked: Asked, heads: u8, step: u16, head: u16, low: u1
 
 pub fn by_mails(m: &[u8], asked: Asked, cell: u16, left: u8, low: u16) -> u16
     requires { ⌜ (length (now m) ≡ 8192) × (cell < 8192) ⌝ }
-    ensures { λ r. ⌜ r ≡ lowestBy (addressOf (now (m .entry)) asked) (ruleOf (now (m .entry)) asked) low (gather (Model.met (now (m .entry))) (headsOf 2 Map.q1 (Model.path left (now (m .entry)) Map.listLink cell))) ⌝ }
+    ensures { λ r. ⌜ r ≡ lowestOf (now (m .entry)) asked low (gather (Model.met (now (m .entry))) (headsOf 2 Map.q1 (Model.path left (now (m .entry)) Map.listLink cell))) ⌝ }
 {
     if left == 0 {
         return low;
@@ -103,7 +103,7 @@ pub fn by_mails(m: &[u8], asked: Asked, cell: u16, left: u8, low: u16) -> u16
 // ---- A word by its address: a; so many, by steps; so many of each processor that is met from a cell on.
 pub fn tell_at(m: &[u8], asked: AskedAt, a: u16, low: u16) -> u16
     requires { ⌜ (length (now m) ≡ 8192) × (a < 8192) ⌝ }
-    ensures { λ r. ⌜ r ≡ lowestBy (addressAt (now (m .entry)) asked) (ruleAt (now (m .entry)) asked) low (a ∷ []) ⌝ }
+    ensures { λ r. ⌜ r ≡ lowestAt (now (m .entry)) asked low (a ∷ []) ⌝ }
 {
     if passes_at(m, asked, a) {
         return low;
@@ -113,7 +113,7 @@ pub fn tell_at(m: &[u8], asked: AskedAt, a: u16, low: u16) -> u16
 
 pub fn by_cells(m: &[u8], asked: AskedAt, count: u8, step: u16, a: u16, low: u16) -> u16
     requires { ⌜ (length (now m) ≡ 8192) × (step ≤ 2) × (a + 2 * count < 8192) ⌝ }
-    ensures { λ r. ⌜ r ≡ lowestBy (addressAt (now (m .entry)) asked) (ruleAt (now (m .entry)) asked) low (range count step a) ⌝ }
+    ensures { λ r. ⌜ r ≡ lowestAt (now (m .entry)) asked low (range count step a) ⌝ }
 {
     if count == 0 {
         return low;
@@ -132,7 +132,7 @@ pub fn by_heads(
     low: u16,
 ) -> u16
     requires { ⌜ (length (now m) ≡ 8192) × (word + 2 * heads < 32) × (cell < 8192) ⌝ }
-    ensures { λ r. ⌜ r ≡ lowestBy (addressAt (now (m .entry)) asked) (ruleAt (now (m .entry)) asked) low (headsOf heads word (Model.path left (now (m .entry)) Map.listLink cell)) ⌝ }
+    ensures { λ r. ⌜ r ≡ lowestAt (now (m .entry)) asked low (headsOf heads word (Model.path left (now (m .entry)) Map.listLink cell)) ⌝ }
 {
     if left == 0 {
         return low;

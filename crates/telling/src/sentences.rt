@@ -13,8 +13,12 @@ ghost use mathlib.Core.Path.{_≡_};
 ghost use lib.ListN.{length};
 ghost use Rattle.model.specs.Store.{bytes};
 ghost use Rattle.model.specs.Tell.{least, offending, offendingIn};
+ghost use Rattle.model.specs.Map as Map;
 ghost use Rattle.model.specs.Classes as Classes;
-ghost use Rattle.telling.specs.Rows.{here};
+ghost use Rattle.model.specs.Classes.{chains};
+ghost use Rattle.model.specs.Bytes as Model;
+ghost use Rattle.telling.specs.Rows.{here, lowestAt};
+ghost use Rattle.telling.specs.declared.cells.AskedAt.the-variants.{Ends};
 
 // ---- 30, "a control page used twice or not at all".
 fn used_once(m: &[u8], low: u16) -> u16
@@ -30,13 +34,14 @@ fn used_once(m: &[u8], low: u16) -> u16
     )
 }
 
-fn uses_end(m: &[u8], low: u16) -> u16
+// The lists of uses but for the grants; then the grants.
+fn chains_end(m: &[u8], low: u16) -> u16
     requires { ⌜ length (now m) ≡ 8192 ⌝ }
-    ensures { λ r. ⌜ r ≡ least low (offending (here (Classes.usesEnd bytes) (now (m .entry)))) ⌝ }
+    ensures { λ r. ⌜ r ≡ lowestAt (now (m .entry)) Ends low (chains (Model.met (now (m .entry)) Map.processorList)) ⌝ }
 {
     let a = tell_at(m, AskedAt::Ends, map::PROCESSOR_LIST, low);
     let b = tell_at(m, AskedAt::Ends, map::FREE_LIST, a);
-    let c = by_heads(
+    by_heads(
         m,
         AskedAt::Ends,
         2,
@@ -44,8 +49,15 @@ fn uses_end(m: &[u8], low: u16) -> u16
         map::PROCESSOR_LIST,
         map::ONE_MORE,
         b,
-    );
-    by_cells(m, AskedAt::Pointer, map::LAST_NAME, 1, map::GRANTS + 1, c)
+    )
+}
+
+fn uses_end(m: &[u8], low: u16) -> u16
+    requires { ⌜ length (now m) ≡ 8192 ⌝ }
+    ensures { λ r. ⌜ r ≡ least low (offending (here (Classes.usesEnd bytes) (now (m .entry)))) ⌝ }
+{
+    let a = chains_end(m, low);
+    by_cells(m, AskedAt::Pointer, map::LAST_NAME, 1, map::GRANTS + 1, a)
 }
 
 pub fn pages(m: &[u8]) -> u16

@@ -1,0 +1,8 @@
+-- The laws that the proofs of the functions search.
+use Rattle.rules.proofs.Laws.{rulings}
+use Rattle.telling.proofs.Walking.{walkings}
+use Rattle.telling.proofs.Asking.{askings}
+use Rattle.telling.proofs.Words.{wordings}
+use Rattle.telling.proofs.Lows.{lows}
+
+pub ruleset tellings = (rulings, walkings, askings, wordings, lows)

@@ -1,0 +1,5 @@
+pub mod Walking
+pub mod Asking
+pub mod Words
+pub mod Lows
+pub mod Laws

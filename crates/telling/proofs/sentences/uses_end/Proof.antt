@@ -1,0 +1,13 @@
+use borrow.Author.Needs.{needs}
+use Rattle.model.specs.Classes as Classes
+use Rattle.telling.proofs.Laws.{tellings}
+use Rattle.telling.proofs.sentences.uses_end.Statement.{statement}
+use Rattle.telling.proofs.sentences.uses_end.Tie as tie
+
+pub uses-end-spec : {M : Type 1} → statement M
+unfolding Classes.usesEnd
+uses-end-spec = tie.close (tie.spec
+    (λ c κs. search needs)
+    (λ c. search needs)
+    (λ c κs. search needs)
+    (λ c. search (needs, tellings)))

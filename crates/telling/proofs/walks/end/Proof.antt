@@ -1,0 +1,11 @@
+use borrow.Author.Needs.{needs}
+use Rattle.telling.proofs.Laws.{tellings}
+use Rattle.telling.proofs.walks.end.Statement.{statement}
+use Rattle.telling.proofs.walks.end.Tie as tie
+
+pub end-spec : {M : Type 1} → statement M
+end-spec = tie.close (tie.spec
+    (λ c κs. search needs)
+    (λ c κs. search needs)
+    (λ c κs. search needs)
+    (λ c. (search (needs, tellings), search needs)))
