@@ -253,7 +253,7 @@ module _ (m : List ℕ) (ps : List ℕ) (L : Lists) (i : Inv m ps L (view m)) wh
           let t = gather-of (met m) (mails ps) q h in
           let s = mails-of (t .head) ps (t .here) in
           let e : met m (t .head) ≡ L (place (s .page) (s .word)) =
-              ap (met m) (s .is) ∙ agree (place (s .page) (s .word)) (in-q ps (s .page) (s .word) (s .low) (s .high) (s .proc)) in
+          ap (met m) (s .is) ∙ agree (place (s .page) (s .word)) (in-q ps (s .page) (s .word) (s .low) (s .high) (s .proc)) in
           as-rule (f .mail (s .page) (s .word) (s .proc) (s .low) (s .high) q (rw e at (t .there)))
 
   pub tables-clean : Means (Classes.codes bytes m ps (met m)) × Means (Classes.faults bytes m ps (met m))

@@ -1,0 +1,76 @@
+-- The classes in their order: 8,192 stands for nothing, since whatever is told is below it. And where the judge accepts, nothing is told.
+use Prim.Native.Nat.{ℕ, min, _≤_, _<_}
+use mathlib.Core.Path.{_≡_, refl, sym, _∙_}
+use mathlib.Core.Bool.{Bool, true}
+use mathlib.Core.List.{List, [], _∷_}
+use native.Mathlib.Omega.{arith}
+use lib.ListN.{length}
+use Rattle.model.specs.declared.Finding.{Finding}
+use Rattle.model.specs.declared.Finding.the-variants.{Nothing, Broken}
+use Rattle.model.specs.Map.{memorySize}
+use Rattle.model.specs.Store.{bytes}
+use Rattle.model.specs.Lists.{count}
+use Rattle.model.specs.Tell.{Row, Class, least, offendingIn, tell, first}
+use Rattle.model.specs.Tell.Class.{class}
+use Rattle.model.specs.Classes as Classes
+use Rattle.model.specs.Bytes.{Memory, judged, toldOf}
+use Rattle.laws.specs.Count.{hit-self}
+use Rattle.laws.specs.Tells.{least-low}
+use Rattle.laws.specs.Clears.{judged-nothing}
+use Rattle.laws.specs.Addresses.{WithinIn, offending-within-in, all-low}
+use Rattle.telling.specs.Rows.{here}
+
+module _ (n a : ℕ) (t : Finding) where
+  some-told : (l : List ℕ) → ((b : ℕ) → 1 ≤ count b l → b < memorySize) → a ≡ least memorySize l → a < memorySize → Broken n a ≡ tell n l t
+  unfolding tell least
+  some-told [] w e h = absurd (omega arith)
+  some-told (b ∷ bs) w e h =
+      let f = w b (omega (arith, hit-self b)) in
+      let g : min memorySize b ≡ b = omega arith in
+      let k : a ≡ least b bs = rw g at e in
+      rw (← k)
+
+  none-told : (l : List ℕ) → ((b : ℕ) → 1 ≤ count b l → b < memorySize) → a ≡ least memorySize l → memorySize ≤ a → t ≡ tell n l t
+  unfolding tell least
+  none-told [] w e h = refl
+  none-told (b ∷ bs) w e h = let f = w b (omega (arith, hit-self b)) in absurd (omega (arith, least-low (min memorySize b) bs))
+
+module _ (n a : ℕ) (ss : List (List Row)) (cs : List Class) (w : WithinIn memorySize ss) (e : a ≡ least memorySize (offendingIn ss)) where
+  pub class-tells : a < memorySize → Broken n a ≡ first (class n ss ∷ cs)
+  unfolding first
+  class-tells h = some-told n a (first cs) (offendingIn ss) (offending-within-in memorySize ss w) e h
+
+  pub class-clear : (t : Finding) → memorySize ≤ a → t ≡ first cs → t ≡ first (class n ss ∷ cs)
+  unfolding first
+  class-clear t h k = k ∙ none-told n a (first cs) (offendingIn ss) (offending-within-in memorySize ss w) e h
+
+pub all-clear : Nothing ≡ first []
+unfolding first
+all-clear = refl
+
+-- ---- what each class tells is an address
+module _ (m : Memory) where
+  pub pages-low : WithinIn memorySize (here (Classes.ofPages bytes) m)
+  unfolding Classes.classes
+  pages-low = all-low m .0
+
+  pub waits-low : WithinIn memorySize (here (Classes.ofWaits bytes) m)
+  unfolding Classes.classes
+  waits-low = all-low m .1 .0
+
+  pub records-low : WithinIn memorySize (here (Classes.ofRecords bytes) m)
+  unfolding Classes.classes
+  records-low = all-low m .1 .1 .0
+
+  pub tables-low : WithinIn memorySize (here (Classes.ofTables bytes) m)
+  unfolding Classes.classes
+  tables-low = all-low m .1 .1 .1 .0
+
+  pub counters-low : WithinIn memorySize (here (Classes.ofCounters bytes) m)
+  unfolding Classes.classes
+  counters-low = all-low m .1 .1 .1 .1 .0
+
+  pub accepted-is : (b : Bool) → length m ≡ memorySize → b ≡ judged m → b ≡ true → Nothing ≡ toldOf m
+  accepted-is b l e h = sym (judged-nothing m l (sym e ∙ h))
+
+pub ruleset findings = (class-tells, class-clear, all-clear, pages-low, waits-low, records-low, tables-low, counters-low, accepted-is)
