@@ -16,7 +16,7 @@ use Rattle.model.specs.Classes as Classes
 use Rattle.model.specs.Bytes.{Memory, judged, toldOf}
 use Rattle.laws.specs.Count.{hit-self}
 use Rattle.laws.specs.Tells.{least-low}
-use Rattle.laws.specs.Clears.{judged-nothing}
+use Rattle.laws.specs.Exactly.{judged-nothing}
 use Rattle.laws.specs.Addresses.{WithinIn, offending-within-in, all-low}
 use Rattle.telling.specs.Rows.{here}
 
