@@ -1,0 +1,17 @@
+use borrow.Author.Needs.{needs}
+use Rattle.model.specs.Call as Call
+use Rattle.kernel.proofs.Laws.{heads, sayings}
+use Rattle.kernel.proofs.read_registers.Statement.{statement}
+use Rattle.kernel.proofs.read_registers.Tie as tie
+
+pub read-registers-spec : {M : Type 1} → statement M
+unfolding Call.readRegisters
+read-registers-spec = tie.close (tie.spec
+    (λ c κs. search needs)
+    (λ c. search needs)
+    (λ c κs. search (needs, heads, sayings))
+    (λ c. search needs)
+    (λ c. search needs)
+    (λ c. search (needs, heads, sayings))
+    (λ c. search (needs, heads, sayings))
+    (λ c. search (needs, heads, sayings)))
