@@ -16,7 +16,7 @@ use Rattle.model.specs.Lists as Lists
 use Rattle.model.specs.Lists.{count, each-of, range, some, mails, owns, isGrant, linkOf, reach}
 use Rattle.model.specs.Bytes.{Memory, at, word, walk, lists, name}
 use Rattle.queues.proofs.Laws.{walk-none, walk-end, walk-on}
-use Rattle.counts.specs.Reach.{headsOf}
+use Rattle.counts.specs.Heads.{headsOf}
 
 -- ---- the parts of a rule
 module _ (r s : Rule) (b : Bool) (e : b ≡ holds r) where
@@ -93,7 +93,8 @@ module _ (x y : ℕ) where
 pub lies-is : (x lo hi : ℕ) (r : Bool) → r ≡ (leb lo x && leb x hi) → r ≡ holds (among x lo hi)
 lies-is x lo hi r e = both-is (most lo x) (most x hi) (leb lo x) (leb x hi) r e (most-is lo x) (most-is x hi)
 
--- ---- a list that is empty, and one that begins with w: each of it, how long it is, how often z stands in it, how many of it have the name z
+-- ---- a list that is empty, and one that begins with w: each of it, how long it is, how often z stands in it, how many of it have the name z.
+-- Where nothing else names w, the cell c does at which a walk goes on.
 module _ (xs : List ℕ) where
   module _ (f : ℕ → Rule) where
     pub each-none : xs ≡ [] → true ≡ holds (each xs f)

@@ -1,2 +1,2 @@
--- What the code of the judge names beyond the model: a rule at a memory, how far a list goes, the heads in its pages.
-pub mod Reach
+-- What the code of the judge names beyond the model: a rule at a memory's lists, and the heads in the pages of a list.
+pub mod Heads

@@ -10,7 +10,7 @@ use Rattle.model.specs.Lists as Lists
 use Rattle.model.specs.Lists.{count}
 use Rattle.model.specs.Judge as Judge
 use Rattle.model.specs.Bytes.{Memory, at, word, walk, lists}
-use Rattle.counts.specs.Reach.{rule}
+use Rattle.counts.specs.Heads.{rule}
 use Rattle.counts.proofs.Folds.{both-yes, both-is, same-is, most-is, when-yes, when-no, unless-yes, unless-no}
 
 pub runner-is : (m : Memory) (p n l w s : ℕ) (d r : Bool) → n ≡ count p (walk 21 m listLink processorList)

@@ -5,7 +5,7 @@ use Rattle.model.specs.Store.{bytes}
 use Rattle.model.specs.Rule.{Rule, both, holds}
 use Rattle.model.specs.Judge as Judge
 use Rattle.model.specs.Bytes.{Memory, judged}
-use Rattle.counts.specs.Reach.{rule}
+use Rattle.counts.specs.Heads.{rule}
 use Rattle.counts.proofs.Folds.{both-yes, both-no}
 use Rattle.marks.proofs.Counting.{arm, bits-are}
 use Rattle.rules.specs.Rules as Rules

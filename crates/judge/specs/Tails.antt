@@ -3,7 +3,7 @@ use Rattle.model.specs.Store.{bytes}
 use Rattle.model.specs.Rule.{Rule, both}
 use Rattle.model.specs.Judge as Judge
 use Rattle.model.specs.Bytes.{Memory}
-use Rattle.counts.specs.Reach.{rule}
+use Rattle.counts.specs.Heads.{rule}
 use Rattle.marks.specs.Marks.{bits}
 use Rattle.rules.specs.Rules.{tables}
 

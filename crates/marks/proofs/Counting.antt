@@ -16,7 +16,7 @@ use Rattle.model.specs.Rule.{most, both, each, holds, all}
 use Rattle.model.specs.Lists.{Lists, hit, count, sum, range, mails, uses, queues}
 use Rattle.model.specs.Judge as Judge
 use Rattle.model.specs.Bytes.{Memory, lists, waiting}
-use Rattle.counts.specs.Reach.{rule}
+use Rattle.counts.specs.Heads.{rule}
 use Rattle.marks.specs.Marks as Marks
 use Rattle.marks.specs.Marks.{Marks, slot, more, unmarked, marked, times, markedAll, markedLists, onceBy, bitBy, waiterBy, marksIn, bits}
 

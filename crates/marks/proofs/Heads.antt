@@ -11,7 +11,7 @@ use Rattle.model.specs.Lists as Lists
 use Rattle.model.specs.Lists.{Lists, range, uses, queues, linkOf, reach}
 use Rattle.model.specs.Bytes.{Memory, at, walk, lists}
 use Rattle.queues.proofs.Laws.{walk-none, walk-end, walk-on}
-use Rattle.counts.specs.Reach.{headsOf}
+use Rattle.counts.specs.Heads.{headsOf}
 use Rattle.counts.proofs.Folds.{lists-is, mails-heads, owns-heads, range-zero, range-suc, both-is}
 use Rattle.marks.specs.Marks as Marks
 use Rattle.marks.specs.Marks.{Marks, unmarked, marked, markedAll, markedLists, bitBy, waiterBy, marksIn, bits}

@@ -15,7 +15,7 @@ ghost use Rattle.model.specs.Rule.{holds, each};
 ghost use Rattle.model.specs.Judge as Judge;
 ghost use Rattle.model.specs.Lists.{uses, queues, range};
 ghost use Rattle.model.specs.Bytes as Model;
-ghost use Rattle.counts.specs.Reach.{rule, headsOf};
+ghost use Rattle.counts.specs.Heads.{rule, headsOf};
 ghost use Rattle.marks.specs.Marks as Marks;
 ghost use Rattle.marks.specs.Marks.{marked, markedAll, markedLists, bits, onceBy, bitBy, waiterBy, marksIn};
 

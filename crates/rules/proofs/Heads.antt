@@ -10,7 +10,7 @@ use Rattle.model.specs.Lists as Lists
 use Rattle.model.specs.Lists.{range, mails, owns, uses, queues}
 use Rattle.model.specs.Judge as Judge
 use Rattle.model.specs.Bytes.{Memory, walk, lists}
-use Rattle.counts.specs.Reach.{rule, headsOf}
+use Rattle.counts.specs.Heads.{rule, headsOf}
 use Rattle.counts.proofs.Folds.{cons-and, each-nil, mails-heads, owns-heads}
 use Rattle.rules.specs.Rules as Rules
 use Rattle.rules.specs.Rules.{mailLists, ownList}

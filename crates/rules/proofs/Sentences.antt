@@ -14,7 +14,7 @@ use Rattle.model.specs.Lists as Lists
 use Rattle.model.specs.Lists.{Lists, count, each-of}
 use Rattle.model.specs.Judge as Judge
 use Rattle.model.specs.Bytes.{Memory, at, word, walk, lists, name}
-use Rattle.counts.specs.Reach.{rule}
+use Rattle.counts.specs.Heads.{rule}
 use Rattle.rules.specs.declared.tests.Test.{Test}
 use Rattle.rules.specs.declared.deep.Deep.{Deep}
 use Rattle.rules.specs.Rules.{ruleOf, deepOf}

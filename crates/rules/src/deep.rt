@@ -17,7 +17,7 @@ ghost use Rattle.model.specs.Rule.{holds, each};
 ghost use Rattle.model.specs.Lists.{uses, queues, mails, owns, range};
 ghost use Rattle.model.specs.Judge as Judge;
 ghost use Rattle.model.specs.Bytes as Model;
-ghost use Rattle.counts.specs.Reach.{rule};
+ghost use Rattle.counts.specs.Heads.{rule};
 ghost use Rattle.rules.specs.Rules.{deepOf, mailLists, ownList};
 
 // The rules of one page that look through its lists.

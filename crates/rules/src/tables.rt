@@ -17,7 +17,7 @@ ghost use Rattle.model.specs.Store.{bytes};
 ghost use Rattle.model.specs.Rule.{holds, same, never, among, under};
 ghost use Rattle.model.specs.Judge as Judge;
 ghost use Rattle.model.specs.Bytes as Model;
-ghost use Rattle.counts.specs.Reach.{rule};
+ghost use Rattle.counts.specs.Heads.{rule};
 ghost use Rattle.rules.specs.Rules as Rules;
 
 // The word at an address: v; in low-high; below an end.

@@ -21,7 +21,8 @@ use Rattle.laws.specs.Addresses.{WithinIn, offending-within-in, all-low}
 use Rattle.telling.specs.Rows.{here}
 
 module _ (n a : ℕ) (t : Finding) where
-  some-told : (l : List ℕ) → ((b : ℕ) → 1 ≤ count b l → b < memorySize) → a ≡ least memorySize l → a < memorySize → Broken n a ≡ tell n l t
+  some-told : (l : List ℕ) → ((b : ℕ) → 1 ≤ count b l → b < memorySize) → a ≡ least memorySize l → a < memorySize
+      → Broken n a ≡ tell n l t
   unfolding tell least
   some-told [] w e h = absurd (omega arith)
   some-told (b ∷ bs) w e h =

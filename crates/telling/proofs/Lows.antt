@@ -10,15 +10,18 @@ use Rattle.model.specs.Walks.{gather}
 use Rattle.model.specs.Tell.{Row, least, broken, offending, offendingIn}
 use Rattle.model.specs.Tell.Row.{tells}
 use Rattle.model.specs.Bytes.{Memory, path, met}
-use Rattle.counts.specs.Reach.{headsOf}
+use Rattle.counts.specs.Heads.{headsOf}
 use Rattle.counts.proofs.Folds.{mails-heads, owns-heads, range-suc}
 use Rattle.telling.specs.Rows.{lowestBy}
-use Rattle.telling.proofs.Walking.{met-is}
+use Rattle.telling.proofs.Walking.{met-is, processors-met}
 
 least-append : (low : ℕ) (xs ys : List ℕ) → least low (xs ++ ys) ≡ least (least low xs) ys
 unfolding least
 least-append low [] ys = refl
 least-append low (x ∷ xs) ys = least-append (min low x) xs ys
+
+pub no-lists : (L : Lists) (hs : List ℕ) → hs ≡ [] → gather L hs ≡ []
+no-lists L hs e = rw e
 
 gather-append : (L : Lists) (hs ks : List ℕ) → gather L (hs ++ ks) ≡ gather L hs ++ gather L ks
 gather-append L [] ks = refl
@@ -58,7 +61,8 @@ module _ (a : ℕ → ℕ) (r : ℕ → Rule) where
       pub low-cons : (x : ℕ) (ys : List ℕ) → v ≡ lowestBy a r low (x ∷ []) → w ≡ lowestBy a r v ys → w ≡ lowestBy a r low (x ∷ ys)
       low-cons x ys ev ew = low-append (x ∷ []) ys ev ew
 
-      pub low-on : (xs : List ℕ) (x : ℕ) (ys : List ℕ) → xs ≡ x ∷ ys → v ≡ lowestBy a r low (x ∷ []) → w ≡ lowestBy a r v ys → w ≡ lowestBy a r low xs
+      pub low-on : (xs : List ℕ) (x : ℕ) (ys : List ℕ) → xs ≡ x ∷ ys → v ≡ lowestBy a r low (x ∷ []) → w ≡ lowestBy a r v ys
+          → w ≡ lowestBy a r low xs
       low-on xs x ys e ev ew = rw e (low-cons x ys ev ew)
 
       -- the number z as a byte
@@ -67,8 +71,8 @@ module _ (a : ℕ → ℕ) (r : ℕ → Rule) where
       low-range n z x o ex ev ew = low-on (range n 1 z) z (range (n - 1) 1 (z + 1)) (range-suc n 1 z o) (rw ex at ev) ew
 
       -- ---- the lists of the heads hs, the heads in the pages ps, the lists of these
-      pub lists-on : (L : Lists) (hs : List ℕ) (h : ℕ) (ks : List ℕ) → hs ≡ h ∷ ks → v ≡ lowestBy a r low (L h) → w ≡ lowestBy a r v (gather L ks)
-          → w ≡ lowestBy a r low (gather L hs)
+      pub lists-on : (L : Lists) (hs : List ℕ) (h : ℕ) (ks : List ℕ) → hs ≡ h ∷ ks → v ≡ lowestBy a r low (L h)
+          → w ≡ lowestBy a r v (gather L ks) → w ≡ lowestBy a r low (gather L hs)
       lists-on L hs h ks e ev ew = rw e (low-append (L h) (gather L ks) ev ew)
 
       module _ (n k : ℕ) (ps : List ℕ) (p c : ℕ) (qs : List ℕ) (e : ps ≡ p ∷ qs) (ec : c ≡ place p k) where
@@ -81,17 +85,9 @@ module _ (a : ℕ → ℕ) (r : ℕ → Rule) where
             rw (e, gather-append L (range n 1 (place p k)) (headsOf n k qs))
             (low-append (gather L (range n 1 (place p k))) (gather L (headsOf n k qs)) (rw ec at ev) ew)
 
-    pub lists-none : (L : Lists) (hs : List ℕ) → hs ≡ [] → low ≡ lowestBy a r low (gather L hs)
-    lists-none L hs e = low-none (gather L hs) (rw e)
-
-    pub cells-none : (n k : ℕ) (ps : List ℕ) → ps ≡ [] → low ≡ lowestBy a r low (headsOf n k ps)
-    cells-none n k ps e = low-none (headsOf n k ps) (rw e)
-
-    pub mails-none : (L : Lists) (n k : ℕ) (ps : List ℕ) → ps ≡ [] → low ≡ lowestBy a r low (gather L (headsOf n k ps))
-    mails-none L n k ps e = low-none (gather L (headsOf n k ps)) (rw e)
-
     module _ (v : ℕ) where
-      pub list-is : (m : Memory) (k n c : ℕ) → k ≡ linkOf c → n ≡ reach c → v ≡ lowestBy a r low (path n m k c) → v ≡ lowestBy a r low (met m c)
+      pub list-is : (m : Memory) (k n c : ℕ) → k ≡ linkOf c → n ≡ reach c → v ≡ lowestBy a r low (path n m k c)
+          → v ≡ lowestBy a r low (met m c)
       list-is m k n c ek en e = rw (met-is m c k n ek en) at e
 
       -- xs are the processors, as the code walks them
@@ -126,6 +122,8 @@ module _ (low v : ℕ) where
     sentence-next w ss h = rw (least-append low (offending s) (offendingIn ss), ← e) h
 
 pub ruleset lows = (
+  processors-met,
+  no-lists,
   tell-yes,
   tell-no,
   low-none,
@@ -133,11 +131,8 @@ pub ruleset lows = (
   low-cons,
   low-on,
   low-range,
-  lists-none,
   lists-on,
-  cells-none,
   cells-on,
-  mails-none,
   mails-on,
   list-is,
   mails-cells,

@@ -15,7 +15,7 @@ use Rattle.model.specs.Walks as Walks
 use Rattle.model.specs.Walks.{isControl, lastCell}
 use Rattle.model.specs.Classes.{used}
 use Rattle.model.specs.Bytes.{Memory, at, path, met}
-use Rattle.counts.specs.Reach.{headsOf}
+use Rattle.counts.specs.Heads.{headsOf}
 use Rattle.counts.proofs.Folds.{both-and, each-bad, mails-heads, owns-heads}
 use Rattle.telling.specs.Rows as Rows
 use Rattle.telling.specs.Rows.{controlAt}
@@ -67,13 +67,14 @@ module _ (n : ℕ) (m : Memory) (k a : ℕ) where
       go zero = refl
       go (suc i) = rw (f, Walks.path)
 
-pub path-on : (n : ℕ) (m : Memory) (k a w c : ℕ) → (n ≡ 0 → ⊥) → w ≡ controlAt m a → (w ≡ 0 → ⊥) → c ≡ place w k → path n m k a ≡ w ∷ path (n - 1) m k c
+pub path-on : (n : ℕ) (m : Memory) (k a w c : ℕ) → (n ≡ 0 → ⊥) → w ≡ controlAt m a → (w ≡ 0 → ⊥) → c ≡ place w k
+    → path n m k a ≡ w ∷ path (n - 1) m k c
 unfolding Walks.path Rows.controlAt
 path-on zero m k a w c o e z ec = absurd (o refl)
 path-on (suc n) m k a w c o e z ec = let s = some-control (at m a) w e z in rw (s .0, Walks.path, ← (s .1), ← ec, sub-one)
 
-pub path-bad : (n : ℕ) (m : Memory) (k a : ℕ) (f : ℕ → Rule) (w : ℕ) (b : Bool) → (n ≡ 0 → ⊥) → w ≡ controlAt m a → (w ≡ 0 → ⊥) → b ≡ holds (f w)
-    → b ≡ false → false ≡ holds (each (path n m k a) f)
+pub path-bad : (n : ℕ) (m : Memory) (k a : ℕ) (f : ℕ → Rule) (w : ℕ) (b : Bool) → (n ≡ 0 → ⊥) → w ≡ controlAt m a → (w ≡ 0 → ⊥)
+    → b ≡ holds (f w) → b ≡ false → false ≡ holds (each (path n m k a) f)
 path-bad n m k a f w b o e z eb h = each-bad (path n m k a) f w _ b (path-on n m k a w (place w k) o e z refl) eb h
 
 module _ (xs : List ℕ) (k a : ℕ) where
@@ -114,11 +115,14 @@ pub met-most : (a n v r : ℕ) → n ≡ reach a → v ≤ n → r ≡ v → r �
 met-most a n v r en l er = omega (arith, reach-most a)
 
 -- at a cell that the code reckons
-pub met-each : (m : Memory) (a c k n : ℕ) (f : ℕ → Rule) (r : Bool) → c ≡ a → k ≡ linkOf c → n ≡ reach c → r ≡ holds (each (path n m k c) f)
-    → r ≡ holds (each (met m a) f)
+pub met-each : (m : Memory) (a c k n : ℕ) (f : ℕ → Rule) (r : Bool) → c ≡ a → k ≡ linkOf c → n ≡ reach c
+    → r ≡ holds (each (path n m k c) f) → r ≡ holds (each (met m a) f)
 met-each m a c k n f r e ek en er = rw (← e, ← met-is m c k n ek en) er
 
 -- ---- sums over the lists of heads, and over those of so many words of each page
+pub no-heads : (n k : ℕ) (xs : List ℕ) → xs ≡ [] → headsOf n k xs ≡ []
+no-heads n k xs e = rw e
+
 sum-append : (z : ℕ) (L : Lists) (hs ks : List ℕ) → sum z L (hs ++ ks) ≡ sum z L hs + sum z L ks
 sum-append z L [] ks = omega arith
 sum-append z L (a ∷ hs) ks = omega (arith, sum-append z L hs ks)
@@ -130,12 +134,9 @@ module _ (z : ℕ) (L : Lists) (xs ys : List ℕ) (w x y : ℕ) where
   pub sum-on : xs ≡ w ∷ ys → x ≡ count z (L w) → y ≡ sum z L ys → x + y ≡ sum z L xs
   sum-on e ex ey = rw (e, ← ex, ← ey)
 
-  module _ (n k : ℕ) where
-    pub heads-none : xs ≡ [] → 0 ≡ sum z L (headsOf n k xs)
-    heads-none e = rw e
-
-    pub heads-on : (h : ℕ) → xs ≡ w ∷ ys → h ≡ place w k → x ≡ sum z L (range n 1 h) → y ≡ sum z L (headsOf n k ys) → x + y ≡ sum z L (headsOf n k xs)
-    heads-on h e eh ex ey = rw (e, sum-append z L (range n 1 (place w k)) (headsOf n k ys), ← eh, ← ex, ← ey)
+  pub heads-on : (n k h : ℕ) → xs ≡ w ∷ ys → h ≡ place w k → x ≡ sum z L (range n 1 h) → y ≡ sum z L (headsOf n k ys)
+      → x + y ≡ sum z L (headsOf n k xs)
+  heads-on n k h e eh ex ey = rw (e, sum-append z L (range n 1 (place w k)) (headsOf n k ys), ← eh, ← ex, ← ey)
 
 -- xs are the processors, as the code walks them
 module _ (z : ℕ) (L : Lists) (ps xs : List ℕ) (e : xs ≡ ps) where
@@ -164,7 +165,7 @@ pub ruleset walkings = (
   met-each,
   sum-none,
   sum-on,
-  heads-none,
+  no-heads,
   heads-on,
   uses-is,
   waits-is,

@@ -48,10 +48,12 @@ module _ (m : Memory) (a w : ℕ) (ew : w ≡ at m a) where
   unfolding Classes.runner
   runner-none h = rw (← ew) (unless-yes w 0 _ h)
 
-  pub runner-some : (n s : ℕ) (r : Bool) → (w ≡ 0 → ⊥) → n ≡ count w (met m processorList) → s ≡ word m w state → r ≡ (eqb n 1 && ltb s 64)
-      → r ≡ holds (here (Classes.runner bytes) m a)
+  pub runner-some : (n s : ℕ) (r : Bool) → (w ≡ 0 → ⊥) → n ≡ count w (met m processorList) → s ≡ word m w state
+      → r ≡ (eqb n 1 && ltb s 64) → r ≡ holds (here (Classes.runner bytes) m a)
   unfolding Classes.runner
-  runner-some n s r h en es er = rw (← ew, ← en, ← es) (unless-no w 0 _ r h (both-is _ _ (eqb n 1) (ltb s 64) r er (same-is n 1) (most-is (suc s) 64)))
+  runner-some n s r h en es er =
+      rw (← ew, ← en, ← es)
+      (unless-no w 0 _ r h (both-is _ _ (eqb n 1) (ltb s 64) r er (same-is n 1) (most-is (suc s) 64)))
 
   module _ (p : ℕ) (ep : p ≡ at m runningPage) where
     pub shown-none : p ≡ 0 → eqb w 0 ≡ holds (here (Classes.shown bytes) m a)

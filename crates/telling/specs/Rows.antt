@@ -3,7 +3,7 @@ use Prim.Native.Nat.{ℕ}
 use mathlib.Core.Bool.{cond}
 use mathlib.Core.List.{List}
 use Rattle.model.specs.Map as Map
-use Rattle.model.specs.Map.{processorList}
+use Rattle.model.specs.Map.{listLink, processorList}
 use Rattle.model.specs.Store.{bytes}
 use Rattle.model.specs.Rule.{Rule}
 use Rattle.model.specs.Lists.{Lists}
@@ -11,7 +11,8 @@ use Rattle.model.specs.Judge as Judge
 use Rattle.model.specs.Walks.{isControl}
 use Rattle.model.specs.Tell.{broken, least}
 use Rattle.model.specs.Classes as Classes
-use Rattle.model.specs.Bytes.{Memory, at, met}
+use Rattle.model.specs.Bytes.{Memory, at, path, met}
+use Rattle.counts.specs.Heads.{headsOf}
 use Rattle.telling.specs.declared.asked.Asked.{Asked}
 use Rattle.telling.specs.declared.asked.Asked.the-variants.{Once, Bit, Waiter, Reasoned, Reasonless, Quiet, MessageWait, InterruptSemaphore}
 use Rattle.telling.specs.declared.asked.Asked.the-variants.{MessageSemaphore, NoneFree, NoGrant, Label, ZeroBits, Existing, Message, Kind}
@@ -27,6 +28,10 @@ controlAt m a = cond (isControl (at m a)) (at m a) 0
 -- a rule or a class at a memory, its processors and its lists
 abbrev pub here : {A : Type 0} → (Memory → List ℕ → Lists → A) → Memory → A
 here f m = f m (met m processorList) (met m)
+
+-- the heads in n words from k on, of each processor that is met from the cell a on
+abbrev pub headsMet : ℕ → ℕ → ℕ → Memory → ℕ → List ℕ
+headsMet n k left m a = headsOf n k (path left m listLink a)
 
 -- ---- of a page or an index
 abbrev pub ruleOf : Memory → Asked → (ℕ → Rule)

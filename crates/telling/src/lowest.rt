@@ -18,8 +18,7 @@ ghost use Rattle.model.specs.Map as Map;
 ghost use Rattle.model.specs.Lists.{range};
 ghost use Rattle.model.specs.Walks.{gather};
 ghost use Rattle.model.specs.Bytes as Model;
-ghost use Rattle.counts.specs.Reach.{headsOf};
-ghost use Rattle.telling.specs.Rows.{lowestOf, lowestAt};
+ghost use Rattle.telling.specs.Rows.{headsMet, lowestOf, lowestAt};
 
 fn lower(low: u16, a: u16) -> u16
     ensures { λ r. ⌜ r ≡ min low a ⌝ }
@@ -87,7 +86,7 @@ pub fn by_lists(m: &[u8], asked: Asked, heads: u8, step: u16, head: u16, low: u1
 
 pub fn by_mails(m: &[u8], asked: Asked, cell: u16, left: u8, low: u16) -> u16
     requires { ⌜ (length (now m) ≡ 8192) × (cell < 8192) ⌝ }
-    ensures { λ r. ⌜ r ≡ lowestOf (now (m .entry)) asked low (gather (Model.met (now (m .entry))) (headsOf 2 Map.q1 (Model.path left (now (m .entry)) Map.listLink cell))) ⌝ }
+    ensures { λ r. ⌜ r ≡ lowestOf (now (m .entry)) asked low (gather (Model.met (now (m .entry))) (headsMet 2 Map.q1 left (now (m .entry)) cell)) ⌝ }
 {
     if left == 0 {
         return low;
@@ -132,7 +131,7 @@ pub fn by_heads(
     low: u16,
 ) -> u16
     requires { ⌜ (length (now m) ≡ 8192) × (word + 2 * heads < 32) × (cell < 8192) ⌝ }
-    ensures { λ r. ⌜ r ≡ lowestAt (now (m .entry)) asked low (headsOf heads word (Model.path left (now (m .entry)) Map.listLink cell)) ⌝ }
+    ensures { λ r. ⌜ r ≡ lowestAt (now (m .entry)) asked low (headsMet heads word left (now (m .entry)) cell) ⌝ }
 {
     if left == 0 {
         return low;

@@ -16,8 +16,7 @@ ghost use Rattle.model.specs.Store.{bytes};
 ghost use Rattle.model.specs.Classes as Classes;
 ghost use Rattle.model.specs.Classes.{used};
 ghost use Rattle.model.specs.Bytes as Model;
-ghost use Rattle.counts.specs.Reach.{headsOf};
-ghost use Rattle.telling.specs.Rows.{controlAt, here};
+ghost use Rattle.telling.specs.Rows.{controlAt, here, headsMet};
 
 // The control page in a cell; 0 where its word is no number of one.
 pub fn control_at(m: &[u8], cell: u16) -> u8
@@ -135,7 +134,7 @@ fn met_range(m: &[u8], page: u8, heads: u8, step: u16, head: u16) -> u16
 
 fn met_heads(m: &[u8], page: u8, heads: u8, word: u16, cell: u16, left: u8) -> u16
     requires { ⌜ (length (now m) ≡ 8192) × (heads ≤ 2) × (word + 2 * heads < 32) × (cell < 8192) ⌝ }
-    ensures { λ r. ⌜ (r ≡ sum page (Model.met (now (m .entry))) (headsOf heads word (Model.path left (now (m .entry)) Map.listLink cell))) × (r ≤ 42 * left) ⌝ }
+    ensures { λ r. ⌜ (r ≡ sum page (Model.met (now (m .entry))) (headsMet heads word left (now (m .entry)) cell)) × (r ≤ 42 * left) ⌝ }
 {
     if left == 0 {
         return 0;

@@ -1,5 +1,5 @@
 use borrow.Author.Needs.{needs}
-use Rattle.telling.proofs.Laws.{tellings}
+use Rattle.telling.proofs.Lows.{lows}
 use Rattle.telling.proofs.sentences.chains_end.Statement.{statement}
 use Rattle.telling.proofs.sentences.chains_end.Tie as tie
 
@@ -8,4 +8,4 @@ chains-end-spec = tie.close (tie.spec
     (λ c κs. search needs)
     (λ c κs. search needs)
     (λ c κs. search needs)
-    (λ c. search (needs, tellings)))
+    (λ c. search (needs, lows)))

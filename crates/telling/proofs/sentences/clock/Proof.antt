@@ -1,6 +1,6 @@
 use borrow.Author.Needs.{needs}
 use Rattle.model.specs.Classes as Classes
-use Rattle.telling.proofs.Laws.{tellings}
+use Rattle.telling.proofs.Lows.{lows}
 use Rattle.telling.proofs.sentences.clock.Statement.{statement}
 use Rattle.telling.proofs.sentences.clock.Tie as tie
 
@@ -14,4 +14,4 @@ clock-spec = tie.close (tie.spec
     (λ c κs. search needs)
     (λ c κs. search needs)
     (λ c κs. search needs)
-    (λ c. search (needs, tellings) depth 9))
+    (λ c. search (needs, lows) depth 9))

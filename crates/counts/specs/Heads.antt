@@ -1,4 +1,4 @@
--- A rule at a memory, and the heads in the pages of a list.
+-- A rule at the lists of a memory's heads, and the heads in the pages of a list.
 use Prim.Native.Nat.{ℕ}
 use mathlib.Core.List.{List, [], _∷_, _++_}
 use Rattle.model.specs.Map.{place, processorList}
