@@ -53,34 +53,49 @@ word10 k h = go (hit-or k 0) (hit-or (k / 16) 0)
     go (inr e) (inr f) = spared (omega (arith, range1-at 16 (grantFor 16) (grantFor k) (omega arith) (omega arith)))
 
 -- what the five classes say, sentence by sentence
-pub record Clean (m : List ℕ) (ps : List ℕ) : Type 0 where
+pub record CleanPages (m : List ℕ) (ps : List ℕ) : Type 0 where
   pub usedOnce : Means (Classes.usedOnce bytes m ps (met m))
   pub usesEnd : Means (Classes.usesEnd bytes m ps (met m))
+
+pub record CleanWaits (m : List ℕ) (ps : List ℕ) : Type 0 where
   pub queuesEnd : Means (Classes.queuesEnd bytes m ps (met m))
   pub waitingBits : Means (Classes.waitingBits bytes m ps (met m))
   pub reasons : Means (Classes.reasons bytes m ps (met m))
   pub messageWaits : Means (Classes.messageWaits bytes m ps (met m))
   pub semaphores : Means (Classes.semaphores bytes m ps (met m))
   pub pageWaits : Means (Classes.pageWaits bytes m ps (met m))
+
+pub record CleanRecords (m : List ℕ) (ps : List ℕ) : Type 0 where
   pub labels : Means (Classes.labels bytes m ps (met m))
   pub granted : Means (Classes.granted bytes m ps (met m))
   pub messages : Means (Classes.messages bytes m ps (met m))
+
+pub record CleanTables (m : List ℕ) (ps : List ℕ) : Type 0 where
   pub codes : Means (Classes.codes bytes m ps (met m))
   pub faults : Means (Classes.faults bytes m ps (met m))
+
+pub record CleanCounters (m : List ℕ) (ps : List ℕ) : Type 0 where
   pub clock : Means (Classes.clock bytes m ps (met m))
   pub running : Means (Classes.running bytes m ps (met m))
+
+pub record Clean (m : List ℕ) (ps : List ℕ) : Type 0 where
+  pub pages : CleanPages m ps
+  pub waits : CleanWaits m ps
+  pub records : CleanRecords m ps
+  pub tables : CleanTables m ps
+  pub counters : CleanCounters m ps
 
 module _ (m : List ℕ) (c : Clean m (met m processorList)) where
   spare-zero : (a : ℕ) → 1 ≤ count a spare → getD m a 0 ≡ 0
   unfolding Classes.labels Classes.granted Classes.messages Classes.nought
-  spare-zero a h = c .granted .1 .0 a h
+  spare-zero a h = c .records .granted .1 .0 a h
 
   once : (z : ℕ) → sum z (met m) (uses (met m processorList)) ≡ one z
   unfolding Classes.usedOnce Classes.usesEnd Classes.once
   once z = used-uses z (met m) (met m processorList) (λ a h. met-none m a (spare-grant a h) (spare-zero a h)) ∙ go (page-or z)
     where
       go : Page z ⊎ (one z ≡ 0) → sum z (met m) (used (met m processorList)) ≡ one z
-      go (inl p) = c .usedOnce .0 z (omega (arith, range1-at controlPages firstControl z (p .0) (omega arith))) ∙ sym (page-one z p)
+      go (inl p) = c .pages .usedOnce .0 z (omega (arith, range1-at controlPages firstControl z (p .0) (omega arith))) ∙ sym (page-one z p)
       go (inr e) = sum-pos z (met m) (used (met m processorList)) (λ a i. none-else (met m a) (met-pages m a) z e) ∙ sym e
 
   only : (z : ℕ) → sum z (met m) (queues (met m processorList)) ≤ count z (met m processorList)
@@ -88,7 +103,7 @@ module _ (m : List ℕ) (c : Clean m (met m processorList)) where
   only z = go (page-or z)
     where
       go : Page z ⊎ (one z ≡ 0) → sum z (met m) (queues (met m processorList)) ≤ count z (met m processorList)
-      go (inl p) = c .waitingBits .1 .0 z (omega (arith, range1-at controlPages firstControl z (p .0) (omega arith)))
+      go (inl p) = c .waits .waitingBits .1 .0 z (omega (arith, range1-at controlPages firstControl z (p .0) (omega arith)))
       go (inr e) = omega (arith, sum-pos z (met m) (queues (met m processorList)) (λ a i. none-else (met m a) (met-pages m a) z e))
 
   sep : Sep (met m processorList) (met m)
@@ -100,11 +115,11 @@ module _ (m : List ℕ) (c : Clean m (met m processorList)) where
   pointed a h = go (zero-or (count a (uses (met m processorList))))
     where
       go : (count a (uses (met m processorList)) ≡ 0) ⊎ (1 ≤ count a (uses (met m processorList))) → Pointer m (lastCell (linkOf a) a (met m a))
-      go (inl e) = c .queuesEnd .0 a (omega (arith, h .0, count-append a (uses (met m processorList)) (queues (met m processorList))))
+      go (inl e) = c .waits .queuesEnd .0 a (omega (arith, h .0, count-append a (uses (met m processorList)) (queues (met m processorList))))
       go (inr i) = chain (zero-or (count a (range pageSize 1 grants)))
         where
           chain : (count a (range pageSize 1 grants) ≡ 0) ⊎ (1 ≤ count a (range pageSize 1 grants)) → Pointer m (lastCell (linkOf a) a (met m a))
-          chain (inl e) = c .usesEnd .0 a (omega (arith, count-append a (mails (met m processorList)) (range pageSize 1 grants)))
+          chain (inl e) = c .pages .usesEnd .0 a (omega (arith, count-append a (mails (met m processorList)) (range pageSize 1 grants)))
           chain (inr j) =
               let r = range1-of pageSize grants a j in
               let q : grantFor (a - grants) ≡ a = omega arith in
@@ -126,13 +141,13 @@ module _ (m : List ℕ) (c : Clean m (met m processorList)) where
     where
       go : Word10 k → met m (grantFor k) ≡ some (getD m (grantFor k) 0)
       go (holder u v) =
-          met-some m (grantFor k) (grant-is k h) (c .usesEnd .1 .0 (grantFor k)
+          met-some m (grantFor k) (grant-is k h) (c .pages .usesEnd .1 .0 (grantFor k)
           (omega (arith, range1-at lastName (grantFor 1) (grantFor k) (omega arith) (omega arith))))
       go (spared s) = let e = spare-zero (grantFor k) s in met-none m (grantFor k) (grant-is k h) e ∙ sym (ap some e)
 
   names : (p : ℕ) → 1 ≤ count p (met m processorList) → means (Judge.label bytes m (met m processorList) (met m) p)
   unfolding Classes.labels Classes.granted Classes.messages
-  names = c .labels .0
+  names = c .records .labels .0
 
   known : (k : ℕ) → k < pageSize → length (met m (grantFor k)) ≢ 0 → bearers (view m .label) (met m processorList) k ≡ 1
   unfolding Classes.labels Classes.granted Classes.messages Classes.existing Judge.label
@@ -145,7 +160,7 @@ module _ (m : List ℕ) (c : Clean m (met m processorList)) where
       go (inl e) w = absurd (n (none e))
       go (inr e) (spared s) = absurd (e (spare-zero (grantFor k) s))
       go (inr e) (holder u v) =
-          let i = c .granted .0 k (omega (arith, range1-at lastName 1 k (omega arith) (omega arith))) e in
+          let i = c .records .granted .0 k (omega (arith, range1-at lastName 1 k (omega arith) (omega arith))) e in
           let t = bearer-of (λ p. lower (word m p Map.label)) (met m processorList) k i in
           rw (t .is) at (names (t .who) (t .here) .0)
 
@@ -175,58 +190,58 @@ module _ (m : List ℕ) (c : Clean m (met m processorList)) where
               range = λ p h. let q = names p h in record { name = q .1 .0 .0; low = q .1 .1 .0; high = q .1 .1 .1 };
             };
             seats = record {
-              bit = λ p h. c .waitingBits .0 p h;
-              zeros = λ p h. c .labels .1 .0 p h;
-              served = λ k i p h. c .reasons .0 p (of-gather (met m) lines (headerAfter k) p
+              bit = λ p h. c .waits .waitingBits .0 p h;
+              zeros = λ p h. c .records .labels .1 .0 p h;
+              served = λ k i p h. c .waits .reasons .0 p (of-gather (met m) lines (headerAfter k) p
                   (omega (arith, range2-at interrupts (headerAfter 0) k i)) h);
-              asking = λ p h. c .reasons .1 .0 p h;
-              quiet = λ p h. c .reasons .1 .1 .0 p h;
+              asking = λ p h. c .waits .reasons .1 .0 p h;
+              quiet = λ p h. c .waits .reasons .1 .1 .0 p h;
             };
-            own = λ p h x i. let q = c .messageWaits .0 p h x i in record { owner = q .0; flag = q .1 .0; none = q .1 .1 };
+            own = λ p h x i. let q = c .waits .messageWaits .0 p h x i in record { owner = q .0; flag = q .1 .0; none = q .1 .1 };
             sems = λ s h. sems m (met m)
-                (λ k i. c .semaphores .0 k (omega (arith, range1-at interrupts 0 k (omega arith) (omega arith))))
-                (proc-page sep) (c .semaphores .1 .0) (c .semaphores .1 .1 .0 freeSemaphore (omega (arith, hit-self freeSemaphore))) s
+                (λ k i. c .waits .semaphores .0 k (omega (arith, range1-at interrupts 0 k (omega arith) (omega arith))))
+                (proc-page sep) (c .waits .semaphores .1 .0) (c .waits .semaphores .1 .1 .0 freeSemaphore (omega (arith, hit-self freeSemaphore))) s
                 (seat-of (met m processorList) s h);
             granted = record {
               bare = λ p h.
-                  let g = c .pageWaits .1 .0 p h in
+                  let g = c .waits .pageWaits .1 .0 p h in
                   let k : lower (word m p Map.label) < pageSize = omega arith in (
-                    c .pageWaits .0 p h,
+                    c .waits .pageWaits .0 p h,
                     ap length (met-none m (grantFor (lower (word m p Map.label))) (grant-is (lower (word m p Map.label)) k) g),
                   );
               known = λ k h d n. known k h n;
             };
-            mail = λ p v h i j q d. of-rule (c .messages .0 q (of-gather (met m) (mails (met m processorList)) (place p v) q
+            mail = λ p v h i j q d. of-rule (c .records .messages .0 q (of-gather (met m) (mails (met m processorList)) (place p v) q
                 (omega (arith, mails-of-at p v h i j)) d));
             runs = record {
-              idle = c .running .1 .1 .0 runningLabel (omega (arith, hit-self runningLabel)) .0;
-              listed = λ z. c .running .0 runningPage (omega (arith, hit-self runningPage)) z .0;
-              tag = c .running .1 .1 .0 runningLabel (omega (arith, hit-self runningLabel)) .1;
+              idle = c .counters .running .1 .1 .0 runningLabel (omega (arith, hit-self runningLabel)) .0;
+              listed = λ z. c .counters .running .0 runningPage (omega (arith, hit-self runningPage)) z .0;
+              tag = c .counters .running .1 .1 .0 runningLabel (omega (arith, hit-self runningLabel)) .1;
             };
             codes = record {
-              kinds = λ k h. c .codes .0 k (omega (arith, range1-at allCodes 0 k (omega arith) (omega arith)));
-              zero = c .codes .1 .0 0 (omega (arith, range1-at 2 0 0 (omega arith) (omega arith)));
-              one = c .codes .1 .0 1 (omega (arith, range1-at 2 0 1 (omega arith) (omega arith)));
-              last = c .codes .1 .1 .0 builtInCodes (omega (arith, range1-at 1 builtInCodes builtInCodes (omega arith) (omega arith)));
+              kinds = λ k h. c .tables .codes .0 k (omega (arith, range1-at allCodes 0 k (omega arith) (omega arith)));
+              zero = c .tables .codes .1 .0 0 (omega (arith, range1-at 2 0 0 (omega arith) (omega arith)));
+              one = c .tables .codes .1 .0 1 (omega (arith, range1-at 2 0 1 (omega arith) (omega arith)));
+              last = c .tables .codes .1 .1 .0 builtInCodes (omega (arith, range1-at 1 builtInCodes builtInCodes (omega arith) (omega arith)));
             };
             clock = record {
-              c0 = c .clock .1 .0 Map.c0 (omega (arith, hit-self Map.c0));
-              c1 = c .clock .1 .1 .0 Map.c1 (omega (arith, hit-self Map.c1));
-              c2 = c .clock .1 .1 .1 .0 Map.c2 (omega (arith, hit-self Map.c2));
-              c3 = c .clock .1 .1 .1 .1 .0 Map.c3 (omega (arith, hit-self Map.c3));
-              divider = c .clock .1 .1 .1 .1 .1 .1 .0 Map.divider (omega (arith, hit-self Map.divider));
-              line = c .clock .0 clockLine (omega (arith, hit-self clockLine));
-              nought = c .clock .1 .1 .1 .1 .1 .0 zeroWord (omega (arith, hit-self zeroWord));
+              c0 = c .counters .clock .1 .0 Map.c0 (omega (arith, hit-self Map.c0));
+              c1 = c .counters .clock .1 .1 .0 Map.c1 (omega (arith, hit-self Map.c1));
+              c2 = c .counters .clock .1 .1 .1 .0 Map.c2 (omega (arith, hit-self Map.c2));
+              c3 = c .counters .clock .1 .1 .1 .1 .0 Map.c3 (omega (arith, hit-self Map.c3));
+              divider = c .counters .clock .1 .1 .1 .1 .1 .1 .0 Map.divider (omega (arith, hit-self Map.divider));
+              line = c .counters .clock .0 clockLine (omega (arith, hit-self clockLine));
+              nought = c .counters .clock .1 .1 .1 .1 .1 .0 zeroWord (omega (arith, hit-self zeroWord));
             };
             faults = record {
-              range = c .faults .0 firstUnused (omega (arith, hit-self firstUnused));
-              used = λ i h l. let q = c .faults .1 .0 i (in-entries i h) .0 l in record { name = q .0; fault = q .1 };
-              unused = λ i h l. c .faults .1 .0 i (in-entries i h) .1 l;
+              range = c .tables .faults .0 firstUnused (omega (arith, hit-self firstUnused));
+              used = λ i h l. let q = c .tables .faults .1 .0 i (in-entries i h) .0 l in record { name = q .0; fault = q .1 };
+              unused = λ i h l. c .tables .faults .1 .0 i (in-entries i h) .1 l;
             };
           };
           all = λ z. omega (arith, once z);
         };
-        best = record { ready = λ z. c .running .0 runningPage (omega (arith, hit-self runningPage)) z .1; top = top };
+        best = record { ready = λ z. c .counters .running .0 runningPage (omega (arith, hit-self runningPage)) z .1; top = top };
       }
     where
       in-entries : (i : ℕ) → i < entries → 1 ≤ count i (range entries 1 0)
@@ -237,6 +252,6 @@ module _ (m : List ℕ) (c : Clean m (met m processorList)) where
 
       top : (p : ℕ) → 1 ≤ count p (met m processorList) → suc (word m p Map.state) ≤ waitBit → upper (word m p Map.label) ≤ upper (getD m runningLabel 0)
       top p h l =
-          let q = c .running .1 .0 p h l in
-          let e = c .running .1 .1 .0 runningLabel (omega (arith, hit-self runningLabel)) .1 (eqb-false (getD m runningPage 0) 0 (q .0)) in
+          let q = c .counters .running .1 .0 p h l in
+          let e = c .counters .running .1 .1 .0 runningLabel (omega (arith, hit-self runningLabel)) .1 (eqb-false (getD m runningPage 0) 0 (q .0)) in
           rw e (q .1)

@@ -22,7 +22,7 @@ use Rattle.model.specs.Classes as Classes
 use Rattle.model.specs.Walks.{lastCell, gather}
 use Rattle.model.specs.Classes.{chains, holders, used, controls, lines}
 use Rattle.laws.specs.Count.{hit-self, hit-other, hit-or, count-append, zero-or, bearer-of}
-use Rattle.laws.specs.Tells.{Means}
+use Rattle.laws.specs.Sentences.{_and_}
 use Rattle.laws.specs.Heads.{one, page-one, sum-ext, range1-of, range2-of, mails-of, owns-of, Place, queues-place}
 use Rattle.laws.specs.Heads.Place.{int, three, grant, slot}
 use Rattle.laws.specs.Uses.{Among, Sep, proc-page, list-short}
@@ -31,7 +31,7 @@ use Rattle.laws.specs.Places.{in-uses, in-queues, in-procs, in-free, in-
 use Rattle.laws.specs.Places.{grant-is, grant-of, grant-low, grant-high, all-pages}
 use Rattle.laws.specs.Inv.{noOne, view, bearers, stock-page, stock-else, Facts, Inv}
 use Rattle.laws.specs.Accepted.{MessageRule, as-rule}
-use Rattle.laws.specs.Cleared.{spare-grant, Clean}
+use Rattle.laws.specs.Cleared.{spare-grant, Clean, CleanPages, CleanWaits, CleanRecords, CleanTables, CleanCounters}
 
 -- the one of a list of one
 only-one : (a x : ℕ) → 1 ≤ count a (x ∷ []) → a ≡ x
@@ -111,9 +111,9 @@ module _ (m : List ℕ) (ps : List ℕ) (L : Lists) (i : Inv m ps L (view m)) wh
   ended : (a : ℕ) → Among ps a → isGrant a ≡ false → Pointer m (lastCell (linkOf a) a (met m a))
   ended a h e = rw (agree a h) (λ n. absurd (n (chain-last m (linkOf a) a (L a) (i .base .mem .holds .rep a (h, e)))))
 
-  pub pages-clean : Means (Classes.usedOnce bytes m ps (met m)) × Means (Classes.usesEnd bytes m ps (met m))
+  pub pages-clean : CleanPages m ps
   unfolding Classes.usedOnce Classes.usesEnd Classes.once Classes.ends Classes.pointer
-  pages-clean = ((once, tt), (λ a h. ended a (in-uses ps a (among a h)) (chain-not a h), (held-page, tt)))
+  pages-clean = record { usedOnce = (once, tt); usesEnd = (λ a h. ended a (in-uses ps a (among a h)) (chain-not a h)) and held-page and tt }
     where
       once : (z : ℕ) → 1 ≤ count z controls → sum z (met m) (used ps) ≡ 1
       once z h =
@@ -146,16 +146,7 @@ module _ (m : List ℕ) (ps : List ℕ) (L : Lists) (i : Inv m ps L (view m)) wh
           let q : grantFor (a - grants) ≡ a = omega arith in
           rw q at (grant-pointer (a - grants) (omega arith))
 
-  -- "a wait queue or semaphore"
-  pub record WaitsClean : Type 0 where
-    pub queuesEnd : Means (Classes.queuesEnd bytes m ps (met m))
-    pub waitingBits : Means (Classes.waitingBits bytes m ps (met m))
-    pub reasons : Means (Classes.reasons bytes m ps (met m))
-    pub messageWaits : Means (Classes.messageWaits bytes m ps (met m))
-    pub semaphores : Means (Classes.semaphores bytes m ps (met m))
-    pub pageWaits : Means (Classes.pageWaits bytes m ps (met m))
-
-  pub waits-clean : WaitsClean
+  pub waits-clean : CleanWaits m ps
   unfolding Classes.queuesEnd Classes.waitingBits Classes.reasons Classes.messageWaits Classes.semaphores Classes.pageWaits Classes.pageSemaphore Classes.ends
       Classes.pointer Classes.noneFree Classes.noGrant Judge.bit Judge.waiter Judge.reasoned Judge.reasonless Judge.quiet
       Judge.unasked Judge.owner Judge.messageWait Judge.interruptSemaphore Judge.messageSemaphore Judge.pageSemaphore
@@ -231,13 +222,7 @@ module _ (m : List ℕ) (ps : List ℕ) (L : Lists) (i : Inv m ps L (view m)) wh
           let k = lower (word m p Map.label) in
           some-none (getD m (grantFor k) 0) (sym (ap length (held k (omega arith))) ∙ f .granted .bare p h .1)
 
-  -- "a processor or message record"
-  pub record RecordsClean : Type 0 where
-    pub labels : Means (Classes.labels bytes m ps (met m))
-    pub granted : Means (Classes.granted bytes m ps (met m))
-    pub messages : Means (Classes.messages bytes m ps (met m))
-
-  pub records-clean : RecordsClean
+  pub records-clean : CleanRecords m ps
   unfolding Classes.labels Classes.granted Classes.messages Classes.existing Classes.nought Judge.label Judge.zeroBits Judge.sized Judge.message
   records-clean = record {
     labels = (
@@ -256,55 +241,40 @@ module _ (m : List ℕ) (ps : List ℕ) (L : Lists) (i : Inv m ps L (view m)) wh
           ap (met m) (s .is) ∙ agree (place (s .page) (s .word)) (in-q ps (s .page) (s .word) (s .low) (s .high) (s .proc)) in
           as-rule (f .mail (s .page) (s .word) (s .proc) (s .low) (s .high) q (rw e at (t .there)))
 
-  pub tables-clean : Means (Classes.codes bytes m ps (met m)) × Means (Classes.faults bytes m ps (met m))
+  pub tables-clean : CleanTables m ps
   unfolding Classes.codes Classes.faults Classes.isBuiltIn Classes.isForeign Classes.inRange Judge.kind Judge.used Judge.entry
-  tables-clean = (
-    (
-      λ k h. f .codes .kinds k (range1-of allCodes 0 k h .1),
-      (
-        λ k h. built k (hit-or k 0) (range1-of 2 0 k h .1),
-        (λ k h. let r = range1-of 1 builtInCodes k h in let e : k ≡ builtInCodes = omega arith in rw e (f .codes .last), tt),
-      ),
-    ),
-    (
-      λ a h. rw (only-one a firstUnused h) (f .faults .range),
-      (
-        λ k h.
+  tables-clean = record {
+    codes = (λ k h. f .codes .kinds k (range1-of allCodes 0 k h .1))
+        and (λ k h. built k (hit-or k 0) (range1-of 2 0 k h .1))
+        and (λ k h. let r = range1-of 1 builtInCodes k h in let e : k ≡ builtInCodes = omega arith in rw e (f .codes .last))
+        and tt;
+    faults = (λ a h. rw (only-one a firstUnused h) (f .faults .range))
+        and (λ k h.
             let l = range1-of entries 0 k h .1 in
-            ((λ u. let t = f .faults .used k l u in (t .name, t .fault)), f .faults .unused k l),
-        tt,
-      ),
-    ),
-  )
+            ((λ u. let t = f .faults .used k l u in (t .name, t .fault)), f .faults .unused k l))
+        and tt;
+  }
     where
       built : (k : ℕ) → (k ≡ 0) ⊎ (k ≢ 0) → k < 2 → Map.top (getD m (codeWord k) 0) ≡ 1
       built k (inl e) l = rw e (f .codes .zero)
       built k (inr n) l = let e : k ≡ 1 = omega arith in rw e (f .codes .one)
 
-  pub counts-clean : Means (Classes.clock bytes m ps (met m)) × Means (Classes.running bytes m ps (met m))
+  pub counts-clean : CleanCounters m ps
   unfolding Classes.clock Classes.running Classes.outer Classes.below Classes.positive Classes.nought Classes.runner Classes.notHigher Classes.shown
-  counts-clean = (
-    (
-      λ a h. rw (only-one a clockLine h) (f .clock .line),
-      (
-        λ a h. rw (only-one a Map.c0 h) (f .clock .c0),
-        (
-          λ a h. rw (only-one a Map.c1 h) (f .clock .c1),
-          (
-            λ a h. rw (only-one a Map.c2 h) (f .clock .c2),
-            (
-              λ a h. rw (only-one a Map.c3 h) (f .clock .c3),
-              (λ a h. rw (only-one a zeroWord h) (f .clock .nought), (λ a h. rw (only-one a Map.divider h) (f .clock .divider), tt)),
-            ),
-          ),
-        ),
-      ),
-    ),
-    (
-      λ a h. rw (only-one a runningPage h) (λ n. (f .runs .listed n, i .best .ready n)),
-      (top, (λ a h. rw (only-one a runningLabel h) (f .runs .idle, f .runs .tag), tt)),
-    ),
-  )
+  counts-clean = record {
+    clock = (λ a h. rw (only-one a clockLine h) (f .clock .line))
+        and (λ a h. rw (only-one a Map.c0 h) (f .clock .c0))
+        and (λ a h. rw (only-one a Map.c1 h) (f .clock .c1))
+        and (λ a h. rw (only-one a Map.c2 h) (f .clock .c2))
+        and (λ a h. rw (only-one a Map.c3 h) (f .clock .c3))
+        and (λ a h. rw (only-one a zeroWord h) (f .clock .nought))
+        and (λ a h. rw (only-one a Map.divider h) (f .clock .divider))
+        and tt;
+    running = (λ a h. rw (only-one a runningPage h) (λ n. (f .runs .listed n, i .best .ready n)))
+        and top
+        and (λ a h. rw (only-one a runningLabel h) (f .runs .idle, f .runs .tag))
+        and tt;
+  }
     where
       top : (p : ℕ) → 1 ≤ count p ps → suc (word m p Map.state) ≤ waitBit
           → (eqb (getD m runningPage 0) 0 ≡ false) × (upper (word m p Map.label) ≤ upper (word m (getD m runningPage 0) Map.label))
@@ -316,23 +286,6 @@ module _ (m : List ℕ) (ps : List ℕ) (L : Lists) (i : Inv m ps L (view m)) wh
           go (inr n) = (ne-eqb (getD m runningPage 0) 0 n, rw (f .runs .tag n) at (i .best .top p h l))
 
   pub inv-clean : Clean m (met m processorList)
-  inv-clean = rw (agree processorList (in-procs ps) ∙ sep .procs) (
-      let w = waits-clean in
-      let r = records-clean in
-      record {
-        usedOnce = pages-clean .0;
-        usesEnd = pages-clean .1;
-        queuesEnd = w .queuesEnd;
-        waitingBits = w .waitingBits;
-        reasons = w .reasons;
-        messageWaits = w .messageWaits;
-        semaphores = w .semaphores;
-        pageWaits = w .pageWaits;
-        labels = r .labels;
-        granted = r .granted;
-        messages = r .messages;
-        codes = tables-clean .0;
-        faults = tables-clean .1;
-        clock = counts-clean .0;
-        running = counts-clean .1;
-      })
+  inv-clean =
+      rw (agree processorList (in-procs ps) ∙ sep .procs)
+      (record { pages = pages-clean; waits = waits-clean; records = records-clean; tables = tables-clean; counters = counts-clean })

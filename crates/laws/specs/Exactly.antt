@@ -21,11 +21,12 @@ use Rattle.laws.specs.Clears.{inv-clean}
 classes-of : (m : List ℕ) → Clean m (met m processorList) → Clear (Classes.classes bytes m (met m processorList) (met m))
 unfolding Classes.classes Classes.ofPages Classes.ofWaits Classes.ofRecords Classes.ofTables Classes.ofCounters
 classes-of m c =
-    means-clear-in _ (c .usedOnce and c .usesEnd and tt)
-    and means-clear-in _ (c .queuesEnd and c .waitingBits and c .reasons and c .messageWaits and c .semaphores and c .pageWaits and tt)
-    and means-clear-in _ (c .labels and c .granted and c .messages and tt)
-    and means-clear-in _ (c .codes and c .faults and tt)
-    and means-clear-in _ (c .clock and c .running and tt)
+    let w = c .waits in
+    means-clear-in _ (c .pages .usedOnce and c .pages .usesEnd and tt)
+    and means-clear-in _ (w .queuesEnd and w .waitingBits and w .reasons and w .messageWaits and w .semaphores and w .pageWaits and tt)
+    and means-clear-in _ (c .records .labels and c .records .granted and c .records .messages and tt)
+    and means-clear-in _ (c .tables .codes and c .tables .faults and tt)
+    and means-clear-in _ (c .counters .clock and c .counters .running and tt)
     and tt
 
 of-classes : (m : List ℕ) → Clear (Classes.classes bytes m (met m processorList) (met m)) → Clean m (met m processorList)
@@ -37,21 +38,18 @@ of-classes m c =
     let t = clear-means-in _ (c .1 .1 .1 .0) in
     let n = clear-means-in _ (c .1 .1 .1 .1 .0) in
     record {
-      usedOnce = p .0;
-      usesEnd = p .1 .0;
-      queuesEnd = w .0;
-      waitingBits = w .1 .0;
-      reasons = w .1 .1 .0;
-      messageWaits = w .1 .1 .1 .0;
-      semaphores = w .1 .1 .1 .1 .0;
-      pageWaits = w .1 .1 .1 .1 .1 .0;
-      labels = r .0;
-      granted = r .1 .0;
-      messages = r .1 .1 .0;
-      codes = t .0;
-      faults = t .1 .0;
-      clock = n .0;
-      running = n .1 .0;
+      pages = record { usedOnce = p .0; usesEnd = p .1 .0 };
+      waits = record {
+        queuesEnd = w .0;
+        waitingBits = w .1 .0;
+        reasons = w .1 .1 .0;
+        messageWaits = w .1 .1 .1 .0;
+        semaphores = w .1 .1 .1 .1 .0;
+        pageWaits = w .1 .1 .1 .1 .1 .0;
+      };
+      records = record { labels = r .0; granted = r .1 .0; messages = r .1 .1 .0 };
+      tables = record { codes = t .0; faults = t .1 .0 };
+      counters = record { clock = n .0; running = n .1 .0 };
     }
 
 -- ---- both ways
