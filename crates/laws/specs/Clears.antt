@@ -250,8 +250,8 @@ module _ (m : List ℕ) (ps : List ℕ) (L : Lists) (i : Inv m ps L (view m)) wh
         and tt;
     faults = (λ a h. rw (only-one a firstUnused h) (f .faults .range))
         and (λ k h.
-            let l = range1-of entries 0 k h .1 in
-            ((λ u. let t = f .faults .used k l u in (t .name, t .fault)), f .faults .unused k l))
+        let l = range1-of entries 0 k h .1 in
+        ((λ u. let t = f .faults .used k l u in (t .name, t .fault)), f .faults .unused k l))
         and tt;
   }
     where
