@@ -12,7 +12,8 @@ use Rattle.model.specs.Bytes.{Memory, Step, at, write, running, name, stop, ent
 
 -- w is n made wide
 module _ (m : Memory) (e n : ℕ) (en : n ≡ at m firstUnused) where
-  pub enter-room : (m₁ m₂ : Memory) (w : ℕ) → n < entriesFull → w ≡ n → m₁ ≡ write m (entryAt w) e → m₂ ≡ write m₁ firstUnused (n + 1) → m₂ ≡ entered m e
+  pub enter-room : (m₁ m₂ : Memory) (w : ℕ) → n < entriesFull → w ≡ n → m₁ ≡ write m (entryAt w) e → m₂ ≡ write m₁ firstUnused (n + 1)
+      → m₂ ≡ entered m e
   unfolding Faults.entered
   enter-room m₁ m₂ w h ew e₁ e₂ = rw (← en, lt-ltb n entriesFull h, ← ew, ← e₁, ew) e₂
 

@@ -10,13 +10,13 @@ use Rattle.model.specs.Map.{place, wordValues, wordA, low, semaphoreOf, xRegist
 use Rattle.model.specs.Address.{wrapped}
 use Rattle.model.specs.Instruction as Instruction
 use Rattle.model.specs.Processor as Processor
-use Rattle.model.specs.Processor.{accumulated}
+use Rattle.model.specs.Processor.{accumulated, carried}
 use Rattle.model.specs.Operate as Operate
 use Rattle.model.specs.Bytes.{Memory, Step, at, word, running, registersOf, handBack, addressAt, lr, advance, jumps, waits, adds, storesA, ands}
 use Rattle.model.specs.Bytes.{increments, worked, returnTo, reaches, follows, indexed}
 use Rattle.codes.specs.Sum as Sum
 use Rattle.codes.specs.Sum.{summed}
-use Rattle.processors.proofs.Records.{Bytes, carried, back-added}
+use Rattle.processors.proofs.Records.{Bytes, back-added}
 
 -- i is k made wide
 pub win-waits : (m m₁ : Memory) (o : Step) (k c i len : ℕ) → m₁ ≡ advance m len → i ≡ k → o ≡ waits m₁ (semaphoreOf i) c

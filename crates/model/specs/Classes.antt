@@ -1,7 +1,7 @@
 -- Say what is broken: "A table .. gives every rule on well-formed memory one class and the address told". Under each class its sentences, and
 -- of each sentence rows: of whom it speaks, the address that each tells, and what is asked of each. The rules are the judge's where it has one.
-use Prim.Native.Nat.{ℕ, zero, suc, _+_, _/_}
-use mathlib.Core.Bool.{Bool, true, false, cond, _&&_}
+use Prim.Native.Nat.{ℕ, suc, _+_, _/_}
+use mathlib.Core.Bool.{cond}
 use mathlib.Core.List.{List, [], _∷_, _++_}
 use lib.ListN.{length}
 use lib.Dec.{eqb, leb}
@@ -15,7 +15,7 @@ use Rattle.model.specs.Map.{state, interrupts, lastName, firstOuter, las
 use Rattle.model.specs.Address.{word, at}
 use Rattle.model.specs.Instruction.{builtIn}
 use Rattle.model.specs.Rule.{Rule, same, most, never, both, whenSame, unlessSame, whenMost, among, under}
-use Rattle.model.specs.Lists.{count, Lists, sum, range, linkOf, isGrant, mails, queues}
+use Rattle.model.specs.Lists.{count, Lists, sum, range, linkOf, mails, queues}
 use Rattle.model.specs.Judge as Judge
 use Rattle.model.specs.Walks.{met, lastCell, gather}
 use Rattle.model.specs.Answer.{brokenPages, brokenWaits, brokenRecords, brokenTables, brokenCounters}

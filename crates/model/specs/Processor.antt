@@ -102,15 +102,24 @@ inRange r =
     (cond (ltb lastAddress (r .lr)) false
     (leb (r .w) fourBits))))))
 
--- the methods of the record: advance LR, set accumulator, set stopped bit
+-- the methods of the record: advance LR, set accumulator, jump, set P, set and clear the stopped bit
 abbrev pub advanced : Registers → ℕ → Registers
 advanced r n = record { a = r .a; s = r .s; p = r .p; z = r .z; ci = r .ci; lr = wrapped (r .lr) n; w = r .w; stopped = r .stopped }
 
 abbrev pub accumulated : Registers → ℕ → Registers
 accumulated r v = record { a = v; s = r .s; p = r .p; z = r .z; ci = r .ci; lr = r .lr; w = r .w; stopped = r .stopped }
 
+abbrev pub jumped : Registers → ℕ → Registers
+jumped r a = record { a = r .a; s = r .s; p = r .p; z = r .z; ci = r .ci; lr = a; w = r .w; stopped = r .stopped }
+
+abbrev pub carried : Registers → ℕ → Registers
+carried r v = record { a = r .a; s = r .s; p = v; z = r .z; ci = r .ci; lr = r .lr; w = r .w; stopped = r .stopped }
+
 abbrev pub stoppedOnce : Registers → Registers
 stoppedOnce r = record { a = r .a; s = r .s; p = r .p; z = r .z; ci = r .ci; lr = r .lr; w = r .w; stopped = oneBit }
+
+abbrev pub startedOnce : Registers → Registers
+startedOnce r = record { a = r .a; s = r .s; p = r .p; z = r .z; ci = r .ci; lr = r .lr; w = r .w; stopped = 0 }
 
 -- a record that is zero but for LR and W
 abbrev pub startingAt : ℕ → ℕ → Registers

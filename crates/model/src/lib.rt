@@ -170,7 +170,7 @@ impl Registers {
 
     // LR becomes the target.
     pub fn jump(mut self, target: u16) -> Self
-        ensures { λ r. ⌜ r ≡ record { a = self .a; s = self .s; p = self .p; z = self .z; ci = self .ci; lr = target; w = self .w; stopped = self .stopped } ⌝ }
+        ensures { λ r. ⌜ r ≡ Processor.jumped self target ⌝ }
     {
         self.lr = target;
         self
@@ -178,14 +178,14 @@ impl Registers {
 
     // P becomes the carry.
     pub fn set_carry(mut self, carry: u16) -> Self
-        ensures { λ r. ⌜ r ≡ record { a = self .a; s = self .s; p = carry; z = self .z; ci = self .ci; lr = self .lr; w = self .w; stopped = self .stopped } ⌝ }
+        ensures { λ r. ⌜ r ≡ Processor.carried self carry ⌝ }
     {
         self.p = carry;
         self
     }
 
     pub fn clear_stopped(mut self) -> Self
-        ensures { λ r. ⌜ r ≡ record { a = self .a; s = self .s; p = self .p; z = self .z; ci = self .ci; lr = self .lr; w = self .w; stopped = 0 } ⌝ }
+        ensures { λ r. ⌜ r ≡ Processor.startedOnce self ⌝ }
     {
         self.stopped = 0;
         self

@@ -11,22 +11,12 @@ use Rattle.model.specs.Map.{place, high, low, joined, lower, pIn, zIn, ciIn, th
 use Rattle.model.specs.Map.{wordA, wordS, highLr, lowLr, state}
 use Rattle.model.specs.Address.{wrapped}
 use Rattle.model.specs.Processor as Processor
-use Rattle.model.specs.Processor.{advanced, accumulated, stoppedOnce}
+use Rattle.model.specs.Processor.{advanced, accumulated, jumped, carried, stoppedOnce, startedOnce}
 use Rattle.model.specs.Bytes.{Memory, word, store, lrOf, running, stop, start, setLr, advance, registersOf, handBack}
 
 -- "words of 8 bits": what owning a slice of bytes says
 abbrev pub Bytes : Memory → Type 0
 Bytes m = (i : ℕ) → Fits w8 (getD m i 0)
-
--- the methods of the record that the model has no name for
-abbrev pub jumped : Registers → ℕ → Registers
-jumped r a = record { a = r .a; s = r .s; p = r .p; z = r .z; ci = r .ci; lr = a; w = r .w; stopped = r .stopped }
-
-abbrev pub carried : Registers → ℕ → Registers
-carried r v = record { a = r .a; s = r .s; p = v; z = r .z; ci = r .ci; lr = r .lr; w = r .w; stopped = r .stopped }
-
-abbrev pub startedOnce : Registers → Registers
-startedOnce r = record { a = r .a; s = r .s; p = r .p; z = r .z; ci = r .ci; lr = r .lr; w = r .w; stopped = 0 }
 
 -- ---- a value that was read comes back as it was
 z-bit : (w : ℕ) → zIn w % 2 ≡ zIn w
