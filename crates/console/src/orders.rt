@@ -18,6 +18,7 @@ use screen::pieces::word;
 use screen::state;
 use script::Order;
 use script::Seven;
+use words::low;
 ghost use mathlib.Core.Path.{_≡_};
 ghost use Prim.Native.Nat.{_≤_};
 ghost use lib.ListN.{length};
@@ -40,6 +41,42 @@ fn interrupt(m: &mut [u8], lent: usize, number: u16, class: u16)
     requires { ⌜ lent ≤ length (now m) ⌝ }
 {
     answer(kernel::interrupt(&mut m[0..lent], number, class));
+}
+
+// A number in a byte; one that is no byte as 255, which is as bad.
+fn in_byte(given: u16) -> u8 {
+    if map::A_WORD_WIDE < given {
+        return map::A_WORD;
+    }
+    low(given)
+}
+
+fn fill(list: &mut [u8], at: usize, value: u8)
+    requires { ⌜ at < length (now list) ⌝ }
+{
+    list[at] = value;
+}
+
+// The first `count` numbers given go into the list.
+fn gather(list: &mut [u8], given: &[u16], count: usize)
+    requires { ⌜ (count ≤ length (now list)) × (count ≤ length (now given)) ⌝ }
+{
+    if count == 0 {
+        return;
+    }
+    fill(list, count - 1, in_byte(given[count - 1]));
+    gather(list, given, count - 1);
+}
+
+fn burst(m: &mut [u8], lent: usize, given: &[u16], count: usize)
+    requires { ⌜ (lent ≤ length (now m)) × (length (now given) ≡ mostNumbers) ⌝ }
+{
+    if script::sizes::MOST_NUMBERS < count {
+        return;
+    }
+    let mut list = [0u8; script::sizes::MOST_NUMBERS];
+    gather(&mut list, given, count);
+    answer(kernel::burst(&mut m[0..lent], &list[0..count]));
 }
 
 fn registers(m: &[u8], lent: usize)
@@ -106,6 +143,7 @@ pub fn obey(
         Order::Fresh(line, divider) => fresh(m, lent, line, divider),
         Order::Step => step(m, lent),
         Order::Interrupt(number, class) => interrupt(m, lent, number, class),
+        Order::Burst(count) => burst(m, lent, given, count),
         Order::Registers => registers(m, lent),
         Order::Set(wanted) => set(m, lent, wanted),
         Order::Judge => tell_judged(m, lent),

@@ -118,10 +118,11 @@ unfolding
     Classes.pageSemaphore Classes.semaphores Classes.noneFree Classes.noGrant Classes.pageWaits Classes.ofWaits Classes.labels Classes.existing
     Classes.nought Classes.granted Classes.messages Classes.ofRecords Classes.isBuiltIn Classes.isForeign Classes.codes Classes.inRange
     Classes.faults Classes.ofTables Classes.outer Classes.below Classes.positive Classes.clock Classes.runner Classes.notHigher Classes.shown
-    Classes.running Classes.ofCounters Classes.classes Classes.toldOf Answer.answerOf Answer.memoryOf Answer.numbers Answer.heldNumbers
-    Answer.verdictNumbers Answer.done Answer.jumps Answer.waits Fault.entered Fault.fault Execute.run Execute.foreign Execute.isForeign
-    Execute.argumentFault Execute.argued Execute.exi Execute.taken Execute.decoded Execute.coded Execute.fetched Store.tget Store.tput Store.tzero
-    Store.getT Store.putT Store.sizeT Store.trees Rule.all Rule.every Rule.holds writes
+    Classes.running Classes.ofCounters Classes.classes Classes.toldOf Burst.isList Burst.tested Burst.arrived Burst.burstJudged Burst.burst
+    Answer.answerOf Answer.memoryOf Answer.numbers Answer.heldNumbers Answer.verdictNumbers Answer.done Answer.jumps Answer.waits Fault.entered
+    Fault.fault Execute.run Execute.foreign Execute.isForeign Execute.argumentFault Execute.argued Execute.exi Execute.taken Execute.decoded
+    Execute.coded Execute.fetched Store.tget Store.tput Store.tzero Store.getT Store.putT Store.sizeT Store.trees Rule.all Rule.every Rule.holds
+    writes
 at-trees = record {
   living2 = refl;
   living3 = refl;

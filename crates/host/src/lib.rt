@@ -1,4 +1,5 @@
 // The public calls for hosts in C: each takes the memory as a pointer with a length, and answers with one number (specs/Encoded.antt, include/wik.h).
+use kernel::burst;
 use kernel::fresh;
 use kernel::instruction;
 use kernel::interrupt;
@@ -100,6 +101,14 @@ pub extern "C" fn wik_interrupt(memory: &mut [u8], number: u16, class: u16) -> u
     ensures { λ _. ⌜ now (memory .exit) ≡ memoryOf (Model.interrupt (now (memory .entry)) number class) ⌝ }
 {
     encode(interrupt(memory, number, class))
+}
+
+#[no_mangle]
+pub extern "C" fn wik_burst(memory: &mut [u8], list: &[u8]) -> u64
+    ensures { λ r. ⌜ r ≡ encoded (answerOf (Model.burst (now (memory .entry)) (now (list .entry)))) ⌝ }
+    ensures { λ _. ⌜ now (memory .exit) ≡ memoryOf (Model.burst (now (memory .entry)) (now (list .entry))) ⌝ }
+{
+    encode(burst(memory, list))
 }
 
 #[no_mangle]

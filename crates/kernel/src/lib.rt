@@ -1,10 +1,16 @@
 // The public calls. Any memory, of any length, and any numbers get an answer; each contract gives answer and whole memory for every input, and says the same
 // by the paper's numbers of the answer.
+use arrivals::arrive;
+use arrivals::arrive_all;
+use arrivals::is_class;
+use arrivals::is_list;
+use arrivals::is_outer;
+use arrivals::test;
 use execute::fetched;
 use fresh::start;
 use fresh::startable;
-use interrupts::deliver;
 use model::Answer;
+use model::Checked;
 use model::Finding;
 use model::Held;
 use model::Registers;
@@ -13,13 +19,9 @@ use model::map;
 use model::refusals;
 use processors::lr;
 use processors::running;
-use turn::who_runs;
 use words::low;
 ghost use mathlib.Core.Path.{_≡_};
-ghost use Prim.Native.Nat.{_≤_, _%_};
 ghost use lib.ListN.{length};
-ghost use Rattle.model.specs.Map as Map;
-ghost use Rattle.model.specs.Call as Call;
 ghost use Rattle.model.specs.Answer.{numbers, heldNumbers, verdictNumbers};
 ghost use Rattle.model.specs.Answer.Outcome.{gives};
 ghost use Rattle.model.specs.Bytes as Model;
@@ -74,46 +76,13 @@ pub fn instruction(m: &mut [u8]) -> Answer
     }
 }
 
-// Whether the number is that of an interrupt from outside, and the class one that it may have.
-fn is_outer(number: u16) -> bool
-    ensures { λ r. ⌜ r ≡ Call.isOuter number ⌝ }
-{
-    if number < map::FIRST_OUTER_WIDE {
-        return false;
-    }
-    if map::LAST_OUTER_WIDE < number {
-        return false;
-    }
-    true
-}
-
-fn is_class(number: u16, class: u16) -> bool
-    ensures { λ r. ⌜ r ≡ Call.isClass number class ⌝ }
-{
-    if map::LAST_CLASS < class {
-        return false;
-    }
-    if number < map::FIRST_CLASSED_WIDE {
-        return class == 0;
-    }
-    true
-}
-
-// Its number in a byte; one of an interrupt stays as it is.
-fn in_byte(number: u16) -> u8
-    ensures { λ r. ⌜ (r ≡ Map.low (number % 55)) × (r ≤ 54) ⌝ }
-{
-    low(number % map::INTERRUPT_NUMBERS)
-}
-
 fn interrupt_judged(m: &mut [u8], number: u16, class: u16) -> Answer
     requires { ⌜ length (now m) ≡ 8192 ⌝ }
     ensures { λ r. ⌜ gives r (now (m .exit)) ≡ Model.interruptJudged (now (m .entry)) number class ⌝ }
 {
     if is_outer(number) {
         if is_class(number, class) {
-            deliver(m, in_byte(number), low(class));
-            who_runs(m);
+            arrive(m, number, class);
             return Answer::Done;
         }
         return Answer::Refused(refusals::WRONG_CLASS);
@@ -128,6 +97,34 @@ pub fn interrupt(m: &mut [u8], number: u16, class: u16) -> Answer
 {
     match finding(m) {
         Finding::Nothing => interrupt_judged(m, number, class),
+        Finding::WrongLength => Answer::Refused(refusals::WRONG_LENGTH),
+        Finding::Broken(broken, address) => Answer::RefusedAt(broken, address),
+    }
+}
+
+fn burst_judged(m: &mut [u8], list: &[u8]) -> Answer
+    requires { ⌜ length (now m) ≡ 8192 ⌝ }
+    ensures { λ r. ⌜ gives r (now (m .exit)) ≡ Model.burstJudged (now (m .entry)) (now (list .entry)) ⌝ }
+{
+    if is_list(list) {
+        return match test(list, 1) {
+            Checked::Good => {
+                arrive_all(m, list);
+                Answer::Done
+            }
+            Checked::Bad(refusal, place) => Answer::RefusedAt(refusal, place),
+        };
+    }
+    Answer::Refused(refusals::WRONG_LIST)
+}
+
+// Delivery of a burst from the line card: a list of bytes, number and class number in turn, at most 32 pairs.
+pub fn burst(m: &mut [u8], list: &[u8]) -> Answer
+    ensures { λ r. ⌜ gives r (now (m .exit)) ≡ Model.burst (now (m .entry)) (now (list .entry)) ⌝ }
+    ensures { λ r. ⌜ gives (numbers r) (now (m .exit)) ≡ spoken numbers (Model.burst (now (m .entry)) (now (list .entry))) ⌝ }
+{
+    match finding(m) {
+        Finding::Nothing => burst_judged(m, list),
         Finding::WrongLength => Answer::Refused(refusals::WRONG_LENGTH),
         Finding::Broken(broken, address) => Answer::RefusedAt(broken, address),
     }

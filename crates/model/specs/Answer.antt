@@ -42,6 +42,10 @@ wrongClass = 25
 abbrev pub outOfRange : ℕ
 outOfRange = 26
 
+-- ---- document 02, 2/13: "A longer or odd list is refused by 27"
+abbrev pub wrongList : ℕ
+wrongList = 27
+
 -- ---- document 02, 1/13, for 21: "30 a control page used twice or not at all, 31 a wait queue or semaphore, 32 a processor or message record, 33
 -- the code or error table, 34 counters and the running entry"
 abbrev pub brokenPages : ℕ

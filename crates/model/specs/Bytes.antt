@@ -7,6 +7,7 @@ use Rattle.model.specs.declared.Arguments.{Arguments}
 use Rattle.model.specs.declared.Held.{Held}
 use Rattle.model.specs.declared.Verdict.{Verdict}
 use Rattle.model.specs.declared.Finding.{Finding}
+use Rattle.model.specs.declared.Checked.{Checked}
 use Rattle.model.specs.declared.Context.{Context}
 use Rattle.model.specs.Page.{Taken}
 use Rattle.model.specs.Mail.{Tested}
@@ -31,6 +32,7 @@ use Rattle.model.specs.Lists as Lists
 use Rattle.model.specs.Judge as Judge
 use Rattle.model.specs.Walks as Walks
 use Rattle.model.specs.Classes as Classes
+use Rattle.model.specs.Burst as Burst
 use Rattle.model.specs.Answer as Answer
 use Rattle.model.specs.Fault as Fault
 use Rattle.model.specs.Execute as Execute
@@ -559,6 +561,18 @@ met = Walks.met bytes
 
 abbrev pub toldOf : Memory → Finding
 toldOf = Classes.toldOf bytes
+
+abbrev pub arrived : Memory → List ℕ → Memory
+arrived = Burst.arrived bytes
+
+abbrev pub heedsPairs : Checked → Memory → List ℕ → Step
+heedsPairs = Burst.heedsPairs bytes
+
+abbrev pub burstJudged : Memory → List ℕ → Step
+burstJudged = Burst.burstJudged bytes
+
+abbrev pub burst : Memory → List ℕ → Step
+burst = Burst.burst bytes
 
 abbrev pub refused : Memory → ℕ → Step
 refused = Answer.refused bytes

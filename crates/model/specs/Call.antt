@@ -1,5 +1,5 @@
--- What the kernel covers: the six public calls, each one function from the memory and its arguments to an outcome. Refusals and faults: "Refusals
--- leave all memory untouched, first that applies".
+-- What the kernel covers: the six public calls of document 01, each one function from the memory and its arguments to an outcome; the seventh, of
+-- document 02, is in Burst. Refusals and faults: "Refusals leave all memory untouched, first that applies".
 use Prim.Native.Nat.{ℕ}
 use mathlib.Core.Bool.{Bool, true, false, cond}
 use lib.Dec.{eqb, ltb}

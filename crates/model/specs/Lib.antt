@@ -24,6 +24,8 @@ pub mod Judge
 pub mod Walks
 pub mod Tell
 pub mod Classes
+-- A burst from the line card (document 02, 2/13)
+pub mod Burst
 -- Refusals and faults
 pub mod Answer
 pub mod Fault

@@ -391,6 +391,13 @@ lastOuter = 50
 abbrev pub lastClass : ℕ
 lastClass = 31
 
+-- document 02, 2/13: "up to 32 interrupts, as pairs of number and class number"; a pair's bytes, and those of the longest list
+abbrev pub pairBytes : ℕ
+pairBytes = 2
+
+abbrev pub longestList : ℕ
+longestList = 64
+
 -- "51 is served and C1 counts; at 10, 52 and C2; at 60, 53 and C3; at 60, 54"
 abbrev pub c0Interrupt : ℕ
 c0Interrupt = 51

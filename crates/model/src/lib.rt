@@ -45,7 +45,7 @@ pub struct Arguments {
 }
 
 // What a call answers. Handed out: the program's address, and that of n+1 or of the arguments. Fault: its number, and the name. Refused: its
-// number, and with 30-34 the address.
+// number, and with 30-34 the address, with 24 and 25 of a burst the place of the bad pair.
 pub enum Answer {
     Done,
     Waits,
@@ -74,6 +74,12 @@ pub enum Finding {
     Nothing,
     WrongLength,
     Broken(u8, u16),
+}
+
+// What comes of testing the pairs of a burst: all are good, or the number that refuses the first bad one, and its place.
+pub enum Checked {
+    Good,
+    Bad(u8, u16),
 }
 
 impl ControlPage {

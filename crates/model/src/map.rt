@@ -253,6 +253,11 @@ pub const LAST_OUTER_WIDE: u16 = 50;
 
 pub const LAST_CLASS: u16 = 31;
 
+// "up to 32 interrupts, as pairs of number and class number": a pair's bytes, and those of the longest list.
+pub const PAIR_BYTES: usize = 2;
+
+pub const LONGEST_LIST: usize = 64;
+
 // "51 is served and C1 counts; at 10, 52 and C2; at 60, 53 and C3; at 60, 54".
 pub const C0_INTERRUPT: u8 = 51;
 

@@ -25,13 +25,14 @@ pub struct Seven {
     pub w: u16,
 }
 
-// What a line asks for. The values of Put and Break, as many as their second number says, stand beside it.
+// What a line asks for. The values of Put and Break, as many as their second number says, and those of Burst stand beside it.
 pub enum Order {
     Nothing,
     NotUnderstood,
     Fresh(u16, u16),
     Step,
     Interrupt(u16, u16),
+    Burst(usize),
     Registers,
     Set(Seven),
     Judge,
@@ -60,10 +61,20 @@ fn values(count: usize) -> usize
     if count < 2 {
         return 0;
     }
-    if sizes::MOST_NUMBERS < count {
+    if sizes::MOST_STORED < count {
         return 0;
     }
     count - 1
+}
+
+// Any count of numbers will do, none too; a wrong one will not.
+fn burst(count: usize) -> Order
+    ensures { λ r. ⌜ r ≡ Script.burst count ⌝ }
+{
+    if sizes::MOST_NUMBERS < count {
+        return Order::NotUnderstood;
+    }
+    Order::Burst(count)
 }
 
 // An order with so many values.
@@ -140,6 +151,9 @@ fn look_order(line: &[u8], at: usize, end: usize, given: &[u16], count: usize) -
     requires { ⌜ (at ≤ end) × (end ≤ length (now line)) × (length (now given) ≡ mostNumbers) ⌝ }
     ensures { λ r. ⌜ r ≡ Script.lookOrder (now (line .entry)) at end (now (given .entry)) count ⌝ }
 {
+    if is_word(line, at, end, b"burst") {
+        return burst(count);
+    }
     if is_word(line, at, end, b"registers") {
         return counted(Order::Registers, count, 0);
     }
@@ -178,7 +192,7 @@ fn ordered(line: &[u8], at: usize, given: &mut [u16]) -> Order
     call_order(line, at, end, given, count)
 }
 
-// What a line asks for; its numbers go to `given`. Of Put and Break the values are those from given[1] on.
+// What a line asks for; its numbers go to `given`. Of Put and Break the values are those from given[1] on, of Burst from given[0] on.
 pub fn parse(line: &[u8], given: &mut [u16]) -> Order
     requires { ⌜ length (now given) ≡ mostNumbers ⌝ }
     ensures { λ r. ⌜ parsed r (now (given .exit)) ≡ Script.parse (now (line .entry)) (now (given .entry)) ⌝ }

@@ -92,10 +92,11 @@ module _ (S : Store) where
       Classes.messageWaits Classes.pageSemaphore Classes.semaphores Classes.noneFree Classes.noGrant Classes.pageWaits Classes.ofWaits
       Classes.labels Classes.existing Classes.nought Classes.granted Classes.messages Classes.ofRecords Classes.isBuiltIn Classes.isForeign
       Classes.codes Classes.inRange Classes.faults Classes.ofTables Classes.outer Classes.below Classes.positive Classes.clock Classes.runner
-      Classes.notHigher Classes.shown Classes.running Classes.ofCounters Classes.classes Classes.toldOf Answer.answerOf Answer.memoryOf
-      Answer.numbers Answer.heldNumbers Answer.verdictNumbers Answer.done Answer.jumps Answer.waits Fault.entered Fault.fault Execute.run
-      Execute.foreign Execute.isForeign Execute.argumentFault Execute.argued Execute.exi Execute.taken Execute.decoded Execute.coded Execute.fetched
-      Store.tget Store.tput Store.tzero Store.getT Store.putT Store.sizeT Store.trees Rule.all Rule.every Rule.holds sameWords writes looks
+      Classes.notHigher Classes.shown Classes.running Classes.ofCounters Classes.classes Classes.toldOf Burst.isList Burst.tested Burst.arrived
+      Burst.burstJudged Burst.burst Answer.answerOf Answer.memoryOf Answer.numbers Answer.heldNumbers Answer.verdictNumbers Answer.done Answer.jumps
+      Answer.waits Fault.entered Fault.fault Execute.run Execute.foreign Execute.isForeign Execute.argumentFault Execute.argued Execute.exi
+      Execute.taken Execute.decoded Execute.coded Execute.fetched Store.tget Store.tput Store.tzero Store.getT Store.putT Store.sizeT Store.trees
+      Rule.all Rule.every Rule.holds sameWords writes looks
   plays [] m = true
   plays (fresh-start l d ns ∷ cs) m =
       let o = fresh S m l d in elim (sameWords (numbers (answerOf o)) ns) [ true ↦ plays cs (memoryOf o) | false ↦ false ]
