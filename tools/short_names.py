@@ -63,7 +63,7 @@ def short_names():
 def opened(file):
     """the file with its line of definitions to open written anew"""
     text = open(file).read()
-    found = re.search(r'^( *)unfolding\n(?: +[A-Za-z]+\.\S+(?: .*)?\n)+', text, re.M)
+    found = re.search(r'^( *)unfolding\n(?:\1    \S.*\n)+', text, re.M)
     if not found:
         sys.exit('%s has no line of definitions to open' % file)
     indent = found.group(1)
