@@ -25,10 +25,10 @@ isList l = cond (ltb longestList (length l)) false (eqb (length l % pairBytes) 0
 unfoldable pub tested : ℕ → List ℕ → Checked
 tested i [] = Good
 tested i (k ∷ []) = Good
-tested i (k ∷ c ∷ l) = elim (isOuter k) [
-  | false ↦ Bad noInterrupt i
-  | true ↦ elim (isClass k c) [ false ↦ Bad wrongClass i | true ↦ tested (i + 1) l ]
-]
+tested i (k ∷ c ∷ l) =
+    unless (isOuter k) (Bad noInterrupt i)
+    (unless (isClass k c) (Bad wrongClass i)
+    (tested (i + 1) l))
 
 module _ (S : Store) where
   -- "Memory afterwards equals that of delivering them one by one, who runs included."
