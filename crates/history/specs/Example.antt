@@ -29,6 +29,7 @@ use Rattle.model.specs.Judge as Judge
 use Rattle.model.specs.Fault as Fault
 use Rattle.model.specs.Execute as Execute
 use Rattle.model.specs.Call as Call
+use Rattle.model.specs.Burst as Burst
 use Rattle.model.specs.Answer as Answer
 use Rattle.model.specs.Answer.{memoryOf}
 use Rattle.model.specs.Bytes.{instruction, processors}

@@ -16,13 +16,13 @@ use Rattle.model.specs.Lists.{count}
 use Rattle.laws.specs.Words.{Small}
 use Rattle.laws.specs.Calls as Calls
 use Rattle.laws.specs.Calls.{Sound, Host, Act, after, Reached, reached-sound}
-use Rattle.laws.specs.Calls.Act.{fresh-start, instruct, signal, set, read, judge-it}
+use Rattle.laws.specs.Calls.Act.{fresh-start, instruct, signal, signals, set, read, judge-it}
 use Rattle.history.specs.Order.{only, only-append}
 use Rattle.history.specs.Letter.{Letter, key, waitingFor}
 use Rattle.history.specs.Put.{Mailed, nothing, of, mailed}
 use Rattle.history.specs.Told.{Told}
 use Rattle.history.specs.Whole.{instruction-told}
-use Rattle.history.specs.Others.{interrupt-told, set-told, read-told, judge-told, refused-told, host-told}
+use Rattle.history.specs.Others.{interrupt-told, burst-told, set-told, read-told, judge-told, refused-told, host-told}
 use Rattle.history.specs.Begin.{fresh-empty}
 
 -- ---- what was put to each processor in its present life, and what it has read; a processor is named by its page
@@ -52,6 +52,7 @@ unfoldable pub mailBy : Act → List ℕ → Mailed
 mailBy (fresh-start line d) m = nothing
 mailBy instruct m = mailed m
 mailBy (signal k c) m = nothing
+mailBy (signals l) m = nothing
 mailBy (set r) m = nothing
 mailBy read m = nothing
 mailBy judge-it m = nothing
@@ -61,6 +62,7 @@ unfoldable pub restarts : Act → Bool
 restarts (fresh-start line d) = startable line d
 restarts instruct = false
 restarts (signal k c) = false
+restarts (signals l) = false
 restarts (set r) = false
 restarts read = false
 restarts judge-it = false
@@ -118,6 +120,7 @@ unfolding Calls.after mailBy restarts
 call-told k (fresh-start line d) e = refused-told k line d e
 call-told k instruct e = instruction-told k
 call-told k (signal n c) e = interrupt-told k n c
+call-told k (signals l) e = burst-told k l
 call-told k (set r) e = set-told k r
 call-told k read e = read-told k
 call-told k judge-it e = judge-told k
@@ -130,6 +133,7 @@ unfolding Calls.after restarts
 restart-kept {m} k (fresh-start line d) e = start-kept m line d (k .size) e
 restart-kept k instruct e = let z : _≡_ {A = ℕ} 0 1 = cc in absurd (omega arith)
 restart-kept k (signal n c) e = let z : _≡_ {A = ℕ} 0 1 = cc in absurd (omega arith)
+restart-kept k (signals l) e = let z : _≡_ {A = ℕ} 0 1 = cc in absurd (omega arith)
 restart-kept k (set r) e = let z : _≡_ {A = ℕ} 0 1 = cc in absurd (omega arith)
 restart-kept k read e = let z : _≡_ {A = ℕ} 0 1 = cc in absurd (omega arith)
 restart-kept k judge-it e = let z : _≡_ {A = ℕ} 0 1 = cc in absurd (omega arith)

@@ -1,15 +1,15 @@
--- The other calls put and read nothing and move no message: an interrupt, setting and reading registers, the judge, a refused fresh start; nor does the host.
--- Assumes nothing.
-use mathlib.Core.Path.{_≡_, refl}
+-- The other calls put and read nothing and move no message: an interrupt, a burst, setting and reading registers, the judge, a refused fresh start; nor does
+-- the host. Assumes nothing.
+use mathlib.Core.Path.{_≡_, refl, sym, ap, _∙_}
 use mathlib.Core.Bool.{Bool, true, false}
-use mathlib.Core.List.{List, []}
+use mathlib.Core.List.{List, [], _++_, append-nil}
 use Prim.Native.Nat.{ℕ, _≤_}
 use native.Mathlib.Omega.{arith}
 use lib.ListN.{length}
 use lib.Dec.{eqb}
 use borrow.Author.Tests.{eqb-false, eq-eqb}
 use Rattle.model.specs.Map.{memorySize, pageSize, processorList}
-use Rattle.model.specs.Bytes.{running, lists, fresh, interrupt, readRegisters, setRegisters, judge, whoRuns, delivered, setRegistersOf}
+use Rattle.model.specs.Bytes.{running, lists, processors, fresh, interrupt, burst, readRegisters, setRegisters, judge, whoRuns, delivered, setRegistersOf}
 use Rattle.model.specs.declared.Registers.{Registers}
 use Rattle.model.specs.Address.{guarded}
 use Rattle.model.specs.Answer as Answer
@@ -21,14 +21,37 @@ use Rattle.model.specs.Processor.{inRange}
 use Rattle.laws.specs.Uses.{Sep, proc-page}
 use Rattle.laws.specs.Inv.{Base, noOne, view}
 use Rattle.laws.specs.Judged.{invariant}
-use Rattle.laws.specs.Calls.{Sound, well, Host, outer-of, guarded-low, guarded-high, unrefused, read-same, judge-same}
-use Rattle.history.specs.Letter.{Ours, Same}
+use Rattle.laws.specs.Who.{listed}
+use Rattle.laws.specs.Calls.{Sound, well, Host, outer-of, guarded-low, guarded-high, unrefused, interrupt-sound, read-same, judge-same}
+use Rattle.laws.specs.Bursts.{OneByOne, Comes, comes}
+use Rattle.laws.specs.Bursts.OneByOne.{none, one}
+use Rattle.laws.specs.Bursts.Comes.{no-list, bad-pair, taken}
+use Rattle.history.specs.Order.{only}
+use Rattle.history.specs.Letter.{Ours, Same, key, waitingFor, procs-same}
 use Rattle.history.specs.Letter.Ours.{mail, first, next, named}
-use Rattle.history.specs.Put.{nothing}
+use Rattle.history.specs.Put.{of, nothing}
 use Rattle.history.specs.Calm.{calm-refl, mine-high}
-use Rattle.history.specs.Told.{Told, told-same}
+use Rattle.history.specs.Told.{Told, of-none, told-same}
 use Rattle.history.specs.Clocks.{calm-interrupt}
 use Rattle.history.specs.Quiet.{registers-calm}
+
+-- ---- nothing is put or read, and those that live are the same: so it goes on from one call to the next
+pub record Passing (m m′ : List ℕ) : Type 0 where
+  pub told : Told m m′ nothing
+  pub alive : processors m′ ≡ processors m
+
+passing-on : {m m₁ m₂ : List ℕ} → Passing m m₁ → Passing m₁ m₂ → Passing m m₂
+passing-on {m} {m₁} {m₂} s t = record {
+  told = record {
+    at = λ p i j k f. t .told .at p (rw (s .alive) i) j k f ∙ ap (only (key k f)) (between p) ∙ s .told .at p i (rw (s .alive) i) k f;
+    keeps = λ p i j. t .told .keeps p (rw (s .alive) i) j ∙ s .told .keeps p i (rw (s .alive) i);
+    born = λ p i j. t .told .born p (rw (s .alive) i) j;
+  };
+  alive = t .alive ∙ s .alive;
+}
+  where
+    between : (p : ℕ) → waitingFor m₁ p ++ of p [] ≡ of p [] ++ waitingFor m₁ p
+    between p = rw (of-none p) (append-nil (waitingFor m₁ p))
 
 module _ {m : List ℕ} (h : Sound m) where
   b : Base m (lists m processorList) (lists m) (view m) [] noOne
@@ -44,16 +67,26 @@ module _ {m : List ℕ} (h : Sound m) where
   pub stays-told : Told m m nothing
   stays-told = calm-told m (calm-refl m)
 
-  pub interrupt-told : (k c : ℕ) → Told m (memoryOf (interrupt m k c)) nothing
+  -- nor does who lives change
+  calm-passes : (m′ : List ℕ) → Same (lists m processorList) (lists m) m m′ → Passing m m′
+  calm-passes m′ s = record { told = calm-told m′ s; alive = procs-same b s ∙ sym (listed b) }
+
+  stays : Passing m m
+  stays = calm-passes m (calm-refl m)
+
+  pub interrupt-passes : (k c : ℕ) → Passing m (memoryOf (interrupt m k c))
   unfolding Call.head Call.interrupt Call.interruptJudged Answer.memoryOf
-  interrupt-told k c = go (isOuter k) (isClass k c) refl refl
+  interrupt-passes k c = go (isOuter k) (isClass k c) refl refl
     where
-      go : (x y : Bool) → isOuter k ≡ x → isClass k c ≡ y → Told m (memoryOf (interrupt m k c)) nothing
-      go false y e f = rw (unrefused h, e) stays-told
-      go true false e f = rw (unrefused h, e, f) stays-told
+      go : (x y : Bool) → isOuter k ≡ x → isClass k c ≡ y → Passing m (memoryOf (interrupt m k c))
+      go false y e f = rw (unrefused h, e) stays
+      go true false e f = rw (unrefused h, e, f) stays
       go true true e f =
           let a = outer-of k e in
-          rw (unrefused h, e, f) (calm-told (whoRuns (delivered m k c)) (calm-interrupt k c (omega (arith, a)) (omega (arith, a)) b))
+          rw (unrefused h, e, f) (calm-passes (whoRuns (delivered m k c)) (calm-interrupt k c (omega (arith, a)) (omega (arith, a)) b))
+
+  pub interrupt-told : (k c : ℕ) → Told m (memoryOf (interrupt m k c)) nothing
+  interrupt-told k c = interrupt-passes k c .told
 
   pub set-told : (r : Registers) → Told m (memoryOf (setRegisters m r)) nothing
   unfolding Call.head Call.setRegisters Call.setJudged Answer.memoryOf
@@ -92,3 +125,16 @@ module _ {m : List ℕ} (h : Sound m) where
       safe c (first e) = guarded-low c (omega arith) (omega arith)
       safe c (next z o e) = let t = proc-page s z o in guarded-high c (omega arith)
       safe c (named z o e) = let t = proc-page s z o in guarded-high c (omega arith)
+
+-- ---- a burst: the single interrupt, repeated
+repeated-passes : {m l m′ : List ℕ} → Sound m → OneByOne m l m′ → Passing m m′
+repeated-passes h (none m) = stays h
+repeated-passes h (one m k c l m′ e o) = passing-on (interrupt-passes h k c) (repeated-passes (interrupt-sound h k c) o)
+
+pub burst-told : {m : List ℕ} → Sound m → (l : List ℕ) → Told m (memoryOf (burst m l)) nothing
+burst-told {m} h l = go (comes (well h) l)
+  where
+    go : Comes m l → Told m (memoryOf (burst m l)) nothing
+    go (no-list u r) = rw (r .1) (stays-told h)
+    go (bad-pair x n p i j f q r) = rw (r .1) (stays-told h)
+    go (taken p e o) = repeated-passes h o .told

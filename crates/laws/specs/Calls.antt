@@ -2,8 +2,8 @@
 -- page 0 and unprotected words, nothing else". Assumes nothing.
 use mathlib.Core.Path.{_≡_, refl}
 use mathlib.Core.Bool.{Bool, true, false}
-use mathlib.Core.List.{List}
-use Prim.Native.Nat.{ℕ, _≤_, _<_}
+use mathlib.Core.List.{List, [], _∷_}
+use Prim.Native.Nat.{ℕ, _+_, _≤_, _<_}
 use native.Mathlib.Omega.{arith}
 use lib.ListN.{length, getD}
 use lib.Dec.{eqb, ltb}
@@ -11,9 +11,11 @@ use borrow.Author.Tests.{eqb-false, eq-eqb, ltb-false, lt-ltb, le-ltb, le-leb}
 use Rattle.model.specs.Map as Map
 use Rattle.model.specs.Map.{aWord, firstOuter, guardedEnd, guardedFrom, guardedLast, guardedTo, lastClass, lastLine, lastOuter, memorySize, pageSize}
 use Rattle.model.specs.Map.{place}
-use Rattle.model.specs.Bytes.{running, fresh, instruction, interrupt, readRegisters, setRegisters, judge, judged, lr}
+use Rattle.model.specs.Bytes.{running, fresh, instruction, interrupt, burst, readRegisters, setRegisters, judge, judged, lr, whoRuns, delivered, arrived}
 use Rattle.model.specs.declared.Registers.{Registers}
 use Rattle.model.specs.declared.Finding.the-variants.{Nothing}
+use Rattle.model.specs.declared.Checked.{Checked}
+use Rattle.model.specs.declared.Checked.the-variants.{Good, Bad}
 use Rattle.model.specs.Address as Address
 use Rattle.model.specs.Address.{guarded}
 use Rattle.model.specs.Answer as Answer
@@ -22,6 +24,8 @@ use Rattle.model.specs.Fresh as Fresh
 use Rattle.model.specs.Fresh.{startable}
 use Rattle.model.specs.Call as Call
 use Rattle.model.specs.Call.{isOuter, isClass}
+use Rattle.model.specs.Burst as Burst
+use Rattle.model.specs.Burst.{isList, tested}
 use Rattle.model.specs.Processor.{inRange}
 use Rattle.model.specs.Bytes as Model
 use Rattle.laws.specs.Judged.{WellFormed}
@@ -33,6 +37,7 @@ use Rattle.laws.specs.Simple.{registers-well}
 use Rattle.laws.specs.Interrupts.{delivered-well}
 use Rattle.laws.specs.Run.{fetched-fine}
 use Rattle.laws.specs.InstructionWords.{fetched-tiny}
+use Rattle.laws.specs.Pairs.{Passes, good-first}
 
 -- a well-formed memory: 8,192 words of 8 bits that the judge accepts
 pub record Sound (m : List ℕ) : Type 0 where
@@ -114,6 +119,13 @@ module _ {m : List ℕ} (h : Sound m) where
           let n = eqb-false (running m) 0 e in
           rw (unrefused, e) (sound (fetched-fine (well h) n (h .small) (lr m)) (fetched-tiny (h .small) (lr m)))
 
+  -- an interrupt that passes both tests
+  arrive-sound : {k c : ℕ} → Passes k c → Sound (whoRuns (delivered m k c))
+  arrive-sound {k} {c} p =
+      let a = outer-of k (p .outer) in
+      sound (delivered-well k c (omega (arith, a)) (omega (arith, a)) (well h)) (small-turn (small-delivered (h .small) k c
+      (omega (arith, class-of k c (p .class)))))
+
   pub interrupt-sound : (k c : ℕ) → Sound (memoryOf (interrupt m k c))
   unfolding Call.head Call.interrupt Call.interruptJudged Answer.memoryOf
   interrupt-sound k c = go (isOuter k) (isClass k c) refl refl
@@ -121,11 +133,7 @@ module _ {m : List ℕ} (h : Sound m) where
       go : (x y : Bool) → isOuter k ≡ x → isClass k c ≡ y → Sound (memoryOf (interrupt m k c))
       go false y e f = rw (unrefused, e) h
       go true false e f = rw (unrefused, e, f) h
-      go true true e f =
-          let a = outer-of k e in
-          rw (unrefused, e, f)
-          (sound (delivered-well k c (omega (arith, a)) (omega (arith, a)) (well h)) (small-turn (small-delivered (h .small) k c
-          (omega (arith, class-of k c f)))))
+      go true true e f = rw (unrefused, e, f) (arrive-sound (record { outer = e; class = f }))
 
   pub set-sound : (r : Registers) → Sound (memoryOf (setRegisters m r))
   unfolding Call.head Call.setRegisters Call.setJudged Answer.memoryOf
@@ -148,6 +156,22 @@ module _ {m : List ℕ} (h : Sound m) where
   pub judge-same : memoryOf (judge m) ≡ m
   unfolding Call.head Call.judge Answer.memoryOf
   judge-same = rw unrefused
+
+-- ---- a burst, whose pairs all pass
+arrived-sound : {m : List ℕ} → Sound m → (i : ℕ) (l : List ℕ) → tested i l ≡ Good → Sound (arrived m l)
+unfolding Burst.arrived
+arrived-sound h i [] e = h
+arrived-sound h i (k ∷ []) e = h
+arrived-sound h i (k ∷ c ∷ l) e = let g = good-first i k c l e in arrived-sound (arrive-sound h (g .0)) (i + 1) l (g .1)
+
+pub burst-sound : {m : List ℕ} → Sound m → (l : List ℕ) → Sound (memoryOf (burst m l))
+unfolding Call.head Burst.burst Burst.burstJudged Answer.memoryOf
+burst-sound {m} h l = go (isList l) (tested 1 l) refl refl
+  where
+    go : (x : Bool) (c : Checked) → isList l ≡ x → tested 1 l ≡ c → Sound (memoryOf (burst m l))
+    go false c e f = rw (unrefused h, e) h
+    go true Good e f = rw (unrefused h, e, f) (arrived-sound h 1 l f)
+    go true (Bad n i) e f = rw (unrefused h, e, f) h
 
 -- ---- the host: page 0, and what is not protected
 pub record Host (m m′ : List ℕ) : Type 0 where
@@ -179,6 +203,7 @@ pub data Act : Type 0 where
   fresh-start : ℕ → ℕ → Act
   instruct : Act
   signal : ℕ → ℕ → Act
+  signals : List ℕ → Act
   set : Registers → Act
   read : Act
   judge-it : Act
@@ -187,6 +212,7 @@ unfoldable pub after : Act → List ℕ → List ℕ
 after (fresh-start line d) m = memoryOf (fresh m line d)
 after instruct m = memoryOf (instruction m)
 after (signal k c) m = memoryOf (interrupt m k c)
+after (signals l) m = memoryOf (burst m l)
 after (set r) m = memoryOf (setRegisters m r)
 after read m = memoryOf (readRegisters m)
 after judge-it m = memoryOf (judge m)
@@ -201,6 +227,7 @@ unfolding after
 after-sound h (fresh-start line d) = fresh-sound h line d
 after-sound h instruct = instruction-sound h
 after-sound h (signal k c) = interrupt-sound h k c
+after-sound h (signals l) = burst-sound h l
 after-sound h (set r) = set-sound h r
 after-sound h read = rw (read-same h) h
 after-sound h judge-it = rw (judge-same h) h

@@ -55,11 +55,13 @@ pub mod Delete
 pub mod Each
 pub mod Run
 pub mod InstructionWords
+pub mod Pairs
 pub mod Kinds
 pub mod Calls
 -- What the promises cite
 pub mod Refusals
 pub mod Numbers
+pub mod Bursts
 pub mod Faulty
 pub mod Unmoved
 pub mod Turns

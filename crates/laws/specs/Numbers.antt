@@ -27,12 +27,13 @@ use Rattle.model.specs.Answer.{Outcome, answerOf, memoryOf, numbers, heldNumber
 use Rattle.model.specs.Answer.{brokenPages, brokenCounters}
 use Rattle.model.specs.Answer.Outcome.{gives}
 use Rattle.model.specs.Call as Call
+use Rattle.model.specs.Burst as Burst
 use Rattle.model.specs.Bytes as Model
-use Rattle.model.specs.Bytes.{Step, fresh, instruction, interrupt, readRegisters, setRegisters, judge, judged, finding, running, registersOf}
+use Rattle.model.specs.Bytes.{Step, fresh, instruction, interrupt, burst, readRegisters, setRegisters, judge, judged, finding, running, registersOf}
 use Rattle.laws.specs.Judged.{WellFormed, invariant}
 use Rattle.laws.specs.Findings.{Found, Offends, found, found-well, found-broken}
 use Rattle.laws.specs.Who.{running-at}
-use Rattle.laws.specs.Kinds.{Kind, instruction-kind, interrupt-kind, set-kind}
+use Rattle.laws.specs.Kinds.{Kind, instruction-kind, interrupt-kind, burst-kind, set-kind}
 use Rattle.laws.specs.Kinds as Kinds
 use Rattle.laws.specs.Calls.{Sound, unrefused}
 use Rattle.laws.specs.Refusals.{firstRefusal, kind-told}
@@ -72,6 +73,7 @@ kind-numbers o (Kinds.Kind.waits e) = rw e
 kind-numbers o (Kinds.Kind.handed p a e) = rw e
 kind-numbers o (Kinds.Kind.faulted f l u e) = rw (e, lt-ltb f firstRefusal (omega arith))
 kind-numbers o (Kinds.Kind.refused k l u e) = rw (e, ne-eqb k doneNumber (omega arith), ne-eqb k waitsNumber (omega arith))
+kind-numbers o (Kinds.Kind.placed k i l u e) = rw (e, le-ltb k firstRefusal (omega arith))
 kind-numbers o (Kinds.Kind.told k a f e) = let t = found-broken f .2 in rw (e, le-ltb k firstRefusal (omega (arith, t .from)))
 
 pub judge-told : (m : List ℕ) → toldVerdict (verdictNumbers (answerOf (judge m))) ≡ answerOf (judge m)
@@ -110,6 +112,7 @@ Refuses ns o w m = (ns (answerOf o) ≡ w) × (memoryOf o ≡ m)
 pub record RefuseAll (m : List ℕ) (w : List ℕ) : Type 0 where
   pub instruction : Refuses numbers (instruction m) w m
   pub interrupt : (n c : ℕ) → Refuses numbers (interrupt m n c) w m
+  pub burst : (l : List ℕ) → Refuses numbers (burst m l) w m
   pub set : (r : Registers) → Refuses numbers (setRegisters m r) w m
   pub read : Refuses heldNumbers (readRegisters m) w m
   pub judge : Refuses verdictNumbers (judge m) w m
@@ -120,11 +123,12 @@ pub data Spelt : Finding → List ℕ → Type 0 where
   told-is : (k a : ℕ) → Spelt (Broken k a) (k ∷ a ∷ [])
 
 all-refuse : (m : List ℕ) (f : Finding) (w : List ℕ) → Spelt f w → finding m ≡ f → RefuseAll m w
-unfolding Call.head Call.instruction Call.interrupt Call.setRegisters Call.readRegisters Call.judge Answer.numbers Answer.heldNumbers Answer.verdictNumbers
-    Answer.answerOf Answer.memoryOf
+unfolding Call.head Call.instruction Call.interrupt Burst.burst Call.setRegisters Call.readRegisters Call.judge Answer.numbers Answer.heldNumbers
+    Answer.verdictNumbers Answer.answerOf Answer.memoryOf
 all-refuse m _ _ length-is e = record {
   instruction = rw e (refl, refl);
   interrupt = λ n c. rw e (refl, refl);
+  burst = λ l. rw e (refl, refl);
   set = λ r. rw e (refl, refl);
   read = rw e (refl, refl);
   judge = rw e (refl, refl);
@@ -132,6 +136,7 @@ all-refuse m _ _ length-is e = record {
 all-refuse m _ _ (told-is k a) e = record {
   instruction = rw e (refl, refl);
   interrupt = λ n c. rw e (refl, refl);
+  burst = λ l. rw e (refl, refl);
   set = λ r. rw e (refl, refl);
   read = rw e (refl, refl);
   judge = rw e (refl, refl);
@@ -181,6 +186,9 @@ module _ (m : List ℕ) {k a : ℕ} (c : Class k) where
 
   pub interrupt-bad : (n d : ℕ) → numbers (answerOf (interrupt m n d)) ≡ k ∷ a ∷ [] → Bad m
   interrupt-bad n d = kind-bad (interrupt m n d) c (interrupt-kind m n d)
+
+  pub burst-bad : (l : List ℕ) → numbers (answerOf (burst m l)) ≡ k ∷ a ∷ [] → Bad m
+  burst-bad l = kind-bad (burst m l) c (burst-kind m l)
 
   pub set-bad : (r : Registers) → numbers (answerOf (setRegisters m r)) ≡ k ∷ a ∷ [] → Bad m
   set-bad r = kind-bad (setRegisters m r) c (set-kind m r)

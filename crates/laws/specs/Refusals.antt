@@ -15,9 +15,9 @@ use Rattle.model.specs.Bytes as Model
 use Rattle.model.specs.Bytes.{Step, finding}
 use Rattle.laws.specs.Findings.{found-broken}
 use Rattle.laws.specs.Kinds.{Kind}
-use Rattle.laws.specs.Kinds.Kind.{done, waits, handed, faulted, refused, told}
+use Rattle.laws.specs.Kinds.Kind.{done, waits, handed, faulted, refused, placed, told}
 
--- refusals are 20-26, and 30-34 with an address
+-- refusals are 20-27, 24 and 25 of a burst with a place, and 30-34 with an address
 abbrev pub firstRefusal : ℕ
 firstRefusal = wrongLength
 
@@ -36,6 +36,7 @@ module _ {m : List ℕ} (o : Step) where
   kind-kept (handed p a e) k ns l u q = rw e
   kind-kept (faulted f i j e) k ns l u q = let z = first-number (rw e at q) in absurd (omega arith)
   kind-kept (refused j i h e) k ns l u q = rw e
+  kind-kept (placed j p i h e) k ns l u q = rw e
   kind-kept (told j a f e) k ns l u q = rw e
 
   -- an own code's number
@@ -46,6 +47,7 @@ module _ {m : List ℕ} (o : Step) where
   kind-hands (handed b c e) p a q = rw e
   kind-hands (faulted f i j e) p a q = let z = first-number (rw e at q) in absurd (omega arith)
   kind-hands (refused j i h e) p a q = rw e
+  kind-hands (placed j b i h e) p a q = rw e
   kind-hands (told j b f e) p a q = rw e
 
   -- a fault's number: it is that fault, by the one who runs
@@ -66,6 +68,7 @@ module _ {m : List ℕ} (o : Step) where
       second : {a b c d : ℕ} → _≡_ {A = List ℕ} (a ∷ b ∷ []) (c ∷ d ∷ []) → d ≡ b
       second e = cc
   kind-fault (refused j i h e) f n q l = let z = first-number (rw e at q) in absurd (omega arith)
+  kind-fault (placed j p i h e) f n q l = let z = first-number (rw e at q) in absurd (omega arith)
   kind-fault (told j b g e) f n q l = let z = first-number (rw e at q) in let r = found-broken g .2 in absurd (omega (arith, r .from))
 
   -- a class and an address: so the memory was found
@@ -76,6 +79,7 @@ module _ {m : List ℕ} (o : Step) where
   kind-told (handed b c e) k a q l u = let z = first-number (rw e at q) in absurd (omega arith)
   kind-told (faulted f i j e) k a q l u = let z = first-number (rw e at q) in absurd (omega arith)
   kind-told (refused j i h e) k a q l u = let z = first-number (rw e at q) in absurd (omega arith)
+  kind-told (placed j p i h e) k a q l u = let z = first-number (rw e at q) in absurd (omega arith)
   kind-told (told j b g e) k a q l u = let x = rw e at q in g ∙ both x
     where
       both : _≡_ {A = List ℕ} (j ∷ b ∷ []) (k ∷ a ∷ []) → Broken j b ≡ Broken k a

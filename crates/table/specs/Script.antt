@@ -28,6 +28,7 @@ use Rattle.model.specs.Answer as Answer
 use Rattle.model.specs.Fault as Fault
 use Rattle.model.specs.Execute as Execute
 use Rattle.model.specs.Call as Call
+use Rattle.model.specs.Burst as Burst
 use Rattle.model.specs.declared.Registers.{Registers}
 use Rattle.model.specs.Store.{Store}
 use Rattle.model.specs.Address.{at, write}
