@@ -11,28 +11,34 @@ use lib.ListN.{length}
 use Rattle.model.specs.declared.Registers.{Registers}
 use Rattle.model.specs.Map.{memorySize, firstControl, lastControl, lastFault}
 use Rattle.model.specs.Fresh.{startable}
+use Rattle.model.specs.declared.Answer.the-variants.{Done}
+use Rattle.model.specs.Answer.Outcome.{gives}
 use Rattle.model.specs.Answer.{answerOf, memoryOf, numbers, heldNumbers, verdictNumbers, doneNumber, handedOutNumber, wrongLength}
-use Rattle.model.specs.Bytes.{judged, fresh, instruction, interrupt, setRegisters, readRegisters, judge, running}
+use Rattle.model.specs.Bytes.{judged, fresh, instruction, interrupt, burst, setRegisters, readRegisters, judge, running}
 use Rattle.laws.specs.Words.{Small}
-use Rattle.laws.specs.Calls.{Sound, Host, Reached, fresh-starts, fresh-sound, instruction-sound, interrupt-sound, set-sound, host-sound, reached-sound}
+use Rattle.laws.specs.Calls.{Sound, Host, Reached, fresh-starts, fresh-sound, instruction-sound, interrupt-sound, burst-sound, set-sound, host-sound}
+use Rattle.laws.specs.Calls.{reached-sound}
 use Rattle.laws.specs.Numbers as Numbers
 use Rattle.laws.specs.Numbers.{told, toldHeld, toldVerdict, kind-numbers, Refuses, RefuseAll, Told, Class, Bad, sound-good, read-kept, judge-kept}
-use Rattle.laws.specs.Kinds.{instruction-kind, fresh-kind, interrupt-kind, set-kind}
+use Rattle.laws.specs.Kinds.{instruction-kind, fresh-kind, interrupt-kind, burst-kind, set-kind}
 use Rattle.laws.specs.Refusals.{firstRefusal, lastRefusal, kind-kept, kind-hands}
 use Rattle.laws.specs.Faulty.{Faulted, faulted}
+use Rattle.laws.specs.Bursts.{Comes, comes, empty-done}
 use Rattle.laws.specs.UsedOnce.{asProcessor, asFree, asMessage, asGrant, used-once, used-never}
 use Rattle.laws.specs.Witness.{example, example-reached, example-runs}
 
 -- ---- the numbers tell the answer: from them it can be had again, of every call, on any memory
-pub the-numbers-tell : (m : List ℕ) (line d k c : ℕ) (r : Registers) → (told (numbers (answerOf (instruction m))) ≡ answerOf (instruction m))
+pub the-numbers-tell : (m l : List ℕ) (line d k c : ℕ) (r : Registers) → (told (numbers (answerOf (instruction m))) ≡ answerOf (instruction m))
     × (told (numbers (answerOf (interrupt m k c))) ≡ answerOf (interrupt m k c))
+    × (told (numbers (answerOf (burst m l))) ≡ answerOf (burst m l))
     × (told (numbers (answerOf (setRegisters m r))) ≡ answerOf (setRegisters m r))
     × (told (numbers (answerOf (fresh m line d))) ≡ answerOf (fresh m line d))
     × (toldHeld (heldNumbers (answerOf (readRegisters m))) ≡ answerOf (readRegisters m))
     × (toldVerdict (verdictNumbers (answerOf (judge m))) ≡ answerOf (judge m))
-the-numbers-tell m line d k c r = (
+the-numbers-tell m l line d k c r = (
   kind-numbers (instruction m) (instruction-kind m),
   kind-numbers (interrupt m k c) (interrupt-kind m k c),
+  kind-numbers (burst m l) (burst-kind m l),
   kind-numbers (setRegisters m r) (set-kind m r),
   kind-numbers (fresh m line d) (fresh-kind m line d),
   Numbers.read-told m,
@@ -51,16 +57,18 @@ pub broken-refused : (m : List ℕ) → length m ≡ memorySize → judged m ≡
 broken-refused = Numbers.broken-refused
 
 -- "Together the five are given exactly where 21 was": an answer of that form comes of such a memory only, and of fresh never
-pub told-nowhere-else : (m : List ℕ) (line d n c : ℕ) (r : Registers) (k a : ℕ) → Class k
+pub told-nowhere-else : (m l : List ℕ) (line d n c : ℕ) (r : Registers) (k a : ℕ) → Class k
     → (numbers (answerOf (instruction m)) ≡ k ∷ a ∷ [] → Bad m)
     × (numbers (answerOf (interrupt m n c)) ≡ k ∷ a ∷ [] → Bad m)
+    × (numbers (answerOf (burst m l)) ≡ k ∷ a ∷ [] → Bad m)
     × (numbers (answerOf (setRegisters m r)) ≡ k ∷ a ∷ [] → Bad m)
     × (heldNumbers (answerOf (readRegisters m)) ≡ k ∷ a ∷ [] → Bad m)
     × (verdictNumbers (answerOf (judge m)) ≡ k ∷ a ∷ [] → Bad m)
     × (numbers (answerOf (fresh m line d)) ≢ k ∷ a ∷ [])
-told-nowhere-else m line d n c r k a t = (
+told-nowhere-else m l line d n c r k a t = (
   Numbers.instruction-bad m t,
   Numbers.interrupt-bad m t n c,
+  Numbers.burst-bad m t l,
   Numbers.set-bad m t r,
   Numbers.read-bad m t,
   Numbers.judge-bad m t,
@@ -72,16 +80,18 @@ pub fresh-takes-any : (m : List ℕ) → length m ≡ memorySize → (line d : �
 fresh-takes-any = Numbers.fresh-takes
 
 -- ---- "Refusals leave all memory untouched": each call, each number 20-34 with whatever values, any memory; reading and judging never write
-pub refusal-keeps : (m : List ℕ) (line d n c : ℕ) (r : Registers) (k : ℕ) (ns : List ℕ) → firstRefusal ≤ k → k ≤ lastRefusal
+pub refusal-keeps : (m l : List ℕ) (line d n c : ℕ) (r : Registers) (k : ℕ) (ns : List ℕ) → firstRefusal ≤ k → k ≤ lastRefusal
     → (numbers (answerOf (instruction m)) ≡ k ∷ ns → memoryOf (instruction m) ≡ m)
     × (numbers (answerOf (interrupt m n c)) ≡ k ∷ ns → memoryOf (interrupt m n c) ≡ m)
+    × (numbers (answerOf (burst m l)) ≡ k ∷ ns → memoryOf (burst m l) ≡ m)
     × (numbers (answerOf (setRegisters m r)) ≡ k ∷ ns → memoryOf (setRegisters m r) ≡ m)
     × (numbers (answerOf (fresh m line d)) ≡ k ∷ ns → memoryOf (fresh m line d) ≡ m)
-refusal-keeps m line d n c r k ns l u = (
-  kind-kept (instruction m) (instruction-kind m) k ns l u,
-  kind-kept (interrupt m n c) (interrupt-kind m n c) k ns l u,
-  kind-kept (setRegisters m r) (set-kind m r) k ns l u,
-  kind-kept (fresh m line d) (fresh-kind m line d) k ns l u,
+refusal-keeps m l line d n c r k ns i j = (
+  kind-kept (instruction m) (instruction-kind m) k ns i j,
+  kind-kept (interrupt m n c) (interrupt-kind m n c) k ns i j,
+  kind-kept (burst m l) (burst-kind m l) k ns i j,
+  kind-kept (setRegisters m r) (set-kind m r) k ns i j,
+  kind-kept (fresh m line d) (fresh-kind m line d) k ns i j,
 )
 
 pub read-and-judge-keep : (m : List ℕ) → (memoryOf (readRegisters m) ≡ m) × (memoryOf (judge m) ≡ m)
@@ -97,13 +107,25 @@ handed-out-keeps m = kind-hands (instruction m) (instruction-kind m)
 pub a-fault : (m : List ℕ) (f n : ℕ) → numbers (answerOf (instruction m)) ≡ f ∷ n ∷ [] → f ≤ lastFault → Faulted m f n (memoryOf (instruction m))
 a-fault = faulted
 
+-- ---- "A burst from the line card", on every memory that the judge of document 01 accepts, of every list of numbers: one of three things comes of it, `Comes`
+-- (laws/specs/Bursts.antt), each with its answer. The list is longer than 64 or odd: 27. Or a pair would be refused as one interrupt, 24 or 25, and each
+-- before it would be done: that number, with its place, from 1. Or it is done, and the memory is that of the single interrupt call repeated in order,
+-- each answering done: `OneByOne`. A memory that is not accepted is refused as by every call: above
+pub a-burst : (m : List ℕ) → length m ≡ memorySize → judged m ≡ true → (l : List ℕ) → Comes m l
+a-burst m s j = comes (record { size = s; accepted = j })
+
+-- "An empty list changes nothing."
+pub an-empty-burst : (m : List ℕ) → length m ≡ memorySize → judged m ≡ true → burst m [] ≡ gives Done m
+an-empty-burst m s j = empty-done (record { size = s; accepted = j })
+
 -- ---- a fresh start gives a well-formed memory, whatever was there; every call, and the host, leave one well-formed
 pub fresh-well-formed : {m : List ℕ} → length m ≡ memorySize → Small m → (line d : ℕ) → startable line d ≡ true → Sound (memoryOf (fresh m line d))
 fresh-well-formed = fresh-starts
 
-pub calls-keep : {m : List ℕ} → Sound m → (line d k c : ℕ) (r : Registers) → Sound (memoryOf (instruction m)) × Sound (memoryOf (interrupt m k c))
-    × Sound (memoryOf (setRegisters m r)) × Sound (memoryOf (fresh m line d))
-calls-keep h line d k c r = (instruction-sound h, interrupt-sound h k c, set-sound h r, fresh-sound h line d)
+pub calls-keep : {m : List ℕ} → Sound m → (l : List ℕ) (line d k c : ℕ) (r : Registers)
+    → Sound (memoryOf (instruction m)) × Sound (memoryOf (interrupt m k c)) × Sound (memoryOf (burst m l)) × Sound (memoryOf (setRegisters m r))
+    × Sound (memoryOf (fresh m line d))
+calls-keep h l line d k c r = (instruction-sound h, interrupt-sound h k c, burst-sound h l, set-sound h r, fresh-sound h line d)
 
 pub host-keeps : {m m′ : List ℕ} → Host m m′ → Sound m → Sound m′
 host-keeps = host-sound
@@ -112,14 +134,15 @@ host-keeps = host-sound
 pub always-well-formed : (m : List ℕ) → Reached m → Sound m
 always-well-formed = reached-sound
 
-pub never-told : (m : List ℕ) → Reached m → (n c : ℕ) (r : Registers) (k a : ℕ) → Class k
-    → (numbers (answerOf (instruction m)) ≢ k ∷ a ∷ []) × (numbers (answerOf (interrupt m n c)) ≢ k ∷ a ∷ [])
+pub never-told : (m : List ℕ) → Reached m → (l : List ℕ) (n c : ℕ) (r : Registers) (k a : ℕ) → Class k
+    → (numbers (answerOf (instruction m)) ≢ k ∷ a ∷ []) × (numbers (answerOf (interrupt m n c)) ≢ k ∷ a ∷ []) × (numbers (answerOf (burst m l)) ≢ k ∷ a ∷ [])
     × (numbers (answerOf (setRegisters m r)) ≢ k ∷ a ∷ []) × (heldNumbers (answerOf (readRegisters m)) ≢ k ∷ a ∷ [])
     × (verdictNumbers (answerOf (judge m)) ≡ doneNumber ∷ [])
-never-told m h n c r k a t =
+never-told m h l n c r k a t =
     let s = reached-sound m h in (
       λ e. sound-good s (Numbers.instruction-bad m t e),
       λ e. sound-good s (Numbers.interrupt-bad m t n c e),
+      λ e. sound-good s (Numbers.burst-bad m t l e),
       λ e. sound-good s (Numbers.set-bad m t r e),
       λ e. sound-good s (Numbers.read-bad m t e),
       Numbers.judge-yes s,
