@@ -4,3 +4,4 @@ pub mod Script
 pub mod Rows
 pub mod Refuting
 pub mod Told
+pub mod Bursts

@@ -34,12 +34,14 @@ use Rattle.model.specs.Store.{Store}
 use Rattle.model.specs.Address.{at, write}
 use Rattle.model.specs.Answer.{answerOf, memoryOf, numbers, heldNumbers, verdictNumbers}
 use Rattle.model.specs.Call.{fresh, instruction, interrupt, readRegisters, setRegisters, judge}
+use Rattle.model.specs.Burst.{burst}
 
--- the six calls with the numbers of their answers; `host` writes page 0 and unprotected words, `made` any; `has` looks at words
+-- the seven calls with the numbers of their answers; `host` writes page 0 and unprotected words, `made` any; `has` looks at words
 pub data Line : Type 0 where
   fresh-start : ℕ → ℕ → List ℕ → Line
   step : List ℕ → Line
   signal : ℕ → ℕ → List ℕ → Line
+  signals : List ℕ → List ℕ → Line
   reads : List ℕ → Line
   sets : Registers → List ℕ → Line
   judges : List ℕ → Line
@@ -105,6 +107,8 @@ module _ (S : Store) where
       let o = instruction S m in elim (sameWords (numbers (answerOf o)) ns) [ true ↦ plays cs (memoryOf o) | false ↦ false ]
   plays (signal k c ns ∷ cs) m =
       let o = interrupt S m k c in elim (sameWords (numbers (answerOf o)) ns) [ true ↦ plays cs (memoryOf o) | false ↦ false ]
+  plays (signals l ns ∷ cs) m =
+      let o = burst S m l in elim (sameWords (numbers (answerOf o)) ns) [ true ↦ plays cs (memoryOf o) | false ↦ false ]
   plays (reads ns ∷ cs) m =
       let o = readRegisters S m in elim (sameWords (heldNumbers (answerOf o)) ns) [ true ↦ plays cs (memoryOf o) | false ↦ false ]
   plays (sets r ns ∷ cs) m =
