@@ -9,7 +9,7 @@
 
 enum {
     LEDGER = 1, SCALE = 2, BARRIER = 3,                     /* names; the priorities are 1, 3 and 2 */
-    ON_SCALE = 17, BARRIER_OPEN = 18,                       /* interrupts */
+    CLOCK = 16, ON_SCALE = 17, BARRIER_OPEN = 18,           /* interrupts */
     LEDGER_AT = 2752, SCALE_AT = 3000, BARRIER_AT = 3200,   /* programs */
     READING = 3500, OPEN = 3530,                            /* messages that wait to be sent: a length, then the text */
     ORDER = 3600, ENTRY = 3700                              /* messages as read: sender, flag, length, text */
@@ -96,6 +96,16 @@ static void truck(const char *reading) {
     expect("interrupt", wik_interrupt(memory, sizeof memory, ON_SCALE, 0));
 }
 
+/* What the line card kept while the host was away, in one call: pairs of number and class number. A list with a bad pair is refused whole, and told where. */
+static void burst(const uint8_t *list, size_t count) {
+    static uint8_t lent[WIK_WORDS];
+    memcpy(lent, memory, sizeof lent);
+    uint64_t answer = wik_burst(memory, sizeof memory, list, count);
+    printf("burst of %zu bytes: %s", count, wik_text(answer));
+    if (wik_number(answer) == WIK_NO_INTERRUPT || wik_number(answer) == WIK_WRONG_CLASS) printf(", pair %u", wik_bad_pair(answer));
+    puts(memcmp(lent, memory, sizeof lent) == 0 ? "; nothing has changed" : "");
+}
+
 /* A word that is spoiled from outside: every call is refused with what is broken and where, and the memory comes back as it was lent. */
 static void spoil(unsigned place, uint8_t value) {
     static uint8_t lent[WIK_WORDS];
@@ -112,7 +122,7 @@ static void spoil(unsigned place, uint8_t value) {
 }
 
 int main(void) {
-    expect("fresh", wik_fresh(memory, sizeof memory, 16, 5));
+    expect("fresh", wik_fresh(memory, sizeof memory, CLOCK, 5));
     load();
     message(OPEN, "open");
     run(100);
@@ -132,6 +142,17 @@ int main(void) {
     run(100);
     expect("interrupt", wik_interrupt(memory, sizeof memory, BARRIER_OPEN, 0));
     run(100);
+
+    /* the host was away: seven ticks of the clock, the scale and the barrier, and the scale again, which nobody waited for yet */
+    const uint8_t night[] = { CLOCK, 0, CLOCK, 0, BARRIER_OPEN, 0, CLOCK, 0, CLOCK, 0, ON_SCALE, 0, CLOCK, 0, ON_SCALE, 0, CLOCK, 0, CLOCK, 0 };
+    message(READING, "S-041 19305 kg");
+    burst(night, sizeof night);
+    run(100);
+    const uint8_t torn[] = { ON_SCALE, 0, BARRIER_OPEN, 7, CLOCK, 0 };
+    burst(torn, sizeof torn);
+    burst(torn, 3);
+    burst(torn, 0);
+    printf("clock: C0 %u, C1 %u\n", memory[240], memory[241]);
 
     /* the free list, its semaphore, the ledger's name, the table of errors, a counter of the clock: each is spoiled and put back */
     spoil(244, 236);

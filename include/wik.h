@@ -1,4 +1,4 @@
-/* The kernel for hosts in C: six calls on one memory of 8,192 words, proved in crates/kernel and exported by crates/host.
+/* The kernel for hosts in C: seven calls on one memory of 8,192 words, proved in crates/kernel and exported by crates/host.
  *
  * `./host --library` builds the library for x86-64 Linux and leaves it, with this header, in build/:
  *     gcc -std=c11 -I build -o HOST HOST.c build/libhost.a
@@ -8,9 +8,9 @@
  * between calls. docs/HOSTS.md says what a host may do between calls.
  *
  * ANSWERS. Every call answers with one number of 64 bits (crates/host/specs/Encoded.antt):
- *   bits 0-7    the number of the answer: WIK_DONE, WIK_WAITS, WIK_HANDED_OUT, a fault 1-12 or a refusal 20, 22-26, 30-34
+ *   bits 0-7    the number of the answer: WIK_DONE, WIK_WAITS, WIK_HANDED_OUT, a fault 1-12 or a refusal 20, 22-27, 30-34
  *   bits 8-23   of WIK_HANDED_OUT the address of the program; of a fault the name of the processor that it stopped; of a refusal 30-34 the address of
- *               what is broken
+ *               what is broken; of a refusal 24 or 25 of wik_burst the place of the bad pair, from 1
  *   bits 24-39  of WIK_HANDED_OUT the address of word n+1, or of the arguments
  * Where it answers WIK_DONE, wik_read_registers puts the registers into bits 8-43: see there.
  *
@@ -57,6 +57,7 @@ enum wik_number {
     WIK_NO_INTERRUPT = 24,
     WIK_WRONG_CLASS = 25,
     WIK_OUT_OF_RANGE = 26,
+    WIK_WRONG_LIST = 27,
 
     WIK_BROKEN_PAGES = 30,      /* refusals of a broken memory, each with the lowest address that is wrong; the first of the five that applies is given */
     WIK_BROKEN_WAITS = 31,
@@ -99,6 +100,7 @@ static inline const char *wik_text(uint64_t answer) {
     case WIK_NO_INTERRUPT: return "refused: the interrupt is not 16-50";
     case WIK_WRONG_CLASS: return "refused: the class number is over 31, or not 0 below interrupt 48";
     case WIK_OUT_OF_RANGE: return "refused: a value is out of range";
+    case WIK_WRONG_LIST: return "refused: the list of a burst is odd, or longer than 64 bytes";
     case WIK_BROKEN_PAGES: return "refused: a control page is used twice or not at all";
     case WIK_BROKEN_WAITS: return "refused: a wait queue or a semaphore does not fit";
     case WIK_BROKEN_RECORDS: return "refused: the record of a processor or of a message does not fit";
@@ -119,6 +121,16 @@ uint64_t wik_instruction(uint8_t *memory, size_t length);
 /* Delivers interrupt number, 16-50, with a class number, which is 0 but for 48-50, where it is 0-31.
  * Answers WIK_DONE; 20; 30-34; 24; 25. */
 uint64_t wik_interrupt(uint8_t *memory, size_t length, uint16_t number, uint16_t class_number);
+
+/* Delivers a burst from the line card in one call: count bytes of list, the number and the class number of each interrupt in turn, at most 32 pairs. They
+ * are delivered in order, as by wik_interrupt one after the other, and the memory is judged once. No bytes are a burst too, and change nothing; even then
+ * list is no null pointer. The list is only read, and must lie outside of the memory that is lent.
+ * Answers WIK_DONE; 20; 30-34; 27 where count is odd or over 64; 24 or 25 of the first pair that is refused, with wik_bad_pair its place: then nothing
+ * has been delivered. */
+enum { WIK_BURST_BYTES = 64 };
+uint64_t wik_burst(uint8_t *memory, size_t length, const uint8_t *list, size_t count);
+
+static inline unsigned wik_bad_pair(uint64_t answer) { return wik_first(answer); }
 
 /* The registers of the running processor, which is never stopped: bits 8-15 A, 16-23 S, 24 P, 25 Z, 26 CI, 27-39 LR, 40-43 W; all others are 0.
  * Answers WIK_DONE in bits 0-7; 20; 30-34; 22. Changes nothing. */

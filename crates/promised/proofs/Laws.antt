@@ -18,7 +18,7 @@ use Rattle.model.specs.Bytes as Model
 use Rattle.laws.specs.Words.{Small}
 use Rattle.laws.specs.Calls as Calls
 use Rattle.laws.specs.Calls.{Act, after}
-use Rattle.laws.specs.Calls.Act.{fresh-start, instruct, signal, set, read, judge-it}
+use Rattle.laws.specs.Calls.Act.{fresh-start, instruct, signal, signals, set, read, judge-it}
 use Rattle.history.specs.Lives.{Past, Run, noneYet, later}
 use Rattle.history.specs.Lives.Run.{start, call}
 
@@ -45,6 +45,10 @@ pub interrupt-goes : (m n : List ℕ) (r : Answer) (k c : ℕ) → gives r n ≡
 unfolding Calls.after
 interrupt-goes m n r k c e = goes (signal k c) m n (leaves e)
 
+pub burst-goes : (m n : List ℕ) (r : Answer) (l : List ℕ) → gives r n ≡ Model.burst m l → (h : Past) → Run m h → Run n (later (signals l) m h)
+unfolding Calls.after
+burst-goes m n r l e = goes (signals l) m n (leaves e)
+
 pub set-goes : (m n : List ℕ) (r : Answer) (x : Registers) → gives r n ≡ Model.setRegisters m x → (h : Past) → Run m h → Run n (later (set x) m h)
 unfolding Calls.after
 set-goes m n r x e = goes (set x) m n (leaves e)
@@ -62,4 +66,4 @@ pub none-small : (m : List ℕ) → length m ≡ 0 → Small m
 none-small [] e = record { at = λ a. omega arith }
 none-small (x ∷ m) e = absurd (omega arith)
 
-pub ruleset goings = (fresh-goes, fresh-begins, instruction-goes, interrupt-goes, set-goes, read-goes, judge-goes)
+pub ruleset goings = (fresh-goes, fresh-begins, instruction-goes, interrupt-goes, burst-goes, set-goes, read-goes, judge-goes)

@@ -11,7 +11,7 @@ ghost use lib.ListN.{length};
 ghost use Rattle.model.specs.Map.{memorySize};
 ghost use Rattle.model.specs.Fresh.{startable};
 ghost use Rattle.laws.specs.Words.{Small};
-ghost use Rattle.laws.specs.Calls.Act.{fresh-start, instruct, signal, set, read, judge-it};
+ghost use Rattle.laws.specs.Calls.Act.{fresh-start, instruct, signal, signals, set, read, judge-it};
 ghost use Rattle.history.specs.Lives.{Past, Run, noneYet, later};
 
 // A lent slice is a list of words of 8 bits: no premise of the promises is left to prose.
@@ -43,6 +43,12 @@ pub fn interrupt(m: &mut [u8], number: u16, class: u16) -> Answer
     ensures { λ _. ⌜ ((h : Past) → Run (now (m .entry)) h → Run (now (m .exit)) (later (signal number class) (now (m .entry)) h)) ⌝ }
 {
     kernel::interrupt(m, number, class)
+}
+
+pub fn burst(m: &mut [u8], list: &[u8]) -> Answer
+    ensures { λ _. ⌜ ((h : Past) → Run (now (m .entry)) h → Run (now (m .exit)) (later (signals (now (list .entry))) (now (m .entry)) h)) ⌝ }
+{
+    kernel::burst(m, list)
 }
 
 pub fn read_registers(m: &[u8]) -> Held
