@@ -1,8 +1,8 @@
 use borrow.Author.Needs.{needs}
 use Rattle.model.specs.Call as Call
 use Rattle.model.proofs.Tests.{tests}
-use Rattle.kernel.proofs.is_class.Statement.{statement}
-use Rattle.kernel.proofs.is_class.Tie as tie
+use Rattle.arrivals.proofs.is_class.Statement.{statement}
+use Rattle.arrivals.proofs.is_class.Tie as tie
 
 pub is-class-spec : {M : Type 1} → statement M
 unfolding Call.isClass

@@ -1,0 +1,154 @@
+-- What a test that was passed says, and a law for each way through an arrival and a burst.
+use Prim.Native.Nat.{ℕ, _≤_, _<_, _+_, _-_, _%_}
+use mathlib.Core.Path.{_≡_, refl, sym, _∙_}
+use mathlib.Core.List.{List, [], _∷_}
+use mathlib.Core.Bool.{Bool, true, false, cond, false≢true}
+use lib.Dec.{eqb, ltb}
+use lib.ListN.{length, getD, take, drop}
+use lib.Seq.{take-all}
+use borrow.Author.Tests.{ltb-false, lt-ltb, le-ltb}
+use native.Mathlib.Omega.{arith}
+use Rattle.model.specs.declared.Checked.{Checked}
+use Rattle.model.specs.declared.Checked.the-variants.{Good, Bad}
+use Rattle.model.specs.Map.{low, pairBytes, longestList}
+use Rattle.model.specs.Address.{unless}
+use Rattle.model.specs.Answer.{noInterrupt, wrongClass}
+use Rattle.model.specs.Call as Call
+use Rattle.model.specs.Call.{isOuter, isClass}
+use Rattle.model.specs.Burst as Burst
+use Rattle.model.specs.Burst.{isList, tested}
+use Rattle.model.specs.Bytes.{Memory, whoRuns, delivered, arrived}
+use Rattle.arrivals.specs.Good.{AllGood}
+
+-- ---- what a range that was tested says: a test b did not refuse, and the next, x, is passed
+pub past : (b x : Bool) → cond b false x ≡ true → (b ≡ false) × (x ≡ true)
+past true x h = absurd (false≢true h)
+past false x h = (refl, h)
+
+outer-range : (k : ℕ) → isOuter k ≡ true → k ≤ 50
+unfolding Call.isOuter
+outer-range k h = ltb-false 50 k ((past (ltb 50 k) true ((past (ltb k 16) (cond (ltb 50 k) false true) h) .1)) .0)
+
+class-range : (k c : ℕ) → isClass k c ≡ true → c ≤ 31
+unfolding Call.isClass
+class-range k c h = ltb-false 31 c ((past (ltb 31 c) (cond (ltb k 48) (eqb c 0) true) h) .0)
+
+-- ---- an arrival: v and w are number and class as bytes
+pub arrives : (m m₁ m₂ : Memory) (k c v w : ℕ) → isOuter k ≡ true → isClass k c ≡ true → v ≡ low (k % 55) → w ≡ low c → m₁ ≡ delivered m v w
+    → m₂ ≡ whoRuns m₁
+    → m₂ ≡ whoRuns (delivered m k c)
+arrives m m₁ m₂ k c v w a b ev ew e₁ e₂ =
+    let q : k ≤ 50 = outer-range k a in
+    let r : c ≤ 31 = class-range k c b in
+    let x : v ≡ k = omega arith in
+    let y : w ≡ c = omega arith in
+    rw (← x, ← y, ← e₁) e₂
+
+-- ---- whether a list may be a burst
+pub too-long : (l : List ℕ) → longestList < length l → false ≡ isList l
+unfolding Burst.isList
+too-long l h = rw (lt-ltb longestList (length l) h)
+
+pub in-pairs : (l : List ℕ) (b : Bool) → length l ≤ longestList → b ≡ eqb (length l % pairBytes) 0 → b ≡ isList l
+unfolding Burst.isList
+in-pairs l b h e = rw (le-ltb longestList (length l) h) e
+
+-- ---- what stands behind the first pair of a list, as the code takes it
+abbrev rest : List ℕ → List ℕ
+rest l = take (length l - 2) (drop 2 l)
+
+rest-is : (k c : ℕ) (l : List ℕ) → rest (k ∷ c ∷ l) ≡ l
+rest-is k c l = take-all (length (k ∷ c ∷ l) - 2) l (omega arith)
+
+-- ---- the pairs tested: by whether the number and the class of the first, of place i, passed, and what is told of the rest
+abbrev pairTold : Bool → Bool → ℕ → Checked → Checked
+pairTold a b i t = unless a (Bad noInterrupt i) (unless b (Bad wrongClass i) t)
+
+tested-pair : (i k c : ℕ) (l : List ℕ) → tested i (k ∷ c ∷ l) ≡ pairTold (isOuter k) (isClass k c) i (tested (i + 1) l)
+unfolding Burst.tested
+tested-pair i k c l = refl
+
+pub tested-end : (i : ℕ) (l : List ℕ) → length l < pairBytes → Good ≡ tested i l
+unfolding Burst.tested
+tested-end i [] h = refl
+tested-end i (k ∷ []) h = refl
+tested-end i (k ∷ c ∷ l) h = absurd (omega arith)
+
+-- the first pair is k and c, and a and b say whether it passed
+pub tested-number : (i : ℕ) (l : List ℕ) (k : ℕ) (a : Bool) → pairBytes ≤ length l → k ≡ getD l 0 0 → a ≡ isOuter k → a ≡ false
+    → Bad noInterrupt i ≡ tested i l
+tested-number i [] k a h ek ea za = absurd (omega arith)
+tested-number i (x ∷ []) k a h ek ea za = absurd (omega arith)
+tested-number i (x ∷ y ∷ l) k a h ek ea za = rw (tested-pair, ← ek, ← ea, za)
+
+pub tested-class : (i : ℕ) (l : List ℕ) (k c : ℕ) (a b : Bool) → pairBytes ≤ length l → k ≡ getD l 0 0 → a ≡ isOuter k → a ≡ true → c ≡ getD l 1 0
+    → b ≡ isClass k c
+    → b ≡ false
+    → Bad wrongClass i ≡ tested i l
+tested-class i [] k c a b h ek ea za ec eb zb = absurd (omega arith)
+tested-class i (x ∷ []) k c a b h ek ea za ec eb zb = absurd (omega arith)
+tested-class i (x ∷ y ∷ l) k c a b h ek ea za ec eb zb = rw (tested-pair, ← ek, ← ec, ← ea, ← eb, za, zb)
+
+pub tested-on : (i : ℕ) (l : List ℕ) (k c : ℕ) (a b : Bool) (o : Checked) → pairBytes ≤ length l → k ≡ getD l 0 0 → a ≡ isOuter k → a ≡ true
+    → c ≡ getD l 1 0
+    → b ≡ isClass k c
+    → b ≡ true
+    → o ≡ tested (i + 1) (rest l)
+    → o ≡ tested i l
+tested-on i [] k c a b o h ek ea za ec eb zb e = absurd (omega arith)
+tested-on i (x ∷ []) k c a b o h ek ea za ec eb zb e = absurd (omega arith)
+tested-on i (x ∷ y ∷ l) k c a b o h ek ea za ec eb zb e = rw (tested-pair, ← ek, ← ec, ← ea, ← eb, za, zb) (rw (rest-is x y l) at e)
+
+-- ---- a list of good pairs: the first is good, and so are the rest
+passed : (a b : Bool) (i : ℕ) (t : Checked) → pairTold a b i t ≡ Good → (a ≡ true) × (b ≡ true) × (t ≡ Good)
+passed false b i t h = let z : _≡_ {A = ℕ} 0 1 = cc in absurd (omega arith)
+passed true false i t h = let z : _≡_ {A = ℕ} 0 1 = cc in absurd (omega arith)
+passed true true i t h = (refl, refl, h)
+
+pair-good : (i k c : ℕ) (l : List ℕ) → tested i (k ∷ c ∷ l) ≡ Good → (isOuter k ≡ true) × (isClass k c ≡ true) × (tested (i + 1) l ≡ Good)
+pair-good i k c l h = passed (isOuter k) (isClass k c) i (tested (i + 1) l) (sym (tested-pair i k c l) ∙ h)
+
+pub first-outer : (l : List ℕ) (k : ℕ) → pairBytes ≤ length l → AllGood l → k ≡ getD l 0 0 → isOuter k ≡ true
+first-outer [] k h g ek = absurd (omega arith)
+first-outer (x ∷ []) k h g ek = absurd (omega arith)
+first-outer (x ∷ y ∷ l) k h g ek = rw ek ((pair-good (g .place) x y l (g .good)) .0)
+
+pub first-class : (l : List ℕ) (k c : ℕ) → pairBytes ≤ length l → AllGood l → k ≡ getD l 0 0 → c ≡ getD l 1 0 → isClass k c ≡ true
+first-class [] k c h g ek ec = absurd (omega arith)
+first-class (x ∷ []) k c h g ek ec = absurd (omega arith)
+first-class (x ∷ y ∷ l) k c h g ek ec = rw (ek, ec) ((pair-good (g .place) x y l (g .good)) .1)
+
+pub rest-good : (l : List ℕ) → pairBytes ≤ length l → AllGood l → AllGood (rest l)
+rest-good [] h g = absurd (omega arith)
+rest-good (x ∷ []) h g = absurd (omega arith)
+rest-good (x ∷ y ∷ l) h g = rw (rest-is x y l) (record { place = g .place + 1; good = (pair-good (g .place) x y l (g .good)) .2 })
+
+-- ---- the pairs arrive
+pub arrived-end : (m : Memory) (l : List ℕ) → length l < pairBytes → m ≡ arrived m l
+unfolding Burst.arrived
+arrived-end m [] h = refl
+arrived-end m (k ∷ []) h = refl
+arrived-end m (k ∷ c ∷ l) h = absurd (omega arith)
+
+pub arrived-on : (m m₁ m₂ : Memory) (l : List ℕ) (k c : ℕ) → pairBytes ≤ length l → k ≡ getD l 0 0 → c ≡ getD l 1 0 → m₁ ≡ whoRuns (delivered m k c)
+    → m₂ ≡ arrived m₁ (rest l)
+    → m₂ ≡ arrived m l
+unfolding Burst.arrived
+arrived-on m m₁ m₂ [] k c h ek ec e₁ e₂ = absurd (omega arith)
+arrived-on m m₁ m₂ (x ∷ []) k c h ek ec e₁ e₂ = absurd (omega arith)
+arrived-on m m₁ m₂ (x ∷ y ∷ l) k c h ek ec e₁ e₂ = rw (← ek, ← ec, ← e₁) (rw (rest-is x y l) at e₂)
+
+pub ruleset bursts = (
+  arrives,
+  too-long,
+  in-pairs,
+  tested-end,
+  tested-number,
+  tested-class,
+  tested-on,
+  first-outer,
+  first-class,
+  rest-good,
+  arrived-end,
+  arrived-on,
+)
