@@ -140,8 +140,6 @@ arrived-on m m₁ m₂ (x ∷ y ∷ l) k c h ek ec e₁ e₂ = rw (← ek, ← e
 
 pub ruleset bursts = (
   arrives,
-  too-long,
-  in-pairs,
   tested-end,
   tested-number,
   tested-class,

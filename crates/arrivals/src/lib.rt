@@ -76,8 +76,10 @@ pub fn test(list: &[u8], place: u16) -> Checked
         return Checked::Good;
     }
     let number = wide(list[0]);
-    if is_outer(number) {
-        if is_class(number, wide(list[1])) {
+    let outer = is_outer(number);
+    let classed = is_class(number, wide(list[1]));
+    if outer {
+        if classed {
             return test(&list[2..], place + 1);
         }
         return Checked::Bad(refusals::WRONG_CLASS, place);
