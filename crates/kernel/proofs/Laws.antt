@@ -1,36 +1,37 @@
 -- What is found of a memory, the head of a call, what a call comes to behind its refusals, and that a call allows one outcome only.
-use Prim.Native.Nat.{ℕ, _≤_, _%_}
+use Prim.Native.Nat.{ℕ, _≤_, _<_, _+_, _%_}
 use mathlib.Core.Path.{_≡_, refl, sym, ap, _∙_}
 use mathlib.Core.List.{List}
-use mathlib.Core.Bool.{Bool, true, false, cond, false≢true}
+use mathlib.Core.Bool.{Bool, true, false, cond}
 use lib.Dec.{eqb, ltb}
 use lib.ListN.{length}
 use borrow.Author.Tests.{ltb-false, eqb-true, eq-eqb, ne-eqb}
 use native.Mathlib.Omega.{arith}
 use Rattle.model.specs.declared.Answer.{Answer}
-use Rattle.model.specs.declared.Answer.the-variants.{Done}
+use Rattle.model.specs.declared.Answer.the-variants.{Done, RefusedAt}
+use Rattle.model.specs.declared.Checked.{Checked}
+use Rattle.model.specs.declared.Checked.the-variants.{Good, Bad}
 use Rattle.model.specs.declared.Held.{Held}
 use Rattle.model.specs.declared.Verdict.{Verdict}
 use Rattle.model.specs.declared.Registers.{Registers}
 use Rattle.model.specs.declared.Finding.{Finding}
 use Rattle.model.specs.declared.Finding.the-variants.{Nothing, WrongLength, Broken}
 use Rattle.model.specs.declared.Held.the-variants as Held
-use Rattle.model.specs.Map.{memorySize, low}
+use Rattle.model.specs.Map.{memorySize, low, pairBytes, longestList}
 use Rattle.model.specs.Answer.{Outcome, wrongLength, numbers, heldNumbers, verdictNumbers}
 use Rattle.model.specs.Answer.Outcome.{gives}
 use Rattle.model.specs.Fresh as Fresh
 use Rattle.model.specs.Fresh.{startable}
 use Rattle.model.specs.Call as Call
-use Rattle.model.specs.Call.{isOuter, isClass}
+use Rattle.model.specs.Burst as Burst
+use Rattle.model.specs.Burst.{isList, tested}
+use Rattle.arrivals.specs.Good.{AllGood}
+use Rattle.arrivals.proofs.Laws.{past}
 use Rattle.kernel.specs.Spoken as Spoken
 use Rattle.kernel.specs.Spoken.{spoken}
-use Rattle.model.specs.Bytes.{Memory, Step, finding, toldOf, head, running, lr, registersOf, setRegistersOf, whoRuns, delivered, fetched, started}
+use Rattle.model.specs.Bytes.{Memory, Step, finding, toldOf, head, running, lr, registersOf, setRegistersOf, arrived, heedsPairs, fetched, started}
 
--- ---- what a range that was tested says: a test b did not refuse, and the next, x, is passed
-past : (b x : Bool) → cond b false x ≡ true → (b ≡ false) × (x ≡ true)
-past true x h = absurd (false≢true h)
-past false x h = (refl, h)
-
+-- ---- what a range that was tested says
 start-range : (l d : ℕ) → startable l d ≡ true → (l ≤ 47) × (d ≤ 255)
 unfolding Fresh.startable
 start-range l d h =
@@ -38,14 +39,6 @@ start-range l d h =
     let y : Bool = cond (eqb d 0) false z in
     let u : (ltb 47 l ≡ false) × (y ≡ true) = past (ltb 47 l) y ((past (ltb l 16) (cond (ltb 47 l) false y) h) .1) in
     (ltb-false 47 l (u .0), ltb-false 255 d ((past (ltb 255 d) true ((past (eqb d 0) z (u .1)) .1)) .0))
-
-outer-range : (k : ℕ) → isOuter k ≡ true → k ≤ 50
-unfolding Call.isOuter
-outer-range k h = ltb-false 50 k ((past (ltb 50 k) true ((past (ltb k 16) (cond (ltb 50 k) false true) h) .1)) .0)
-
-class-range : (k c : ℕ) → isClass k c ≡ true → c ≤ 31
-unfolding Call.isClass
-class-range k c h = ltb-false 31 c ((past (ltb 31 c) (cond (ltb k 48) (eqb c 0) true) h) .0)
 
 -- ---- what is found: of the length, then what is told
 pub found-short : (m : Memory) → (length m ≡ memorySize → ⊥) → WrongLength ≡ finding m
@@ -97,20 +90,6 @@ module _ (m : Memory) where
   pub fetched-is : (o : Step) (n : ℕ) → n ≡ lr m → o ≡ fetched m n → o ≡ fetched m (lr m)
   fetched-is o n en e = rw (← en) e
 
-  -- v and w are number and class as bytes
-  pub delivered-is : (m₁ : Memory) (k c v w : ℕ) (a b : Bool) → m₁ ≡ delivered m v w → v ≡ low (k % 55) → w ≡ low c → a ≡ isOuter k → a ≡ true → b ≡ isClass k c
-      → b ≡ true
-      → m₁ ≡ delivered m k c
-  delivered-is m₁ k c v w a b e₁ ev ew ea h eb g =
-      let q : k ≤ 50 = outer-range k (sym ea ∙ h) in
-      let r : c ≤ 31 = class-range k c (sym eb ∙ g) in
-      let x : v ≡ k = omega arith in
-      let y : w ≡ c = omega arith in
-      rw (← x, ← y) e₁
-
-  pub runs-on : (m₁ m₂ : Memory) → m₂ ≡ whoRuns m₁ → m₁ ≡ m → gives Done m₂ ≡ gives Done (whoRuns m)
-  runs-on m₁ m₂ e₂ e₁ = rw (← e₁, ← e₂)
-
   module _ (p : ℕ) (r : Registers) (ep : p ≡ running m) where
     pub registers-are : r ≡ registersOf m p → gives (Held.Has r) m ≡ gives (Held.Has (registersOf m (running m))) m
     registers-are er = rw (← ep, ← er)
@@ -118,7 +97,31 @@ module _ (m : Memory) where
     pub registers-set : (m₁ : Memory) → m₁ ≡ setRegistersOf m p r → gives Done m₁ ≡ gives Done (setRegistersOf m (running m) r)
     registers-set m₁ e₁ = rw (← ep, ← e₁)
 
--- ---- two outcomes that one statement allows are equal, in answer and in memory: of each of the six calls, f being its outcome
+-- ---- a test t was found to be a, and passed
+pub passed : (a t : Bool) → a ≡ t → a ≡ true → t ≡ true
+passed a t e h = sym e ∙ h
+
+-- ---- a burst: a list that may be one is short, and t is what came of its tests
+pub list-short : (l : List ℕ) (a : Bool) → a ≡ isList l → a ≡ true → 1 + length l < 65536
+unfolding Burst.isList
+list-short l a ea h =
+    let u : length l ≤ longestList = ltb-false longestList (length l) ((past (ltb longestList (length l)) (eqb (length l % pairBytes) 0) (sym ea ∙ h)) .0) in
+    omega arith
+
+-- whatever place the first pair had
+pub all-good : (l : List ℕ) (i : ℕ) (t : Checked) → t ≡ tested i l → t ≡ Good → AllGood l
+all-good l i t et z = record { place = i; good = sym et ∙ z }
+
+module _ (m : Memory) (l : List ℕ) (t : Checked) (et : t ≡ tested 1 l) where
+  pub pairs-arrive : (m₁ : Memory) → t ≡ Good → m₁ ≡ arrived m l → gives Done m₁ ≡ heedsPairs (tested 1 l) m l
+  pairs-arrive m₁ z e₁ = rw (← et, z, ← e₁)
+
+  pub pairs-bad : (n i : ℕ) → t ≡ Bad n i → gives (RefusedAt n i) m ≡ heedsPairs (tested 1 l) m l
+  pairs-bad n i z = rw (← et, z)
+
+pub ruleset bursts = (list-short, all-good, pairs-arrive, pairs-bad)
+
+-- ---- two outcomes that one statement allows are equal, in answer and in memory: of each call, f being its outcome
 pub one-outcome : {A : Type 0} (a b : A) (m n : Memory) (f : Outcome A Memory) → gives a m ≡ f → gives b n ≡ f → (a ≡ b) × (m ≡ n)
 one-outcome a b m n f p q = let e : gives a m ≡ gives b n = p ∙ sym q in (cc, cc)
 
@@ -138,4 +141,4 @@ said-verdict = by-numbers verdictNumbers
 
 pub ruleset sayings = (said, said-held, said-verdict)
 
-pub ruleset calls = (started-is, fetched-is, delivered-is, runs-on, registers-are, registers-set)
+pub ruleset calls = (started-is, fetched-is, registers-are, registers-set)

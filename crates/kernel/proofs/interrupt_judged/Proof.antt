@@ -1,7 +1,7 @@
 use borrow.Author.Needs.{needs}
 use Rattle.model.specs.Call as Call
 use Rattle.processors.proofs.Ways.{found-true, found-false}
-use Rattle.kernel.proofs.Laws.{delivered-is, runs-on}
+use Rattle.kernel.proofs.Laws.{passed}
 use Rattle.kernel.proofs.interrupt_judged.Statement.{statement}
 use Rattle.kernel.proofs.interrupt_judged.Tie as tie
 
@@ -10,11 +10,8 @@ unfolding Call.interruptJudged
 interrupt-judged-spec = tie.close (tie.spec
     (λ c κs. search needs)
     (λ c κs. search needs)
-    (λ c κs. search needs)
-    (λ c κs. search needs)
-    (λ c κs. search needs)
-    (λ c κs. search needs)
+    (λ c κs. search (needs, passed))
     (λ c. search needs)
-    (λ c. search (found-true, runs-on, delivered-is))
+    (λ c. search (needs, found-true))
     (λ c. search (found-true, found-false))
     (λ c. search found-false))
