@@ -7,7 +7,7 @@ use lib.ListN.{length, getD}
 use borrow.Author.Tests.{eq-eqb, ne-eqb, lt-ltb, le-ltb, le-leb, lt-leb}
 use native.Mathlib.Numerals.{sub-one}
 use native.Mathlib.Omega.{arith}
-use Rattle.script.specs.Sizes.{longestLine, largestNumber, noNumber, mostValues, mostNumbers, wrongNumbers, space}
+use Rattle.script.specs.Sizes.{longestLine, largestNumber, noNumber, mostNumbers, wrongNumbers, space}
 use Rattle.script.specs.declared.reading.Figures.{Figures}
 use Rattle.script.specs.declared.Order.{Order}
 use Rattle.script.specs.declared.Order.the-variants.{Nothing, NotUnderstood}
@@ -73,10 +73,10 @@ module _ (s : List ℕ) where
     number-is z = rw (← eb, ← ed, ne-eqb (d .next) b z)
 
   module _ (v : List ℕ) where
-    pub numbers-ended : (n a : ℕ) (b : Bool) → n ≤ mostNumbers → b ≡ ended s a → b ≡ true → read (mostNumbers - n) v ≡ numbers n s a v
+    pub numbers-ended : (n a : ℕ) (b : Bool) → b ≡ ended s a → b ≡ true → read (mostNumbers - n) v ≡ numbers n s a v
     unfolding numbers
-    numbers-ended zero a b l e h = rw (← e, h, numbers)
-    numbers-ended (suc n) a b l e h = let g : mostNumbers - suc n ≡ mostValues - n = omega arith in rw (← e, h, numbers, g)
+    numbers-ended zero a b e h = rw (← e, h, numbers)
+    numbers-ended (suc n) a b e h = rw (← e, h, numbers)
 
     pub numbers-full : (n a : ℕ) (b : Bool) → n ≡ 0 → b ≡ ended s a → b ≡ false → read wrongNumbers v ≡ numbers n s a v
     unfolding numbers
@@ -89,12 +89,12 @@ module _ (s : List ℕ) where
     numbers-wrong zero a b x o e h ex l = absurd (o refl)
     numbers-wrong (suc n) a b x o e h ex l = rw (← e, h, numbers, ← ex, lt-ltb largestNumber (x .value) l)
 
-    pub numbers-on : (n a i k : ℕ) (b : Bool) (x : Figures) (v₁ v₂ : List ℕ) → (n ≡ 0 → ⊥) → n ≤ mostNumbers → b ≡ ended s a → b ≡ false → x ≡ number s a
+    pub numbers-on : (n a i k : ℕ) (b : Bool) (x : Figures) (v₁ v₂ : List ℕ) → (n ≡ 0 → ⊥) → b ≡ ended s a → b ≡ false → x ≡ number s a
         → x .value ≤ largestNumber → i ≡ mostNumbers - n → v₁ ≡ keep v i (x .value) → read k v₂ ≡ numbers (n - 1) s (x .next) v₁ → read k v₂ ≡ numbers n s a v
     unfolding numbers
-    numbers-on zero a i k b x v₁ v₂ o m e h ex l ei e₁ e₂ = absurd (o refl)
-    numbers-on (suc n) a i k b x v₁ v₂ o m e h ex l ei e₁ e₂ =
-        let g : i ≡ mostValues - n = omega arith in rw (← e, h, numbers, ← ex, le-ltb largestNumber (x .value) l, ← ex, ← g, ← e₁) (simp sub-one at e₂)
+    numbers-on zero a i k b x v₁ v₂ o e h ex l ei e₁ e₂ = absurd (o refl)
+    numbers-on (suc n) a i k b x v₁ v₂ o e h ex l ei e₁ e₂ =
+        rw (← e, h, numbers, ← ex, le-ltb largestNumber (x .value) l, ← ex, ← ei, ← e₁) (simp sub-one at e₂)
 
   module _ (a : ℕ) (w : List ℕ) where
     pub same-none : (n : ℕ) → n ≡ 0 → true ≡ same n s a w

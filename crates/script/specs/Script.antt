@@ -4,11 +4,11 @@ use mathlib.Core.Bool.{Bool, true, false, cond}
 use mathlib.Core.List.{List, [], _∷_}
 use lib.ListN.{length, getD, set}
 use lib.Dec.{eqb, ltb, leb}
-use Rattle.script.specs.Sizes.{longestLine, largestNumber, noNumber, mostValues, mostNumbers, wrongNumbers, space, sharp, digit0, digit9}
+use Rattle.script.specs.Sizes.{longestLine, largestNumber, noNumber, mostStored, mostNumbers, wrongNumbers, space, sharp, digit0, digit9}
 use Rattle.script.specs.declared.Seven.{Seven}
 use Rattle.script.specs.declared.reading.Figures.{Figures}
 use Rattle.script.specs.declared.Order.{Order}
-use Rattle.script.specs.declared.Order.the-variants.{Nothing, NotUnderstood, Fresh, Step, Interrupt, Registers, Set, Judge}
+use Rattle.script.specs.declared.Order.the-variants.{Nothing, NotUnderstood, Fresh, Step, Interrupt, Burst, Registers, Set, Judge}
 use Rattle.script.specs.declared.Order.the-variants.{Put, Break, Length, Words, Changes, Show}
 
 -- "Words in a line are parted by spaces": the place after those from a on, with n characters left
@@ -63,12 +63,12 @@ keep v i x = set v i x
 unfoldable pub numbers : ℕ → List ℕ → ℕ → List ℕ → Read
 numbers zero s a v = cond (ended s a) (read mostNumbers v) (read wrongNumbers v)
 numbers (suc n) s a v = elim (ended s a) [
-  | true ↦ read (mostValues - n) v
+  | true ↦ read (mostNumbers - suc n) v
   | false ↦
       elim (ltb largestNumber (number s a .value)) [
         | true ↦ read wrongNumbers v
         | false ↦
-            numbers n s (number s a .next) (keep v (mostValues - n) (number s a .value))
+            numbers n s (number s a .next) (keep v (mostNumbers - suc n) (number s a .value))
       ]
 ]
 
@@ -89,6 +89,10 @@ counted o n k = cond (eqb n k) o NotUnderstood
 unfoldable pub interrupt : List ℕ → ℕ → Order
 interrupt v n = cond (eqb n 1) (Interrupt (getD v 0 0) 0) (counted (Interrupt (getD v 0 0) (getD v 1 0)) n 2)
 
+-- "no number at all is the empty list; as many numbers as a line of 255 characters holds": any count of right numbers
+unfoldable pub burst : ℕ → Order
+burst n = cond (ltb mostNumbers n) NotUnderstood (Burst n)
+
 unfoldable pub registers : List ℕ → Seven
 registers v = record {
   a = getD v 0 0;
@@ -102,7 +106,7 @@ registers v = record {
 
 -- "1 to 32 values"; "`put` and `break` with no value, or with more than 32, are not understood"
 unfoldable pub values : ℕ → ℕ
-values n = cond (ltb n 2) 0 (cond (ltb mostNumbers n) 0 (n - 1))
+values n = cond (ltb n 2) 0 (cond (ltb mostStored n) 0 (n - 1))
 
 unfoldable pub valued : Order → ℕ → Order
 valued o k = cond (eqb k 0) NotUnderstood o
@@ -119,6 +123,10 @@ is-step s a e = isWord s a e (115 ∷ 116 ∷ 101 ∷ 112 ∷ [])
 -- "interrupt"
 abbrev pub is-interrupt : List ℕ → ℕ → ℕ → Bool
 is-interrupt s a e = isWord s a e (105 ∷ 110 ∷ 116 ∷ 101 ∷ 114 ∷ 114 ∷ 117 ∷ 112 ∷ 116 ∷ [])
+
+-- "burst"
+abbrev pub is-burst : List ℕ → ℕ → ℕ → Bool
+is-burst s a e = isWord s a e (98 ∷ 117 ∷ 114 ∷ 115 ∷ 116 ∷ [])
 
 -- "registers"
 abbrev pub is-registers : List ℕ → ℕ → ℕ → Bool
@@ -170,8 +178,9 @@ storeOrder s a e v n =
 
 unfoldable pub lookOrder : List ℕ → ℕ → ℕ → List ℕ → ℕ → Order
 lookOrder s a e v n =
-    cond (is-registers s a e) (counted Registers n 0)
-    (cond (is-set s a e) (counted (Set (registers v)) n 7) (cond (is-judge s a e) (counted Judge n 0) (storeOrder s a e v n)))
+    cond (is-burst s a e) (burst n)
+    (cond (is-registers s a e) (counted Registers n 0)
+    (cond (is-set s a e) (counted (Set (registers v)) n 7) (cond (is-judge s a e) (counted Judge n 0) (storeOrder s a e v n))))
 
 unfoldable pub callOrder : List ℕ → ℕ → ℕ → List ℕ → ℕ → Order
 callOrder s a e v n =

@@ -12,15 +12,17 @@ largestNumber = 65535
 abbrev pub noNumber : ℕ
 noNumber = 65536
 
--- "1 to 32 values", behind an address: the most values, the most numbers, and what stands for too many or a wrong one
-abbrev pub mostValues : ℕ
-mostValues = 32
+-- "1 to 32 values", behind an address: with it one number more
+abbrev pub mostStored : ℕ
+mostStored = 33
 
+-- `burst`: "as many numbers as a line of 255 characters holds", behind its five letters, each with a space before it; and what stands for too many
+-- or a wrong one
 abbrev pub mostNumbers : ℕ
-mostNumbers = 33
+mostNumbers = 125
 
 abbrev pub wrongNumbers : ℕ
-wrongNumbers = 34
+wrongNumbers = 126
 
 -- "parted by spaces"; "#"; the digits 0 and 9
 abbrev pub space : ℕ
