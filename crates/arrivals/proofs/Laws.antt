@@ -1,23 +1,23 @@
 -- What a test that was passed says, and a law for each way through an arrival and a burst.
 use Prim.Native.Nat.{ℕ, _≤_, _<_, _+_, _-_, _%_}
-use mathlib.Core.Path.{_≡_, refl, sym, _∙_}
+use mathlib.Core.Path.{_≡_, refl}
 use mathlib.Core.List.{List, [], _∷_}
 use mathlib.Core.Bool.{Bool, true, false, cond, false≢true}
-use lib.Dec.{eqb, ltb}
+use lib.Dec.{eqb}
 use lib.ListN.{length, getD, take, drop}
 use lib.Seq.{take-all}
-use borrow.Author.Tests.{ltb-false, lt-ltb, le-ltb}
+use borrow.Author.Tests.{lt-ltb, le-ltb}
 use native.Mathlib.Omega.{arith}
 use Rattle.model.specs.declared.Checked.{Checked}
 use Rattle.model.specs.declared.Checked.the-variants.{Good, Bad}
 use Rattle.model.specs.Map.{low, pairBytes, longestList}
 use Rattle.model.specs.Address.{unless}
 use Rattle.model.specs.Answer.{noInterrupt, wrongClass}
-use Rattle.model.specs.Call as Call
 use Rattle.model.specs.Call.{isOuter, isClass}
 use Rattle.model.specs.Burst as Burst
 use Rattle.model.specs.Burst.{isList, tested}
 use Rattle.model.specs.Bytes.{Memory, whoRuns, delivered, arrived}
+use Rattle.laws.specs.Pairs.{outer-of, class-of, good-first}
 use Rattle.arrivals.specs.Good.{AllGood}
 
 -- ---- what a range that was tested says: a test b did not refuse, and the next, x, is passed
@@ -25,21 +25,13 @@ pub past : (b x : Bool) → cond b false x ≡ true → (b ≡ false) × (x ≡ 
 past true x h = absurd (false≢true h)
 past false x h = (refl, h)
 
-outer-range : (k : ℕ) → isOuter k ≡ true → k ≤ 50
-unfolding Call.isOuter
-outer-range k h = ltb-false 50 k ((past (ltb 50 k) true ((past (ltb k 16) (cond (ltb 50 k) false true) h) .1)) .0)
-
-class-range : (k c : ℕ) → isClass k c ≡ true → c ≤ 31
-unfolding Call.isClass
-class-range k c h = ltb-false 31 c ((past (ltb 31 c) (cond (ltb k 48) (eqb c 0) true) h) .0)
-
 -- ---- an arrival: v and w are number and class as bytes
 pub arrives : (m m₁ m₂ : Memory) (k c v w : ℕ) → isOuter k ≡ true → isClass k c ≡ true → v ≡ low (k % 55) → w ≡ low c → m₁ ≡ delivered m v w
     → m₂ ≡ whoRuns m₁
     → m₂ ≡ whoRuns (delivered m k c)
 arrives m m₁ m₂ k c v w a b ev ew e₁ e₂ =
-    let q : k ≤ 50 = outer-range k a in
-    let r : c ≤ 31 = class-range k c b in
+    let q = outer-of k a in
+    let r = class-of k c b in
     let x : v ≡ k = omega arith in
     let y : w ≡ c = omega arith in
     rw (← x, ← y, ← e₁) e₂
@@ -100,28 +92,20 @@ tested-on i (x ∷ []) k c a b o h ek ea za ec eb zb e = absurd (omega arith)
 tested-on i (x ∷ y ∷ l) k c a b o h ek ea za ec eb zb e = rw (tested-pair, ← ek, ← ec, ← ea, ← eb, za, zb) (rw (rest-is x y l) at e)
 
 -- ---- a list of good pairs: the first is good, and so are the rest
-passed : (a b : Bool) (i : ℕ) (t : Checked) → pairTold a b i t ≡ Good → (a ≡ true) × (b ≡ true) × (t ≡ Good)
-passed false b i t h = let z : _≡_ {A = ℕ} 0 1 = cc in absurd (omega arith)
-passed true false i t h = let z : _≡_ {A = ℕ} 0 1 = cc in absurd (omega arith)
-passed true true i t h = (refl, refl, h)
-
-pair-good : (i k c : ℕ) (l : List ℕ) → tested i (k ∷ c ∷ l) ≡ Good → (isOuter k ≡ true) × (isClass k c ≡ true) × (tested (i + 1) l ≡ Good)
-pair-good i k c l h = passed (isOuter k) (isClass k c) i (tested (i + 1) l) (sym (tested-pair i k c l) ∙ h)
-
 pub first-outer : (l : List ℕ) (k : ℕ) → pairBytes ≤ length l → AllGood l → k ≡ getD l 0 0 → isOuter k ≡ true
 first-outer [] k h g ek = absurd (omega arith)
 first-outer (x ∷ []) k h g ek = absurd (omega arith)
-first-outer (x ∷ y ∷ l) k h g ek = rw ek ((pair-good (g .place) x y l (g .good)) .0)
+first-outer (x ∷ y ∷ l) k h g ek = rw ek (good-first (g .place) x y l (g .good) .0 .outer)
 
 pub first-class : (l : List ℕ) (k c : ℕ) → pairBytes ≤ length l → AllGood l → k ≡ getD l 0 0 → c ≡ getD l 1 0 → isClass k c ≡ true
 first-class [] k c h g ek ec = absurd (omega arith)
 first-class (x ∷ []) k c h g ek ec = absurd (omega arith)
-first-class (x ∷ y ∷ l) k c h g ek ec = rw (ek, ec) ((pair-good (g .place) x y l (g .good)) .1)
+first-class (x ∷ y ∷ l) k c h g ek ec = rw (ek, ec) (good-first (g .place) x y l (g .good) .0 .class)
 
 pub rest-good : (l : List ℕ) → pairBytes ≤ length l → AllGood l → AllGood (rest l)
 rest-good [] h g = absurd (omega arith)
 rest-good (x ∷ []) h g = absurd (omega arith)
-rest-good (x ∷ y ∷ l) h g = rw (rest-is x y l) (record { place = g .place + 1; good = (pair-good (g .place) x y l (g .good)) .2 })
+rest-good (x ∷ y ∷ l) h g = rw (rest-is x y l) (record { place = g .place + 1; good = good-first (g .place) x y l (g .good) .1 })
 
 -- ---- the pairs arrive
 pub arrived-end : (m : Memory) (l : List ℕ) → length l < pairBytes → m ≡ arrived m l

@@ -22,7 +22,8 @@ use Rattle.laws.specs.Uses.{Sep, proc-page}
 use Rattle.laws.specs.Inv.{Base, noOne, view}
 use Rattle.laws.specs.Judged.{invariant}
 use Rattle.laws.specs.Who.{listed}
-use Rattle.laws.specs.Calls.{Sound, well, Host, outer-of, guarded-low, guarded-high, unrefused, interrupt-sound, read-same, judge-same}
+use Rattle.laws.specs.Calls.{Sound, well, Host, guarded-low, guarded-high, unrefused, interrupt-sound, read-same, judge-same}
+use Rattle.laws.specs.Pairs.{outer-of}
 use Rattle.laws.specs.Bursts.{OneByOne, Comes, comes}
 use Rattle.laws.specs.Bursts.OneByOne.{none, one}
 use Rattle.laws.specs.Bursts.Comes.{no-list, bad-pair, taken}

@@ -7,7 +7,7 @@ use Prim.Native.Nat.{ℕ, _+_, _*_, _%_, _<_}
 use native.Mathlib.Omega.{arith}
 use lib.ListN.{length}
 use Rattle.model.specs.Map.{pairBytes}
-use Rattle.model.specs.declared.Answer.the-variants.{Done, Refused}
+use Rattle.model.specs.declared.Answer.the-variants.{Done}
 use Rattle.model.specs.declared.Checked.{Checked}
 use Rattle.model.specs.declared.Checked.the-variants.{Good, Bad}
 use Rattle.model.specs.Answer as Answer
@@ -20,9 +20,8 @@ use Rattle.model.specs.Bytes.{interrupt, burst, whoRuns, delivered, arrived}
 use Rattle.laws.specs.Judged.{WellFormed}
 use Rattle.laws.specs.Findings.{well-found}
 use Rattle.laws.specs.Interrupts.{delivered-well}
-use Rattle.laws.specs.Pairs.{numberAt, classAt, Paired, Unpaired, list-of, list-not, Passes, Fails, FirstBad, good-first, bad-first}
+use Rattle.laws.specs.Pairs.{outer-of, numberAt, classAt, Paired, Unpaired, list-of, list-not, Passes, Fails, FirstBad, good-first, bad-first}
 use Rattle.laws.specs.Pairs.Fails.{by-number, by-class}
-use Rattle.laws.specs.Calls.{outer-of}
 use Rattle.laws.specs.Numbers.{Refuses}
 
 -- ---- the single call, repeated in order: from m, by the pairs of l, to m′, done each time

@@ -9,7 +9,7 @@ use lib.ListN.{length, getD}
 use lib.Dec.{eqb, ltb}
 use borrow.Author.Tests.{eqb-false, eq-eqb, ltb-false, lt-ltb, le-ltb, le-leb}
 use Rattle.model.specs.Map as Map
-use Rattle.model.specs.Map.{aWord, firstOuter, guardedEnd, guardedFrom, guardedLast, guardedTo, lastClass, lastLine, lastOuter, memorySize, pageSize}
+use Rattle.model.specs.Map.{aWord, firstOuter, guardedEnd, guardedFrom, guardedLast, guardedTo, lastLine, memorySize, pageSize}
 use Rattle.model.specs.Map.{place}
 use Rattle.model.specs.Bytes.{running, fresh, instruction, interrupt, burst, readRegisters, setRegisters, judge, judged, lr, whoRuns, delivered, arrived}
 use Rattle.model.specs.declared.Registers.{Registers}
@@ -37,7 +37,7 @@ use Rattle.laws.specs.Simple.{registers-well}
 use Rattle.laws.specs.Interrupts.{delivered-well}
 use Rattle.laws.specs.Run.{fetched-fine}
 use Rattle.laws.specs.InstructionWords.{fetched-tiny}
-use Rattle.laws.specs.Pairs.{Passes, good-first}
+use Rattle.laws.specs.Pairs.{outer-of, class-of, Passes, good-first}
 
 -- a well-formed memory: 8,192 words of 8 bits that the judge accepts
 pub record Sound (m : List ℕ) : Type 0 where
@@ -73,24 +73,6 @@ unfolding Call.fresh Answer.memoryOf
 fresh-starts {m} l s line d h =
     let a = args-of line d h in
     rw (eq-eqb (length m) memorySize l, h) (sound (started-well m line d l a) (small-started s line d (omega (arith, a)) (omega (arith, a))))
-
--- ---- what an interrupt from outside may be
-pub outer-of : (k : ℕ) → isOuter k ≡ true → (firstOuter ≤ k) × (k ≤ lastOuter)
-unfolding Call.isOuter
-outer-of k h = go (ltb k firstOuter) (ltb lastOuter k) refl refl
-  where
-    go : (x y : Bool) → ltb k firstOuter ≡ x → ltb lastOuter k ≡ y → (firstOuter ≤ k) × (k ≤ lastOuter)
-    go true y e f = let c = rw e at h in let z : _≡_ {A = ℕ} 0 1 = cc in absurd (omega arith)
-    go false true e f = let c = rw (e, f) at h in let z : _≡_ {A = ℕ} 0 1 = cc in absurd (omega arith)
-    go false false e f = let a = ltb-false k firstOuter e in let b = ltb-false lastOuter k f in (omega arith, omega arith)
-
-class-of : (k c : ℕ) → isClass k c ≡ true → c ≤ lastClass
-unfolding Call.isClass
-class-of k c h = go (ltb lastClass c) refl
-  where
-    go : (x : Bool) → ltb lastClass c ≡ x → c ≤ lastClass
-    go true e = let d = rw e at h in let z : _≡_ {A = ℕ} 0 1 = cc in absurd (omega arith)
-    go false e = let a = ltb-false lastClass c e in omega arith
 
 -- ---- the calls
 module _ {m : List ℕ} (h : Sound m) where

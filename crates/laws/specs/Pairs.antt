@@ -1,22 +1,40 @@
--- A burst from the line card: what testing the pairs of a list says of them. x pairs before a pair of the list, its bytes are `numberAt l x` and `classAt l x`,
--- and its place is x more than that of the first. Assumes nothing.
+-- What an interrupt from outside may be, and a burst from the line card: what testing the pairs of a list says of them. With x pairs before it, the bytes of a pair
+-- are `numberAt l x` and `classAt l x`, and its place is x more than that of the first. Assumes nothing.
 use mathlib.Core.Path.{_≡_, refl, ap}
-use mathlib.Core.Logic.{_⊎_, inl, inr}
 use mathlib.Core.Bool.{Bool, true, false}
 use mathlib.Core.List.{List, [], _∷_}
 use Prim.Native.Nat.{ℕ, zero, suc, _+_, _*_, _%_, _≤_, _<_}
 use native.Mathlib.Omega.{arith}
 use lib.ListN.{length, getD}
-use lib.Dec.{eqb, ltb}
+use lib.Dec.{ltb}
 use borrow.Author.Tests.{eqb-true, eqb-false, ltb-true, ltb-false}
-use Rattle.model.specs.Map.{longestList, pairBytes}
-use Rattle.model.specs.declared.Checked.{Checked}
+use Rattle.model.specs.Map.{firstOuter, lastClass, lastOuter, longestList, pairBytes}
 use Rattle.model.specs.declared.Checked.the-variants.{Good, Bad}
 use Rattle.model.specs.Answer.{noInterrupt, wrongClass}
+use Rattle.model.specs.Call as Call
 use Rattle.model.specs.Call.{isOuter, isClass}
 use Rattle.model.specs.Burst as Burst
 use Rattle.model.specs.Burst.{isList, tested}
 
+-- ---- what an interrupt from outside may be
+pub outer-of : (k : ℕ) → isOuter k ≡ true → (firstOuter ≤ k) × (k ≤ lastOuter)
+unfolding Call.isOuter
+outer-of k h = go (ltb k firstOuter) (ltb lastOuter k) refl refl
+  where
+    go : (x y : Bool) → ltb k firstOuter ≡ x → ltb lastOuter k ≡ y → (firstOuter ≤ k) × (k ≤ lastOuter)
+    go true y e f = let c = rw e at h in let z : _≡_ {A = ℕ} 0 1 = cc in absurd (omega arith)
+    go false true e f = let c = rw (e, f) at h in let z : _≡_ {A = ℕ} 0 1 = cc in absurd (omega arith)
+    go false false e f = let a = ltb-false k firstOuter e in let b = ltb-false lastOuter k f in (omega arith, omega arith)
+
+pub class-of : (k c : ℕ) → isClass k c ≡ true → c ≤ lastClass
+unfolding Call.isClass
+class-of k c h = go (ltb lastClass c) refl
+  where
+    go : (x : Bool) → ltb lastClass c ≡ x → c ≤ lastClass
+    go true e = let d = rw e at h in let z : _≡_ {A = ℕ} 0 1 = cc in absurd (omega arith)
+    go false e = let a = ltb-false lastClass c e in omega arith
+
+-- ---- the pairs of a list
 abbrev pub numberAt : List ℕ → ℕ → ℕ
 numberAt l x = getD l (pairBytes * x) 0
 
