@@ -1,8 +1,8 @@
--- What a test that was passed says, and a law for each way through an arrival and a burst.
+-- A law for each way through an arrival and a burst.
 use Prim.Native.Nat.{ℕ, _≤_, _<_, _+_, _-_, _%_}
 use mathlib.Core.Path.{_≡_, refl}
 use mathlib.Core.List.{List, [], _∷_}
-use mathlib.Core.Bool.{Bool, true, false, cond, false≢true}
+use mathlib.Core.Bool.{Bool, true, false}
 use lib.Dec.{eqb}
 use lib.ListN.{length, getD, take, drop}
 use lib.Seq.{take-all}
@@ -19,11 +19,6 @@ use Rattle.model.specs.Burst.{isList, tested}
 use Rattle.model.specs.Bytes.{Memory, whoRuns, delivered, arrived}
 use Rattle.laws.specs.Pairs.{outer-of, class-of, good-first}
 use Rattle.arrivals.specs.Good.{AllGood}
-
--- ---- what a range that was tested says: a test b did not refuse, and the next, x, is passed
-pub past : (b x : Bool) → cond b false x ≡ true → (b ≡ false) × (x ≡ true)
-past true x h = absurd (false≢true h)
-past false x h = (refl, h)
 
 -- ---- an arrival: v and w are number and class as bytes
 pub arrives : (m m₁ m₂ : Memory) (k c v w : ℕ) → isOuter k ≡ true → isClass k c ≡ true → v ≡ low (k % 55) → w ≡ low c → m₁ ≡ delivered m v w
@@ -92,6 +87,13 @@ tested-on i (x ∷ []) k c a b o h ek ea za ec eb zb e = absurd (omega arith)
 tested-on i (x ∷ y ∷ l) k c a b o h ek ea za ec eb zb e = rw (tested-pair, ← ek, ← ec, ← ea, ← eb, za, zb) (rw (rest-is x y l) at e)
 
 -- ---- a list of good pairs: the first is good, and so are the rest
+-- whatever place the first has
+pub good-from : (i j : ℕ) (l : List ℕ) → tested i l ≡ Good → tested j l ≡ Good
+unfolding Burst.tested
+good-from i j [] h = refl
+good-from i j (k ∷ []) h = refl
+good-from i j (k ∷ c ∷ l) h = let p = good-first i k c l h in rw (p .0 .outer, p .0 .class) (good-from (i + 1) (j + 1) l (p .1))
+
 pub first-outer : (l : List ℕ) (k : ℕ) → pairBytes ≤ length l → AllGood l → k ≡ getD l 0 0 → isOuter k ≡ true
 first-outer [] k h g ek = absurd (omega arith)
 first-outer (x ∷ []) k h g ek = absurd (omega arith)

@@ -1,11 +1,11 @@
 -- What is found of a memory, the head of a call, what a call comes to behind its refusals, and that a call allows one outcome only.
-use Prim.Native.Nat.{ℕ, _≤_, _<_, _+_, _%_}
+use Prim.Native.Nat.{ℕ, _≤_, _<_, _+_}
 use mathlib.Core.Path.{_≡_, refl, sym, ap, _∙_}
 use mathlib.Core.List.{List}
 use mathlib.Core.Bool.{Bool, true, false, cond}
-use lib.Dec.{eqb, ltb}
+use lib.Dec.{eqb}
 use lib.ListN.{length}
-use borrow.Author.Tests.{ltb-false, eqb-true, eq-eqb, ne-eqb}
+use borrow.Author.Tests.{eqb-true, eq-eqb, ne-eqb}
 use native.Mathlib.Omega.{arith}
 use Rattle.model.specs.declared.Answer.{Answer}
 use Rattle.model.specs.declared.Answer.the-variants.{Done, RefusedAt}
@@ -17,28 +17,19 @@ use Rattle.model.specs.declared.Registers.{Registers}
 use Rattle.model.specs.declared.Finding.{Finding}
 use Rattle.model.specs.declared.Finding.the-variants.{Nothing, WrongLength, Broken}
 use Rattle.model.specs.declared.Held.the-variants as Held
-use Rattle.model.specs.Map.{memorySize, low, pairBytes, longestList}
+use Rattle.model.specs.Map.{memorySize, low}
 use Rattle.model.specs.Answer.{Outcome, wrongLength, numbers, heldNumbers, verdictNumbers}
 use Rattle.model.specs.Answer.Outcome.{gives}
-use Rattle.model.specs.Fresh as Fresh
 use Rattle.model.specs.Fresh.{startable}
 use Rattle.model.specs.Call as Call
-use Rattle.model.specs.Burst as Burst
 use Rattle.model.specs.Burst.{isList, tested}
+use Rattle.laws.specs.Calls.{args-of}
+use Rattle.laws.specs.Pairs.{list-of}
 use Rattle.arrivals.specs.Good.{AllGood}
-use Rattle.arrivals.proofs.Laws.{past}
+use Rattle.arrivals.proofs.Laws.{good-from}
 use Rattle.kernel.specs.Spoken as Spoken
 use Rattle.kernel.specs.Spoken.{spoken}
 use Rattle.model.specs.Bytes.{Memory, Step, finding, toldOf, head, running, lr, registersOf, setRegistersOf, arrived, heedsPairs, fetched, started}
-
--- ---- what a range that was tested says
-start-range : (l d : ℕ) → startable l d ≡ true → (l ≤ 47) × (d ≤ 255)
-unfolding Fresh.startable
-start-range l d h =
-    let z : Bool = cond (ltb 255 d) false true in
-    let y : Bool = cond (eqb d 0) false z in
-    let u : (ltb 47 l ≡ false) × (y ≡ true) = past (ltb 47 l) y ((past (ltb l 16) (cond (ltb 47 l) false y) h) .1) in
-    (ltb-false 47 l (u .0), ltb-false 255 d ((past (ltb 255 d) true ((past (eqb d 0) z (u .1)) .1)) .0))
 
 -- ---- what is found: of the length, then what is told
 pub found-short : (m : Memory) → (length m ≡ memorySize → ⊥) → WrongLength ≡ finding m
@@ -82,7 +73,7 @@ module _ (m : Memory) where
   pub started-is : (m₁ : Memory) (l d v w : ℕ) (b : Bool) → b ≡ startable l d → b ≡ true → m₁ ≡ started m v w → v ≡ low l → w ≡ low d
       → gives Done m₁ ≡ gives Done (started m l d)
   started-is m₁ l d v w b eb h e₁ ev ew =
-      let r : (l ≤ 47) × (d ≤ 255) = start-range l d (sym eb ∙ h) in
+      let r = args-of l d (sym eb ∙ h) in
       let x : v ≡ l = omega (arith, r) in
       let y : w ≡ d = omega (arith, r) in
       rw (← x, ← y, ← e₁)
@@ -101,25 +92,23 @@ module _ (m : Memory) where
 pub passed : (a t : Bool) → a ≡ t → a ≡ true → t ≡ true
 passed a t e h = sym e ∙ h
 
--- ---- a burst: a list that may be one is short, and t is what came of its tests
-pub list-short : (l : List ℕ) (a : Bool) → a ≡ isList l → a ≡ true → 1 + length l < 65536
-unfolding Burst.isList
-list-short l a ea h =
-    let u : length l ≤ longestList = ltb-false longestList (length l) ((past (ltb longestList (length l)) (eqb (length l % pairBytes) 0) (sym ea ∙ h)) .0) in
-    omega arith
+-- ---- a burst: a list that may be one is short, so that the places of its pairs, from i on, are numbers of 16 bits; t is what came of its tests
+pub places-fit : (l : List ℕ) (i : ℕ) (a : Bool) → a ≡ isList l → a ≡ true → i ≤ 1 → i + length l < 65536
+places-fit l i a ea h f = let p = list-of l (sym ea ∙ h) in omega (arith, p .short)
 
--- whatever place the first pair had
-pub all-good : (l : List ℕ) (i : ℕ) (t : Checked) → t ≡ tested i l → t ≡ Good → AllGood l
-all-good l i t et z = record { place = i; good = sym et ∙ z }
+-- all are good, whatever place the first had
+module _ (l : List ℕ) (t : Checked) (i : ℕ) (et : t ≡ tested i l) (z : t ≡ Good) where
+  pub all-good : AllGood l
+  all-good = record { place = i; good = sym et ∙ z }
 
-module _ (m : Memory) (l : List ℕ) (t : Checked) (et : t ≡ tested 1 l) where
-  pub pairs-arrive : (m₁ : Memory) → t ≡ Good → m₁ ≡ arrived m l → gives Done m₁ ≡ heedsPairs (tested 1 l) m l
-  pairs-arrive m₁ z e₁ = rw (← et, z, ← e₁)
+  pub pairs-arrive : (m m₁ : Memory) → m₁ ≡ arrived m l → gives Done m₁ ≡ heedsPairs (tested 1 l) m l
+  pairs-arrive m m₁ e₁ = rw (good-from i 1 l (sym et ∙ z), ← e₁)
 
-  pub pairs-bad : (n i : ℕ) → t ≡ Bad n i → gives (RefusedAt n i) m ≡ heedsPairs (tested 1 l) m l
-  pairs-bad n i z = rw (← et, z)
+-- the first bad one has place i
+pub pairs-bad : (m : Memory) (l : List ℕ) (t : Checked) (n i : ℕ) → t ≡ tested 1 l → t ≡ Bad n i → gives (RefusedAt n i) m ≡ heedsPairs (tested 1 l) m l
+pairs-bad m l t n i et z = rw (← et, z)
 
-pub ruleset bursts = (list-short, all-good, pairs-arrive, pairs-bad)
+pub ruleset bursts = (places-fit, all-good, pairs-arrive, pairs-bad)
 
 -- ---- two outcomes that one statement allows are equal, in answer and in memory: of each call, f being its outcome
 pub one-outcome : {A : Type 0} (a b : A) (m n : Memory) (f : Outcome A Memory) → gives a m ≡ f → gives b n ≡ f → (a ≡ b) × (m ≡ n)

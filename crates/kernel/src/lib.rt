@@ -123,6 +123,7 @@ pub fn burst(m: &mut [u8], list: &[u8]) -> Answer
     ensures { λ r. ⌜ gives r (now (m .exit)) ≡ Model.burst (now (m .entry)) (now (list .entry)) ⌝ }
     ensures { λ r. ⌜ gives (numbers r) (now (m .exit)) ≡ spoken numbers (Model.burst (now (m .entry)) (now (list .entry))) ⌝ }
 {
+    // 20 and 30-34 stand before 27.
     match finding(m) {
         Finding::Nothing => burst_judged(m, list),
         Finding::WrongLength => Answer::Refused(refusals::WRONG_LENGTH),
