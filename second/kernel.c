@@ -78,19 +78,66 @@ struct answer kernel_instruction(uint8_t *memory, size_t length)
     return fit.kind == ANSWER_DONE ? run_instruction(memory) : fit;
 }
 
-/* "24 interrupt not 16-50; 25 class number over 31, or nonzero below 48" */
+/* Why one interrupt is refused, or 0: "24 interrupt not 16-50; 25 class number over 31, or nonzero below 48" */
+static unsigned objection(uint32_t number, uint32_t class_number)
+{
+    if (number < 16 || number > 50)
+        return REFUSE_INTERRUPT;
+    if (class_number > 31 || (number < 48 && class_number != 0))
+        return REFUSE_CLASS;
+    return 0;
+}
+
+static void deliver_one(uint8_t *memory, unsigned number, unsigned class_number)
+{
+    serve_from_outside(memory, number, class_number);
+    who_runs(memory);
+}
+
 struct answer kernel_interrupt(uint8_t *memory, size_t length, uint32_t number, uint32_t class_number)
 {
     struct answer fit = fitness(memory, length);
+    unsigned why = objection(number, class_number);
 
     if (fit.kind != ANSWER_DONE)
         return fit;
-    if (number < 16 || number > 50)
-        return refused(REFUSE_INTERRUPT);
-    if (class_number > 31 || (number < 48 && class_number != 0))
-        return refused(REFUSE_CLASS);
-    serve_from_outside(memory, number, class_number);
-    who_runs(memory);
+    if (why != 0)
+        return refused(why);
+    deliver_one(memory, number, class_number);
+    return done();
+}
+
+/* "the first bad pair refuses the whole list and tells its place, from 1" */
+static struct answer test_pairs(const uint8_t *list, size_t pairs)
+{
+    for (size_t i = 0; i < pairs; i++) {
+        unsigned why = objection(list[2 * i], list[2 * i + 1]);
+
+        if (why != 0)
+            return (struct answer){ .kind = ANSWER_REFUSED, .number = why, .place = (uint32_t)i + 1 };
+    }
+    return done();
+}
+
+/* "A longer or odd list is refused by 27, after the memory checks and before 24." */
+static struct answer fitness_of_list(const uint8_t *list, size_t list_length)
+{
+    if (list_length % 2 != 0 || list_length > 2 * MOST_PAIRS)
+        return refused(REFUSE_LIST);
+    return test_pairs(list, list_length / 2);
+}
+
+/* "Memory afterwards equals that of delivering them one by one, who runs included." */
+struct answer kernel_burst(uint8_t *memory, size_t length, const uint8_t *list, size_t list_length)
+{
+    struct answer fit = fitness(memory, length);
+
+    if (fit.kind == ANSWER_DONE)
+        fit = fitness_of_list(list, list_length);
+    if (fit.kind != ANSWER_DONE)
+        return fit;
+    for (size_t i = 0; i < list_length; i += 2)
+        deliver_one(memory, list[i], list[i + 1]);
     return done();
 }
 

@@ -23,6 +23,7 @@ struct answer {
     enum answer_kind kind;
     uint32_t number;     /* of a fault or a refusal */
     uint32_t address;    /* of a refusal 30-34: the lowest offending address */
+    uint32_t place;      /* of a burst's refusal 24 or 25: the first bad pair, counted from 1; else 0 */
     uint32_t name;       /* of the processor that made the fault */
     uint32_t program;    /* handed out: where the own code's program is */
     uint32_t arguments;  /* handed out: where its arguments are */
@@ -40,6 +41,12 @@ struct answer kernel_instruction(uint8_t *memory, size_t length);
 
 /* Delivery of an interrupt from outside; the class number belongs to 48-50. */
 struct answer kernel_interrupt(uint8_t *memory, size_t length, uint32_t number, uint32_t class_number);
+
+/*
+ * Delivery of several interrupts in one call, as if one by one.  The list is lent: number and class number in turn,
+ * one a byte.  It is no part of the memory; an empty one may be NULL.
+ */
+struct answer kernel_burst(uint8_t *memory, size_t length, const uint8_t *list, size_t list_length);
 
 /* The running processor's registers; `registers` is written only if the answer is done. */
 struct answer kernel_read_registers(const uint8_t *memory, size_t length, struct registers *registers);

@@ -56,7 +56,9 @@ enum { FROM = 1, LENGTH = 2, TEXT = 3, LONGEST_TEXT = 29, NOTICE = 128 };
 
 enum { KIND_ABSENT = 0, KIND_BUILT_IN = 1, KIND_OWN = 2 };
 
-enum { INTERRUPTS = 54, FAULTS = 12, FAULT_TABLE_FULL = 32 };
+enum { INTERRUPTS = 54, MOST_PAIRS = 32 };  /* a burst has "up to 32 interrupts, as pairs" */
+
+enum { FAULTS = 12, FAULT_TABLE_FULL = 32 };
 
 enum {
     FAULT_ABSENT_CODE = 1, FAULT_EXI_OF_EXI, FAULT_CODE_EXISTS, FAULT_LASTING_CODE, FAULT_WIN,
@@ -66,6 +68,7 @@ enum {
 
 enum {
     REFUSE_LENGTH = 20, REFUSE_IDLE = 22, REFUSE_NOT_224, REFUSE_INTERRUPT, REFUSE_CLASS, REFUSE_VALUE,
+    REFUSE_LIST,  /* a burst that is odd or too long */
     REFUSE_USES = 30, REFUSE_WAITS, REFUSE_RECORDS, REFUSE_TABLES, REFUSE_RUNNING  /* memory not well-formed */
 };
 

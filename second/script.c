@@ -11,7 +11,8 @@
 #include "machine.h"
 #include "show.h"
 
-enum { BUFFER = 8200, LONGEST_LINE = 255, LONGEST_LOOK = 32, MOST_NUMBERS = 33 };
+/* `burst` takes as many numbers as a line holds: each has one digit and one space before it. */
+enum { BUFFER = 8200, LONGEST_LINE = 255, LONGEST_LOOK = 32, MOST_NUMBERS = (LONGEST_LINE - 5) / 2 };
 
 static uint8_t memory[BUFFER];
 static uint8_t compared[BUFFER];  /* what the words were at the last `changes` */
@@ -32,6 +33,8 @@ static void print_answer(const struct answer *answer)
         printf("refused %u", (unsigned)answer->number);
         if (answer->number >= REFUSE_USES && answer->number <= REFUSE_RUNNING)
             printf(" at %u", (unsigned)answer->address);
+        if (answer->place != 0)
+            printf(" at %u", (unsigned)answer->place);
         putchar('\n');
         break;
     }
@@ -63,6 +66,18 @@ static void do_interrupt(const uint32_t *n, unsigned count)
 {
     struct answer answer = kernel_interrupt(memory, lent, n[0], count == 2 ? n[1] : 0);
 
+    print_answer(&answer);
+}
+
+/* "a number over 255 goes into it as 255, which is as bad (24 or 25) as the number itself" */
+static void do_burst(const uint32_t *n, unsigned count)
+{
+    uint8_t list[MOST_NUMBERS] = { 0 };
+    struct answer answer;
+
+    for (unsigned i = 0; i < count; i++)
+        list[i] = (uint8_t)(n[i] > 255 ? 255 : n[i]);
+    answer = kernel_burst(memory, lent, list, count);
     print_answer(&answer);
 }
 
@@ -190,6 +205,7 @@ static const struct {
     { "put", 2, 33, do_put },            { "break", 2, 33, do_break },
     { "length", 1, 1, do_length },       { "words", 2, 2, do_words },
     { "changes", 0, 0, do_changes },     { "show", 0, 0, do_show },
+    { "burst", 0, MOST_NUMBERS, do_burst },
 };
 
 struct word {
