@@ -244,24 +244,25 @@ static void call_in_turn(unsigned which)
         r.a = chance(70) ? 1 : 256;
         order_set(&r);
         break;
+    case 4: any_burst(); break;
     default: order_judge(); break;
     }
 }
 
 static void call_broken(void)
 {
-    unsigned first = below(5);
+    unsigned first = below(6);
 
     if (chance(20)) {
-        for (unsigned i = 0; i < 5; i++)
-            call_in_turn((first + i) % 5);
+        for (unsigned i = 0; i < 6; i++)
+            call_in_turn((first + i) % 6);
         order_changes();
         return;
     }
     if (chance(85))
         order_judge();
     for (unsigned left = chance(40) ? from_to(1, 2) : 0; left > 0; left--)
-        call_in_turn(below(4));
+        call_in_turn(below(5));
     maybe_changes(25);
 }
 

@@ -306,7 +306,10 @@ void scene_gather(void)
                 do_name(12, l.one[i].name);
         }
     for (unsigned left = from_to(1, k < 51 ? 4 : 12); left > 0 && !full(); left--) {
-        ring(k);
+        if (chance(20))
+            burst_on(k);
+        else
+            ring(k);
         maybe_changes(k < 51 ? 80 : 40);
     }
 }

@@ -23,6 +23,13 @@ unsigned from_to(unsigned low, unsigned high);
 bool chance(unsigned percent);
 bool may_break(void);  /* the kind of script allows `break` */
 
+/* The numbers of a burst as they stand in its line; a line of 255 characters holds no more. */
+enum { LONGEST_LINE = 255, LONGEST_LIST = (LONGEST_LINE - 5) / 2 };
+struct list {
+    unsigned count;
+    uint16_t number[LONGEST_LIST];
+};
+
 /* orders.c: each writes one line and does the same to the copy; past the last order nothing happens */
 extern uint8_t world[BUFFER];
 extern size_t lent;
@@ -33,6 +40,9 @@ void start_orders(unsigned long limit);
 void order_fresh(unsigned line, unsigned divider);
 void order_step(void);
 void order_interrupt(unsigned number, unsigned class_number);
+unsigned burst_text(const struct list *list, char text[LONGEST_LINE + 1]);
+void order_burst(const struct list *list);
+void order_burst_as(const char *line, const struct list *list);
 void order_registers(void);
 void order_set(const struct registers *registers);
 void order_judge(void);
@@ -96,6 +106,12 @@ void write_reached(void);
 void reach_told(const uint8_t *m, const struct answer *answer);
 void write_told(void);
 
+/* struck.c: what bursts reached */
+unsigned long bursts_done(unsigned pairs);
+unsigned long bursts_refused_at(unsigned place);
+void reach_burst(const uint8_t *before, const uint8_t *list, unsigned count, const struct answer *answer);
+void write_bursts(void);
+
 /* plan.c: one instruction, direct or by EXI, put at LR and run */
 struct plan {
     unsigned code;
@@ -124,7 +140,12 @@ bool do_message(unsigned code, unsigned name, unsigned flag);
 bool do_wait(unsigned interrupt, unsigned count);
 bool others_ready(void);
 
-/* scenes.c, crowd.c, broken.c, harmless.c, lines.c: short plays of some orders each */
+/* bursts.c: lists for bursts, good and bad; the memory may be broken only for the first */
+void any_burst(void);
+bool burst_for_waiters(void);
+void burst_on(unsigned number);
+
+/* scenes.c, crowd.c, broken.c, harmless.c, lines.c, bursts.c: short plays of some orders each */
 void scene_single(void);
 void scene_calls(void);
 void scene_interrupts(void);
@@ -152,6 +173,9 @@ void scene_litter(void);
 void scene_nobody(void);
 void scene_length(void);
 void scene_lines(void);
+void scene_bursts(void);
+void scene_bad_bursts(void);
+void scene_muster(void);
 void write_ways(void);  /* how memories were broken */
 void unstick(void);
 void opening(void);

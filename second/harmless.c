@@ -148,6 +148,7 @@ void scene_nobody(void)
     order_judge();
     order_step();
     order_interrupt(world[LINE], 0);
+    any_burst();
     order_changes();
 }
 
@@ -192,12 +193,13 @@ void scene_length(void)
 
     order_length(lengths[below(5)]);
     for (unsigned left = from_to(1, 4); left > 0; left--) {
-        switch (below(6)) {
+        switch (below(8)) {
         case 0: order_step(); break;
         case 1: order_interrupt(below(60), below(3)); break;
         case 2: order_registers(); break;
         case 3: order_set(&r); break;
         case 4: order_fresh(from_to(15, 47), below(3)); break;
+        case 5: case 6: any_burst(); break;
         default: order_judge(); break;
         }
     }
@@ -212,6 +214,8 @@ void opening(void)
 {
     if (chance(30))
         scene_calls();
+    if (chance(15))
+        any_burst();
     if (chance(15))
         scene_length();
     order_fresh(some_line(), kind == KIND_CLOCK ? from_to(1, 2) : some_divider());

@@ -14,6 +14,9 @@ static const char *const odd[] = {
     "put 400 1;", "put 4 00 1 x", "interrupt 1 6x", "interrupt 99999999999999999999999999",
     "set 1 1 1 1 1 1 4294967296", "words 18446744073709551616 1", "step\t", "\tstep", "put\t400 1", "put 400\t1",
     "step\r", "\t", "'step'", "1", "42 fresh", "step;changes", "fresh16 1", "brake 1 2", "\xc5\xbc", "judge judge",
+    "burst 65536", "burst 16 0 16 65536", "burst 65536 0 x", "burst 16 -0", "burst 16,0", "Burst", "BURST 16 0",
+    "bursts 16 0", "burs", "burst16 0", "burst\t16 0", "burst 16\t0", "burst 16 0 x", "burst 16 0\r", "burst burst",
+    "burst 16.0", "burst 0x10 0", "burst +16 0", "burst 99999999999999999999", "burst 16 0 99999", "burst 16 0; step",
     "interrupt #16", "put 400 #1", "set 1 2 3 4 5 6# 7", "fresh 16 #1", "words 400 #", "length #5"
 };
 
@@ -75,6 +78,65 @@ static void longest_comment(void)
     order_raw(line);
 }
 
+/* Each of these is a burst of the numbers beside it. */
+static const struct {
+    const char *line;
+    struct list list;
+} bursts[] = {
+    { "burst", { 0, { 0 } } },             { "   burst   ", { 0, { 0 } } },         { "burst#", { 0, { 0 } } },
+    { "burst #16 0", { 0, { 0 } } },       { "burst# 16 0", { 0, { 0 } } },         { "burst 16 #0", { 1, { 16 } } },
+    { "burst 16 0#", { 2, { 16, 0 } } },   { "burst  0016   000", { 2, { 16, 0 } } }, { "burst 65535", { 1, { 65535 } } },
+    { "burst 15 0 # 1", { 2, { 15, 0 } } }, { "burst 0 0", { 2, { 0, 0 } } },        { "burst 47 1", { 2, { 47, 1 } } },
+    { "burst 48 31 48 32", { 4, { 48, 31, 48, 32 } } }, { " burst 65535 65535", { 2, { 65535, 65535 } } },
+    { "burst 00000000000000000000000000000000000050 31", { 2, { 50, 31 } } }
+};
+
+/* More spaces between the words and zeros before the numbers, up to so many characters. */
+static void stretch(char *text, size_t wanted)
+{
+    for (size_t length = strlen(text); length < wanted; length++) {
+        size_t from = below((uint32_t)length);
+        bool zero = chance(50);
+
+        while (text[from] != ' ' && text[from] != '\0')
+            from++;
+        zero = zero && text[from] == ' ' && text[from + 1] >= '0' && text[from + 1] <= '9';
+        from += zero;
+        memmove(text + from + 1, text + from, length - from + 1);
+        text[from] = zero ? '0' : ' ';
+    }
+}
+
+/* A burst in a line of 255 characters, which is carried out, or of 256, which is not understood. */
+static void long_burst(void)
+{
+    struct list list = { 0 };
+    unsigned count = chance(70) ? 2 * from_to(1, MOST_PAIRS) : chance(50) ? LONGEST_LIST : from_to(1, 80);
+    char line[LONGEST_LINE + 2];
+
+    for (; list.count < count; list.count++)
+        list.number[list.count] = (uint16_t)(list.count % 2 == 1 ? 0 : count > 80 ? below(10) : from_to(16, 50));
+    list.count = burst_text(&list, line);
+    if (chance(50)) {
+        stretch(line, LONGEST_LINE);
+        order_burst_as(line, &list);
+    } else {
+        stretch(line, LONGEST_LINE + 1);
+        not_understood(line);
+    }
+    maybe_changes(60);
+}
+
+static void burst_line(void)
+{
+    unsigned i = below(sizeof bursts / sizeof bursts[0]);
+
+    if (chance(40))
+        long_burst();
+    else
+        order_burst_as(bursts[i].line, &bursts[i].list);
+}
+
 static void harmless_order(void)
 {
     uint8_t values[LONGEST_PUT];
@@ -108,8 +170,10 @@ void scene_lines(void)
             too_many();
         } else if (choice < 86) {
             too_long();
-        } else if (choice < 90) {
+        } else if (choice < 89) {
             longest_comment();
+        } else if (choice < 95) {
+            burst_line();
         } else {
             harmless_order();
         }

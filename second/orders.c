@@ -116,6 +116,58 @@ void order_interrupt(unsigned number, unsigned class_number)
     reach_interrupt(before, number, &last);
 }
 
+/* The line of a burst, and how many numbers of the list it holds. */
+unsigned burst_text(const struct list *list, char text[LONGEST_LINE + 1])
+{
+    size_t length = 5;
+    unsigned i;
+
+    memcpy(text, "burst", 6);
+    for (i = 0; i < list->count; i++) {
+        char number[8];
+        size_t more = (size_t)snprintf(number, sizeof number, " %u", (unsigned)list->number[i]);
+
+        if (length + more > LONGEST_LINE)
+            break;
+        memcpy(text + length, number, more + 1);
+        length += more;
+    }
+    return i;
+}
+
+static void call_burst(const struct list *list, unsigned count)
+{
+    uint8_t before[BUFFER], bytes[LONGEST_LIST] = { 0 };
+
+    for (unsigned i = 0; i < count; i++)
+        bytes[i] = (uint8_t)(list->number[i] > 255 ? 255 : list->number[i]);
+    memcpy(before, world, sizeof before);
+    answered(kernel_burst(world, lent, bytes, count));
+    reach_burst(before, bytes, count, &last);
+}
+
+/* A burst of the list, or of as much of it as a line holds. */
+void order_burst(const struct list *list)
+{
+    char text[LONGEST_LINE + 1];
+    unsigned count;
+
+    if (full())
+        return;
+    count = burst_text(list, text);
+    write_order(text);
+    call_burst(list, count);
+}
+
+/* The same with a line that says it in other clothes. */
+void order_burst_as(const char *line, const struct list *list)
+{
+    if (full())
+        return;
+    write_line(line);
+    call_burst(list, list->count);
+}
+
 void order_registers(void)
 {
     struct registers ignored;

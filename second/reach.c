@@ -281,7 +281,7 @@ void write_reached(void)
     for (unsigned n = 1; n < FAULT_NUMBERS; n++)
         printf("# reached fault %u: %lu\n", n, faults[n]);
     for (unsigned n = REFUSE_LENGTH; n <= REFUSE_RUNNING; n++)
-        if (n == REFUSE_LENGTH || (n >= REFUSE_IDLE && n <= REFUSE_VALUE) || n >= REFUSE_USES)
+        if (n == REFUSE_LENGTH || (n >= REFUSE_IDLE && n <= REFUSE_LIST) || n >= REFUSE_USES)
             printf("# reached refusal %u: %lu\n", n, refusals[n]);
     for (unsigned n = 0; n < WAIT_KINDS; n++)
         printf("# reached waits, %s: %lu\n", wait_names[n], waits[n]);
@@ -293,6 +293,7 @@ void write_reached(void)
         printf("# reached %s: %lu\n", mark_names[n], marks[n]);
     printf("# reached most processors: %u\n", most_processors);
     printf("# reached most page waiters: %u\n", most_page_waiters);
+    write_bursts();
     write_told();
     write_ways();
     write_faults_by_code();

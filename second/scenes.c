@@ -362,7 +362,13 @@ void scene_idle(void)
     }
     if (chance(30))
         bad_interrupt();
-    if (!wake_somebody())
+    if (chance(25)) {
+        any_burst();
+        maybe_changes(80);
+    }
+    if (is_idle() && chance(35) && burst_for_waiters())
+        return;
+    if (is_idle() && !wake_somebody())
         unstick();
 }
 
@@ -380,7 +386,10 @@ void scene_clock(void)
         order_break(C0, near, 4);
     }
     for (; ticks > 0 && !full(); ticks--) {
-        order_interrupt(world[LINE], 0);
+        if (chance(8))
+            burst_on(world[LINE]);
+        else
+            order_interrupt(world[LINE], 0);
         maybe_changes(kind == KIND_CLOCK ? 15 : 40);
     }
 }
