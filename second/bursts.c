@@ -87,21 +87,45 @@ static void swap_pairs(struct list *list, unsigned one, unsigned other)
     }
 }
 
-/* Each waiter's number as often as it waits for, in any order, and some more; never over 32 pairs. */
+/* The number that strikes this waiter as often as it waits for, as far as 32 pairs go. */
+static void add_waiter(struct list *list, const struct one *one)
+{
+    unsigned bell = bell_of(one), times = bell != 0 ? one->reason : 0;
+
+    if (one->interrupt > 50)
+        times = times * world[DIVIDER] * (one->interrupt == 51 ? 1u : 10u);
+    for (; times > 0 && pairs_of(list) < MOST_PAIRS; times--)
+        add_number(list, bell);
+}
+
+/* A priority that two have who wait for different numbers, if there is one. */
+static unsigned shared_priority(const struct look *l)
+{
+    for (unsigned tries = 0; tries < 20 && l->count > 0; tries++) {
+        const struct one *one = &l->one[below(l->count)], *other = &l->one[below(l->count)];
+
+        if (one->priority == other->priority && bell_of(one) != bell_of(other) && bell_of(one) != 0
+            && bell_of(other) != 0 && !one->stopped && !other->stopped)
+            return one->priority;
+    }
+    return 15;
+}
+
+/*
+ * Wakes most waiters: in any order, with some more numbers; or the last on the processor list
+ * first and none above some priority, so that from idle one runs that would not be chosen at the end.
+ */
 static void waking_list(struct list *list, const struct look *l)
 {
     unsigned skipped = chance(50) ? 0 : 30, more = chance(50) ? 0 : below(5);
+    bool backwards = chance(is_idle() ? 80 : 40);
+    unsigned highest = backwards ? shared_priority(l) : 15;
 
-    for (unsigned i = 0; i < l->count; i++) {
-        unsigned bell = bell_of(&l->one[i]), times = l->one[i].reason;
-
-        if (bell == 0 || chance(skipped))
-            continue;
-        if (l->one[i].interrupt > 50)
-            times = times * world[DIVIDER] * (l->one[i].interrupt == 51 ? 1u : 10u);
-        for (; times > 0 && pairs_of(list) < MOST_PAIRS; times--)
-            add_number(list, bell);
-    }
+    for (unsigned i = l->count; i > 0; i--)
+        if (l->one[i - 1].priority <= highest && !chance(skipped))
+            add_waiter(list, &l->one[i - 1]);
+    if (backwards)
+        return;
     for (; more > 0 && pairs_of(list) < MOST_PAIRS; more--)
         add_number(list, from_to(16, 50));
     for (unsigned i = pairs_of(list); i > 1; i--)
@@ -240,7 +264,7 @@ static void long_list(struct list *list)
 /* None of them changes anything. */
 void scene_bad_bursts(void)
 {
-    for (unsigned left = from_to(2, 6); left > 0 && !full(); left--) {
+    for (unsigned left = from_to(3, 7); left > 0 && !full(); left--) {
         struct list list = good_list();
         unsigned choice = below(100);
 
@@ -298,6 +322,8 @@ void burst_on(unsigned number)
     order_burst(&list);
 }
 
+enum { MOST_LINES = 5 };
+
 /* An interrupt for somebody to wait for. */
 static unsigned some_line(void)
 {
@@ -313,7 +339,7 @@ static unsigned some_line(void)
 static void meanwhile(const unsigned *lines)
 {
     for (unsigned left = chance(40) ? from_to(1, 3) : 0; left > 0; left--) {
-        unsigned number = lines[below(3)];
+        unsigned number = lines[below(MOST_LINES)];
 
         if (number > 50)
             number = world[LINE];
@@ -327,18 +353,22 @@ static void meanwhile(const unsigned *lines)
 }
 
 /*
- * Several go to wait for two or three interrupts, often until nobody is left to run, and a burst
+ * Several go to wait for a few interrupts, often until nobody is left to run, and a burst
  * comes for them: from idle the first one woken runs, and who comes later takes over only if higher.
  */
 void scene_muster(void)
 {
-    unsigned lines[3] = { some_line(), some_line(), some_line() };
+    unsigned lines[MOST_LINES];
     bool all = chance(75);
 
+    for (unsigned i = 0; i < MOST_LINES; i++)
+        lines[i] = i > 0 && chance(30) ? lines[i - 1] : some_line();
+    if (look_at(world).ready < 5)
+        scene_revive();
     for (unsigned left = all ? 12 : from_to(2, 8); left > 0 && !is_idle() && !full(); left--) {
         if (!all && !others_ready())
             break;
-        if (!do_wait(lines[below(3)], chance(60) ? 1 : from_to(2, 4)))
+        if (!do_wait(lines[below(MOST_LINES)], chance(60) ? 1 : from_to(2, 4)))
             break;
     }
     meanwhile(lines);

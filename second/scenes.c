@@ -375,7 +375,7 @@ void scene_idle(void)
 /* Waiters for 51-54, and the clock line again and again. */
 void scene_clock(void)
 {
-    unsigned ticks = kind == KIND_CLOCK && chance(30) ? from_to(60, 700) : from_to(5, 40);
+    unsigned ticks = kind == KIND_CLOCK && chance(30) ? from_to(60, 700) : from_to(5, 40), bursts = 8;
 
     for (unsigned left = from_to(1, 4); left > 0 && others_ready() && !is_idle(); left--)
         do_wait(chance(80) ? from_to(51, 54) : world[LINE], from_to(1, 3));
@@ -384,9 +384,10 @@ void scene_clock(void)
                             (uint8_t)(chance(80) ? 59 : 58) };
 
         order_break(C0, near, 4);
+        bursts = 50;
     }
-    for (; ticks > 0 && !full(); ticks--) {
-        if (chance(8))
+    for (; ticks > 0 && !full(); ticks--, bursts = 8) {
+        if (chance(bursts))
             burst_on(world[LINE]);
         else
             order_interrupt(world[LINE], 0);
