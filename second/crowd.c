@@ -340,6 +340,8 @@ void scene_mailbox(void)
             try_to(7, 0);
         else if (me->q1 > 0)
             try_to(5, 0);
+        else if (me->q2 > 0 && others_ready() && chance(40))
+            do_message(5, 0, 0);  /* what is in Q2 already doesn't keep it from waiting */
         else if (me->q2 > 0)
             try_to(7, 0);
         else

@@ -73,7 +73,7 @@ static bool spoil_name_of_granted(const struct look *l)
 /* Words 0 and 16-31 of page 10 are no grants, even if they hold a control page. */
 static bool spoil_page_10(const struct look *l)
 {
-    unsigned word = chance(40) ? 0 : chance(30) ? 16 : chance(30) ? 31 : from_to(16, 31);
+    unsigned word = chance(40) ? 0 : chance(25) ? 16 : chance(50) ? 31 : from_to(16, 31);
 
     (void)l;
     poke(GRANTS + word, chance(60) ? some_page() : from_to(1, 255));
@@ -149,8 +149,8 @@ static bool spoil_page_9_first(const struct look *l)
 
 static bool spoil_entry(const struct look *l)
 {
-    static const uint8_t faults[] = { 0, 0, 1, 12, 13, 13, 14, 15 };
-    unsigned first = world[FAULT_TABLE], name = chance(30) ? 0 : from_to(1, 15), fault = faults[below(sizeof faults)];
+    static const uint8_t faults[] = { 0, 12, 13, 13, 13, 13, 14, 15 };
+    unsigned first = world[FAULT_TABLE], name = chance(20) ? 0 : from_to(1, 15), fault = faults[below(sizeof faults)];
 
     (void)l;
     if (first < 2 || first > FAULT_TABLE_FULL)

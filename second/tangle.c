@@ -213,7 +213,7 @@ static bool tangle_wait_flag(const struct look *l)
 
     if (one == NULL)
         return false;
-    poke(at(one->page, REASON), below(16) * 16 + (chance(30) ? 7 : from_to(8, 15)));
+    poke(at(one->page, REASON), below(16) * 16 + (chance(20) ? 7 : chance(50) ? 8 : from_to(9, 15)));
     return true;
 }
 

@@ -149,18 +149,36 @@ static bool tear_long_loop(const struct look *l)
     return true;
 }
 
-/* One with mail comes back to itself on the processor list, so its mail is met again and again. */
+static unsigned lowest_mail(const struct one *one)
+{
+    struct queue q1 = queue_read(world, at(one->page, Q1), LINK), q2 = queue_read(world, at(one->page, Q2), LINK);
+    unsigned lowest = LAST_PAGE + 1;
+
+    for (unsigned i = 0; i < q1.count; i++)
+        lowest = q1.page[i] < lowest ? q1.page[i] : lowest;
+    for (unsigned i = 0; i < q2.count; i++)
+        lowest = q2.page[i] < lowest ? q2.page[i] : lowest;
+    return lowest;
+}
+
+/*
+ * One with mail comes back to itself on the processor list, so its mail is met again and again.
+ * Often it is the one with the lowest page of mail, which may then be what is told.
+ */
 static bool tear_mail_loop(const struct look *l)
 {
+    const struct one *found = NULL;
+    bool lowest = chance(70);
+
     for (unsigned i = 0, from = below(l->count); i < l->count; i++) {
         const struct one *one = &l->one[(from + i) % l->count];
 
-        if (one->q1 + one->q2 == 0)
-            continue;
-        poke(at(one->page, LIST_LINK), one->page);
-        return true;
+        if (one->q1 + one->q2 > 0 && (found == NULL || (lowest && lowest_mail(one) < lowest_mail(found))))
+            found = one;
     }
-    return false;
+    if (found != NULL)
+        poke(at(found->page, LIST_LINK), found->page);
+    return found != NULL;
 }
 
 static bool tear_run_into(const struct look *l)
