@@ -20,7 +20,7 @@ static unsigned pairs_of(const struct list *list)
     return list->count / 2;
 }
 
-/* The lengths that were seldom done come more often; half of all lists are short. */
+/* The lengths that were seldom done come more often; two lists of five are short. */
 static unsigned some_pairs(void)
 {
     unsigned one = below(MOST_PAIRS + 1), other = below(MOST_PAIRS + 1);
@@ -217,7 +217,7 @@ static void spoil_somewhere(struct list *list)
         spoil_pair(list, below(pairs_of(list)));
 }
 
-/* A bad pair at a place where seldom one was, before it good ones that wake; at times a second one, or all from there on. */
+/* A bad pair at a place where seldom one was, before it good ones that wake; at times a second one, seldom more. */
 static void bad_pair(struct list *list)
 {
     unsigned one = from_to(1, MOST_PAIRS), other = from_to(1, MOST_PAIRS);
@@ -246,7 +246,7 @@ static void odd_list(struct list *list)
     list->count = length;
 }
 
-/* Most often one pair too many; all the numbers that a line holds have one digit. */
+/* Most often one pair too many; at times as many numbers as a line holds, of one digit each. */
 static void long_list(struct list *list)
 {
     if (chance(15)) {
