@@ -1,4 +1,4 @@
-/* Bursts: lists of every length for whoever waits, for the clock and for nobody, and lists that are bad in every way. */
+/* Bursts: lists of every length for whoever waits, for the clock and for nobody, and bad ones of every kind. */
 #include "generate.h"
 
 static void add_pair(struct list *list, unsigned number, unsigned class_number)
@@ -174,7 +174,7 @@ void scene_bursts(void)
     }
 }
 
-/* A number that is no interrupt from outside, often just beside them; over 255 it looks like a good one in its low byte. */
+/* No interrupt from outside, often just beside them; over 255 the low byte looks like a good one. */
 static unsigned bad_number(void)
 {
     static const uint16_t edges[] = { 15, 51, 0, 14, 54, 55, 255, 128 };

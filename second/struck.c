@@ -19,7 +19,8 @@ static const char *const feat_names[FEATS] = {
     "pairs delivered in bursts", "wakes in bursts", "bursts that woke two or more",
     "bursts that woke waiters of several interrupts", "bursts from idle that woke two or more",
     "bursts from idle in which a later one woken took over", "waiters struck several times in one burst",
-    "bursts in which the runner changed twice or more", "bursts that end otherwise if who runs is asked at the end only",
+    "bursts in which the runner changed twice or more",
+    "bursts that end otherwise if who runs is asked at the end only",
     "bursts that woke with several class numbers", "stopped ones woken in bursts", "bursts with the clock line",
     "bursts with the clock line many times"
 };
