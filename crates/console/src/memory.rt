@@ -9,7 +9,7 @@ use words::guarded;
 use words::low;
 ghost use mathlib.Core.Path.{_≡_};
 ghost use Prim.Native.Nat.{_<_, _≤_, _+_};
-ghost use lib.ListN.{length};
+ghost use lib.ListN.{length, set};
 ghost use Rattle.script.specs.Sizes.{mostNumbers};
 ghost use Rattle.console.specs.Sizes.{bufferWords};
 
@@ -49,8 +49,9 @@ fn all_words(given: &[u16], count: usize) -> bool
     false
 }
 
-fn store_word(m: &mut [u8], at: usize, value: u8)
+pub fn store_word(m: &mut [u8], at: usize, value: u8)
     requires { ⌜ at < length (now m) ⌝ }
+    ensures { λ _. ⌜ now (m .exit) ≡ set (now (m .entry)) at value ⌝ }
 {
     m[at] = value;
 }

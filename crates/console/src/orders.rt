@@ -4,6 +4,7 @@ use crate::memory::lend;
 use crate::memory::look;
 use crate::memory::put;
 use crate::memory::put_anywhere;
+use crate::memory::store_word;
 use kernel::judge;
 use model::Registers;
 use model::Verdict;
@@ -11,6 +12,7 @@ use model::map;
 use screen::broken::broken;
 use screen::lines::answer;
 use screen::lines::held;
+use screen::lines::not_allowed;
 use screen::lines::not_understood;
 use screen::lines::verdict;
 use screen::pieces::text;
@@ -24,6 +26,7 @@ ghost use Prim.Native.Nat.{_≤_};
 ghost use lib.ListN.{length};
 ghost use Rattle.script.specs.Sizes.{mostNumbers};
 ghost use Rattle.console.specs.Sizes.{bufferWords};
+ghost use Rattle.console.specs.Lists as Lists;
 
 fn fresh(m: &mut [u8], lent: usize, line: u16, divider: u16)
     requires { ⌜ lent ≤ length (now m) ⌝ }
@@ -44,27 +47,24 @@ fn interrupt(m: &mut [u8], lent: usize, number: u16, class: u16)
 }
 
 // A number in a byte; one that is no byte as 255, which is as bad.
-fn in_byte(given: u16) -> u8 {
+fn in_byte(given: u16) -> u8
+    ensures { λ r. ⌜ r ≡ Lists.inByte given ⌝ }
+{
     if map::A_WORD_WIDE < given {
         return map::A_WORD;
     }
     low(given)
 }
 
-fn fill(list: &mut [u8], at: usize, value: u8)
-    requires { ⌜ at < length (now list) ⌝ }
-{
-    list[at] = value;
-}
-
-// The first `count` numbers given go into the list.
+// The first `count` numbers given become the first bytes of the list.
 fn gather(list: &mut [u8], given: &[u16], count: usize)
     requires { ⌜ (count ≤ length (now list)) × (count ≤ length (now given)) ⌝ }
+    ensures { λ _. ⌜ now (list .exit) ≡ Lists.gathered count (now (given .entry)) (now (list .entry)) ⌝ }
 {
     if count == 0 {
         return;
     }
-    fill(list, count - 1, in_byte(given[count - 1]));
+    store_word(list, count - 1, in_byte(given[count - 1]));
     gather(list, given, count - 1);
 }
 
@@ -72,7 +72,7 @@ fn burst(m: &mut [u8], lent: usize, given: &[u16], count: usize)
     requires { ⌜ (lent ≤ length (now m)) × (length (now given) ≡ mostNumbers) ⌝ }
 {
     if script::sizes::MOST_NUMBERS < count {
-        return;
+        return not_allowed();
     }
     let mut list = [0u8; script::sizes::MOST_NUMBERS];
     gather(&mut list, given, count);
