@@ -3,11 +3,11 @@
 use Prim.Native.Nat.{ℕ, zero, suc, _+_, _≤_, _<_}
 use native.Mathlib.Omega.{arith}
 use mathlib.Core.Path.{_≡_, refl, ap}
-use mathlib.Core.Bool.{Bool, true, false, cond, false≢true}
+use mathlib.Core.Bool.{Bool, true, false, cond}
 use mathlib.Core.List.{List, [], _∷_, _++_, map}
 use lib.Dec.{eqb, ltb}
 use lib.ListN.{length, length-map, take, drop}
-use borrow.Author.Tests.{ltb-true, ltb-false, lt-ltb, le-ltb, ne-eqb}
+use borrow.Author.Tests.{ltb-true, lt-ltb, le-ltb, ne-eqb}
 use Rattle.model.specs.declared.Answer.the-variants.{Done, RefusedAt}
 use Rattle.model.specs.declared.Checked.{Checked}
 use Rattle.model.specs.declared.Checked.the-variants.{Good, Bad}
@@ -22,6 +22,7 @@ use Rattle.model.specs.Call as Call
 use Rattle.model.specs.Call.{isOuter, isClass}
 use Rattle.model.specs.Burst as Burst
 use Rattle.model.specs.Burst.{isList, tested, arrived, heedsPairs, burst}
+use Rattle.laws.specs.Pairs.{outer-of, class-of}
 
 unfoldable pub inByte : ℕ → ℕ
 inByte x = cond (ltb aWord x) aWord x
@@ -79,20 +80,11 @@ unfolding Call.isClass
 class-same k c = rw (above lastClass c (omega arith), below firstClassed k (omega arith), zero-same c)
 
 -- ---- of a pair that passes both tests the bytes are the numbers
-past : (b x : Bool) → cond b false x ≡ true → (b ≡ false) × (x ≡ true)
-past true x h = absurd (false≢true h)
-past false x h = (refl, h)
-
 outer-byte : (k : ℕ) → isOuter k ≡ true → inByte k ≡ k
-unfolding Call.isOuter
-outer-byte k h =
-    let g = ltb-false lastOuter k ((past (ltb lastOuter k) true ((past (ltb k firstOuter) (cond (ltb lastOuter k) false true) h) .1)) .0) in
-    byte-same k (omega arith)
+outer-byte k h = byte-same k (omega (arith, outer-of k h))
 
 class-byte : (k c : ℕ) → isClass k c ≡ true → inByte c ≡ c
-unfolding Call.isClass
-class-byte k c h =
-    let g = ltb-false lastClass c ((past (ltb lastClass c) (cond (ltb k firstClassed) (eqb c 0) true) h) .0) in byte-same c (omega arith)
+class-byte k c h = byte-same c (omega (arith, class-of k c h))
 
 -- ---- so the burst of the bytes is that of the numbers: the same refusals at the same places, and the same memory
 module _ (S : Store) where
