@@ -69,7 +69,8 @@ all-arrive {m} w i [] v e = none m
 all-arrive w i (k ∷ []) v e = absurd (omega arith)
 all-arrive {m} w i (k ∷ c ∷ l) v e =
     let g = good-first i k c l e in
-    one m k c l (arrived (whoRuns (delivered m k c)) l) (one-done w (g .0)) (rw (arrives w (g .0)) (all-arrive (arrives-well w (g .0)) (i + 1) l (omega arith) (g .1)))
+    let o = all-arrive (arrives-well w (g .0)) (i + 1) l (omega arith) (g .1) in
+    one m k c l (arrived (whoRuns (delivered m k c)) l) (one-done w (g .0)) (rw (arrives w (g .0)) o)
 
 pub comes : {m : List ℕ} → WellFormed m → (l : List ℕ) → Comes m l
 unfolding Call.head Burst.burst Burst.burstJudged Answer.numbers Answer.answerOf Answer.memoryOf

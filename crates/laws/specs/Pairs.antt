@@ -1,5 +1,5 @@
--- What an interrupt from outside may be, and a burst from the line card: what testing the pairs of a list says of them. With x pairs before it, the bytes of a pair
--- are `numberAt l x` and `classAt l x`, and its place is x more than that of the first. Assumes nothing.
+-- What an interrupt from outside may be, and a burst from the line card: what testing the pairs of a list says of them. With x pairs before it, the
+-- bytes of a pair are `numberAt l x` and `classAt l x`, and its place is x more than that of the first. Assumes nothing.
 use mathlib.Core.Path.{_≡_, refl, ap}
 use mathlib.Core.Bool.{Bool, true, false}
 use mathlib.Core.List.{List, [], _∷_}
