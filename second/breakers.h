@@ -28,6 +28,7 @@ const struct one *some_one(const struct look *l);
 const struct one *some_waiter(const struct look *l, enum wait wait);  /* of any kind with WAIT_NONE; NULL if none */
 const struct one *some_granted(const struct look *l);  /* NULL if there is none, and none can be made */
 unsigned some_message(const struct look *l);
+unsigned take_message(const struct look *l);  /* out of its queue; 0 if nobody has one */
 unsigned some_value(unsigned old);
 unsigned some_false_number(void);
 

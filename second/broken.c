@@ -63,10 +63,26 @@ const struct one *some_granted(const struct look *l)
 unsigned some_message(const struct look *l)
 {
     for (unsigned tries = 0; tries < 12; tries++) {
-        struct queue q = queue_read(world, at(some_one(l)->page, chance(50) ? Q1 : Q2), LINK);
+        unsigned page = some_one(l)->page;
+        struct queue q = queue_read(world, at(page, chance(50) ? Q1 : Q2), LINK);
 
         if (q.count > 0)
             return q.page[below(q.count)];
+    }
+    return 0;
+}
+
+/* A first message taken out of its queue; 0 if nobody has one. */
+unsigned take_message(const struct look *l)
+{
+    for (unsigned i = 0, from = below(l->count); i < l->count; i++) {
+        const struct one *one = &l->one[(from + i) % l->count];
+        unsigned header = at(one->page, is_control_page(world[at(one->page, Q1)]) ? Q1 : Q2), page = world[header];
+
+        if (!is_control_page(page))
+            continue;
+        poke(header, world[at(page, LINK)]);
+        return page;
     }
     return 0;
 }
@@ -93,7 +109,7 @@ unsigned some_false_number(void)
 /* Any word of pages 4-10 or of a control page. */
 static bool break_anything(const struct look *l)
 {
-    unsigned address = chance(40) ? from_to(TABLES, TABLES_END - 1) : at(some_page(), below(13));
+    unsigned page = some_page(), address = chance(40) ? from_to(TABLES, TABLES_END - 1) : at(page, below(13));
 
     (void)l;
     poke(address, some_value(world[address]));
@@ -231,6 +247,13 @@ static bool break_somehow(const struct look *l)
     return true;
 }
 
+static void call_interrupt(void)
+{
+    unsigned number = chance(70) ? from_to(16, 50) : 77;
+
+    order_interrupt(number, chance(70) ? 0 : below(40));
+}
+
 /* Calls on a broken memory: all of them are refused alike. */
 static void call_in_turn(unsigned which)
 {
@@ -238,7 +261,7 @@ static void call_in_turn(unsigned which)
 
     switch (which) {
     case 0: order_step(); break;
-    case 1: order_interrupt(chance(70) ? from_to(16, 50) : 77, chance(70) ? 0 : below(40)); break;
+    case 1: call_interrupt(); break;
     case 2: order_registers(); break;
     case 3:
         r.a = chance(70) ? 1 : 256;
@@ -297,6 +320,11 @@ static void mend_backwards(void)
     }
 }
 
+static void fresh_start(unsigned divider)
+{
+    order_fresh(from_to(16, 47), divider);
+}
+
 static unsigned differing(void)
 {
     unsigned count = 0;
@@ -317,7 +345,7 @@ void scene_break(void)
         mark(MARK_BROKEN_JUDGED);
         call_broken();
         if (chance(1))
-            order_fresh(from_to(16, 47), from_to(1, 3));  /* a fresh start asks nothing of the memory */
+            fresh_start(from_to(1, 3));  /* it asks nothing of the memory */
         else if (differing() < 8 && chance(20))
             mend_backwards();
         else

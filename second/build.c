@@ -17,11 +17,6 @@ static unsigned some_lr(void)
     return below(WORDS);
 }
 
-bool others_ready(void)
-{
-    return look_at(world).ready >= 2;
-}
-
 static bool usable(unsigned code)
 {
     return code_kind(world, code) == KIND_BUILT_IN;
@@ -135,7 +130,8 @@ static bool build_sme(struct plan *p, const struct look *l, unsigned outcome)
         if (chance(75))
             p->g.address = place_protected(1);
     } else if (outcome == FAULT_PROTECTED && length > 0 && chance(60)) {
-        p->g.address = (chance(70) ? 7552 : TABLES) - from_to(1, length);
+        p->g.address = chance(70) ? at(FIRST_PAGE, 0) : TABLES;
+        p->g.address -= from_to(1, length);
     } else if (outcome == FAULT_PROTECTED) {
         p->g.address = place_protected(1);
     }
@@ -379,8 +375,9 @@ bool do_name(unsigned code, unsigned name)
 
 bool do_create(unsigned name, unsigned priority)
 {
-    struct plan p = { .code = 11, .g = { .field = name, .priority = priority, .w = below(16), .address = some_lr() } };
+    struct plan p = { .code = 11, .g = { .field = name, .priority = priority, .w = below(16) } };
 
+    p.g.address = some_lr();
     return issue_plain(&p);
 }
 

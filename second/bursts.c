@@ -137,16 +137,17 @@ static struct list good_list(void)
 {
     struct look l = look_at(world);
     struct list list = { 0 };
+    unsigned choice = below(8), pairs = some_pairs();
 
-    switch (below(8)) {
-    case 0: mixed_list(&list, &l, some_pairs()); break;
+    switch (choice) {
+    case 0: mixed_list(&list, &l, pairs); break;
     case 1: mixed_list(&list, &l, from_to(1, 6)); break;
-    case 2: same_list(&list, world[LINE], some_pairs()); break;
-    case 3: same_list(&list, some_bell(&l), some_pairs()); break;
-    case 4: class_list(&list, some_pairs()); break;
+    case 2: same_list(&list, world[LINE], pairs); break;
+    case 3: same_list(&list, some_bell(&l), pairs); break;
+    case 4: class_list(&list, pairs); break;
     case 5: case 6: waking_list(&list, &l); break;
     default:
-        for (unsigned left = some_pairs(); left > 0; left--)
+        for (; pairs > 0; pairs--)
             add_number(&list, from_to(16, 50));
         break;
     }
@@ -178,9 +179,10 @@ void scene_bursts(void)
 static unsigned bad_number(void)
 {
     static const uint16_t edges[] = { 15, 51, 0, 14, 54, 55, 255, 128 };
+    unsigned high = from_to(1, 3);
 
     if (chance(20))
-        return 256 * from_to(1, 3) + from_to(16, 50);
+        return 256 * high + from_to(16, 50);
     if (chance(50))
         return edges[below(sizeof edges / sizeof edges[0])];
     return chance(50) ? below(16) : from_to(51, 400);
@@ -366,9 +368,11 @@ void scene_muster(void)
     if (look_at(world).ready < 5)
         scene_revive();
     for (unsigned left = all ? 12 : from_to(2, 8); left > 0 && !is_idle() && !full(); left--) {
+        unsigned line = lines[below(MOST_LINES)];
+
         if (!all && !others_ready())
             break;
-        if (!do_wait(lines[below(MOST_LINES)], chance(60) ? 1 : from_to(2, 4)))
+        if (!do_wait(line, chance(60) ? 1 : from_to(2, 4)))
             break;
     }
     meanwhile(lines);

@@ -20,6 +20,14 @@ void scene_grow(void)
     scene_revive();
 }
 
+/* A message with some flag and a text shorter than so many words. */
+static void send_some(unsigned to, unsigned end)
+{
+    unsigned flag = from_to(1, 7);
+
+    do_send(to, flag, below(end));
+}
+
 /* Sends until no page is free, to a few receivers so that long queues grow. */
 static void flood(void)
 {
@@ -29,8 +37,9 @@ static void flood(void)
     for (unsigned left = 24; left > 0 && !is_idle() && world[FREE_LIST] != 0 && !full(); left--) {
         struct look l = look_at(world);
         unsigned to = chance(40) ? favourite : chance(80) ? existing_name(&l) : absent_name(&l);
+        unsigned flag = from_to(1, chance(70) ? 3 : 7);
 
-        if (to != 0 && !do_send(to, from_to(1, chance(70) ? 3 : 7), chance(50) ? below(4) : below(30)))
+        if (to != 0 && !do_send(to, flag, below(chance(50) ? 4 : 30)))
             break;
     }
 }
@@ -58,7 +67,7 @@ static void starve(void)
         else if (name != 0 && chance(40))
             do_create(name, from_to(1, 15));
         else
-            do_send(name != 0 && chance(25) ? name : existing_name(&l), from_to(1, 7), below(6));
+            send_some(name != 0 && chance(25) ? name : existing_name(&l), 6);
     }
 }
 
@@ -178,7 +187,7 @@ void scene_notice(void)
     if (is_idle() || name == 0 || l.ready < 2 || l.free < 2)
         return;
     holder = runner_of(&l)->name;
-    do_send(name, from_to(1, 7), below(5));
+    send_some(name, 5);
     if (chance(30))
         do_message(5, chance(50) ? name : 0, 0);
     do_create(name, from_to(1, 15));
@@ -186,7 +195,7 @@ void scene_notice(void)
         do_name(8, name);
     do_name(9, holder);
     if (!is_idle() && chance(30))
-        do_send(holder, from_to(1, 7), below(5));
+        send_some(holder, 5);
     do_name(12, holder);
 }
 
@@ -222,14 +231,14 @@ static void wait_for_a_death(void)
 {
     struct look l = look_at(world);
     const struct one *victim = pick_victim(&l);
-    unsigned flag = from_to(1, 7);
+    unsigned flag = from_to(1, 7), wanted = chance(60) ? flag : 0;
 
     if (victim == NULL || l.ready < 2)
         return;
     do_send(victim->name, flag, below(10));
     if (is_idle() || !others_ready())
         return;
-    do_message(5, chance(60) ? victim->name : 0, chance(60) ? flag : 0);
+    do_message(5, chance(60) ? victim->name : 0, wanted);
     if (is_idle() || name_of(world, world[RUNNING_PAGE]) == victim->name)
         return;
     do_name(9, victim->name);
@@ -242,14 +251,14 @@ void scene_messages(void)
     for (unsigned left = from_to(3, 10); left > 0 && !is_idle() && !full(); left--) {
         struct look l = look_at(world);
         const struct one *me = runner_of(&l);
-        unsigned choice = below(100);
+        unsigned choice = below(100), flag = below(8);
 
         if (choice < 20 && l.ready >= 2)
-            do_message(5, chance(50) ? 0 : existing_name(&l), below(8));
+            do_message(5, chance(50) ? 0 : existing_name(&l), flag);
         else if (choice < 50)
             send_to_waiter();
         else if (choice < 60)
-            do_send(me->name, from_to(1, 7), below(30));
+            send_some(me->name, 30);
         else if (choice < 75 && me->q1 > 0)
             try_to(7, 0);
         else if (choice < 90 && me->q2 > 0)
@@ -319,9 +328,12 @@ void scene_address(void)
 {
     struct plan p;
 
-    for (unsigned left = from_to(3, 8); left > 0 && !is_idle() && !full(); left--)
-        if (build(&p, 13, chance(50), others_ready() && chance(25) ? from_to(11, 12) : 0))
+    for (unsigned left = from_to(3, 8); left > 0 && !is_idle() && !full(); left--) {
+        bool exi = chance(50);
+
+        if (build(&p, 13, exi, others_ready() && chance(25) ? from_to(11, 12) : 0))
             issue(&p);
+    }
 }
 
 /* The runner's mail is moved and read, with short and long queues. */
@@ -330,10 +342,10 @@ void scene_mailbox(void)
     for (unsigned left = from_to(4, 9); left > 0 && !is_idle() && !full(); left--) {
         struct look l = look_at(world);
         const struct one *me = runner_of(&l);
-        unsigned choice = below(100);
+        unsigned choice = below(100), flag = from_to(1, 4);
 
         if (me->q1 + me->q2 < 3 && l.free > 0 && choice < 60)
-            do_send(me->name, from_to(1, 4), below(4));
+            do_send(me->name, flag, below(4));
         else if (me->q2 > 0 && choice < 50)
             try_to(6, others_ready() && chance(40) ? (chance(70) ? 11 : 6) : 0);
         else if (me->q1 > 0 && choice < 75)
@@ -354,8 +366,10 @@ static void rouse(const struct one *one)
 {
     if (one->wait == WAIT_INTERRUPT)
         ring(one->interrupt);
+    else if (one->wait == WAIT_MESSAGE && one->reason % 16 != 0)
+        do_send(one->name, one->reason % 16, below(5));
     else if (one->wait == WAIT_MESSAGE)
-        do_send(one->name, one->reason % 16 != 0 ? one->reason % 16 : from_to(1, 7), below(5));
+        send_some(one->name, 5);
     else
         try_to(6, 0);
 }

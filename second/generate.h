@@ -77,6 +77,7 @@ struct look {
 };
 struct look look_at(const uint8_t *m);
 bool is_idle(void);
+bool others_ready(void);  /* who runs is not the only one that could */
 const struct one *runner_of(const struct look *l);
 unsigned absent_name(const struct look *l);
 unsigned existing_name(const struct look *l);
@@ -138,14 +139,17 @@ bool do_create(unsigned name, unsigned priority);
 bool do_send(unsigned name, unsigned flag, unsigned length);
 bool do_message(unsigned code, unsigned name, unsigned flag);
 bool do_wait(unsigned interrupt, unsigned count);
-bool others_ready(void);
+
+/* interrupts.c: for somebody that waits, if anybody does */
+unsigned waited_for(void);
+void deliver_to_waiter(void);
 
 /* bursts.c: lists for bursts, good and bad; the memory may be broken only for the first */
 void any_burst(void);
 bool burst_for_waiters(void);
 void burst_on(unsigned number);
 
-/* scenes.c, crowd.c, broken.c, harmless.c, lines.c, bursts.c: short plays of some orders each */
+/* scenes.c, interrupts.c, crowd.c, broken.c, harmless.c, lines.c, bursts.c: short plays of some orders each */
 void scene_single(void);
 void scene_calls(void);
 void scene_interrupts(void);

@@ -19,8 +19,11 @@ static void fill_page_9(void)
     unsigned unused = chance(30) ? 1 : from_to(28, 32);
 
     table[0] = (uint8_t)unused;
-    for (unsigned word = 1; word < unused; word++)
-        table[word] = (uint8_t)(from_to(1, 15) * 16 + from_to(1, 12));
+    for (unsigned word = 1; word < unused; word++) {
+        unsigned name = from_to(1, 15);
+
+        table[word] = (uint8_t)(name * 16 + from_to(1, 12));
+    }
     order_break(FAULT_TABLE, table, PAGE_WORDS);
 }
 
@@ -43,10 +46,10 @@ static void restore_codes(void)
 /* The clock just before an end, or another line and divider. */
 static void set_clock(void)
 {
-    uint8_t counters[4] = { 0, (uint8_t)from_to(8, 9), (uint8_t)from_to(58, 59), (uint8_t)from_to(58, 59) };
+    unsigned c1 = from_to(8, 9), c2 = from_to(58, 59), c3 = from_to(58, 59);
     uint8_t divider = (uint8_t)(chance(70) ? from_to(1, 3) : from_to(1, 255)), line = (uint8_t)from_to(16, 47);
+    uint8_t counters[4] = { (uint8_t)below(divider), (uint8_t)c1, (uint8_t)c2, (uint8_t)c3 };
 
-    counters[0] = (uint8_t)below(divider);
     order_break(C0, counters, 4);
     order_break(DIVIDER, &divider, 1);
     if (chance(40))
@@ -152,14 +155,15 @@ void scene_nobody(void)
     order_changes();
 }
 
-static unsigned some_line(void)
-{
-    return chance(20) ? 16 : chance(20) ? 47 : from_to(16, 47);
-}
-
 static unsigned some_divider(void)
 {
     return chance(80) ? from_to(1, 4) : chance(25) ? 255 : from_to(1, 255);
+}
+
+/* A fresh start with some line, often the first or the last. */
+static void start_afresh(unsigned divider)
+{
+    order_fresh(chance(20) ? 16 : chance(20) ? 47 : from_to(16, 47), divider);
 }
 
 /*
@@ -181,7 +185,7 @@ void unstick(void)
         order_break(RUNNING_PAGE, running, 2);
         return;
     }
-    order_fresh(some_line(), some_divider());
+    start_afresh(some_divider());
     maybe_changes(50);
 }
 
@@ -193,12 +197,14 @@ void scene_length(void)
 
     order_length(lengths[below(5)]);
     for (unsigned left = from_to(1, 4); left > 0; left--) {
-        switch (below(8)) {
+        unsigned choice = below(8), low = below(3);
+
+        switch (choice) {
         case 0: order_step(); break;
-        case 1: order_interrupt(below(60), below(3)); break;
+        case 1: order_interrupt(below(60), low); break;
         case 2: order_registers(); break;
         case 3: order_set(&r); break;
-        case 4: order_fresh(from_to(15, 47), below(3)); break;
+        case 4: order_fresh(from_to(15, 47), low); break;
         case 5: case 6: any_burst(); break;
         default: order_judge(); break;
         }
@@ -218,6 +224,6 @@ void opening(void)
         any_burst();
     if (chance(15))
         scene_length();
-    order_fresh(some_line(), kind == KIND_CLOCK ? from_to(1, 2) : some_divider());
+    start_afresh(kind == KIND_CLOCK ? from_to(1, 2) : some_divider());
     maybe_changes(70);
 }

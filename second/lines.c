@@ -141,16 +141,18 @@ static void burst_line(void)
 static void harmless_order(void)
 {
     uint8_t values[LONGEST_PUT];
+    unsigned choice = below(6);
+    bool first = chance(50);
 
     for (unsigned i = 0; i < LONGEST_PUT; i++)
         values[i] = (uint8_t)below(256);
-    switch (below(6)) {
+    switch (choice) {
     case 0: order_put(352 + below(100), values, LONGEST_PUT); break;
     case 1: order_put(7520, values, LONGEST_PUT); break;
-    case 2: order_words(chance(50) ? 8168 : 8199, chance(50) ? 32 : 1); break;
+    case 2: order_words(first ? 8168 : 8199, chance(50) ? 32 : 1); break;
     case 3: order_put(0, values, LONGEST_PUT); break;
     case 4: order_break(8198, values, 2); break;
-    default: order_put(100, values, chance(50) ? 28 : 29); break;
+    default: order_put(100, values, first ? 28 : 29); break;
     }
     maybe_changes(50);
 }

@@ -71,6 +71,11 @@ bool is_idle(void)
     return world[RUNNING_PAGE] == 0;
 }
 
+bool others_ready(void)
+{
+    return look_at(world).ready >= 2;
+}
+
 /* Only to be asked while somebody runs. */
 const struct one *runner_of(const struct look *l)
 {

@@ -1,4 +1,4 @@
-/* Short plays: single instructions, calls, interrupts, codes, edges of the protected areas, faults. */
+/* Short plays: single instructions, calls, codes, edges of the protected areas, faults. */
 #include <string.h>
 
 #include "generate.h"
@@ -87,7 +87,12 @@ static void some_set(void)
 {
     struct registers r = own_registers();
 
-    r = (struct registers){ below(256), below(256), below(2), below(2), below(2), r.lr, below(16) };
+    r.a = below(256);
+    r.s = below(256);
+    r.p = below(2);
+    r.z = below(2);
+    r.ci = below(2);
+    r.w = below(16);
     if (chance(30))
         r.lr = from_to(TABLES_END, 7400);
     if (chance(20))
@@ -128,6 +133,13 @@ static void step_on_nothing(void)
     order_step();
 }
 
+static void some_words(void)
+{
+    unsigned address = chance(50) ? from_to(TABLES, 330) : below(8170);
+
+    order_words(address, from_to(1, 32));
+}
+
 void scene_calls(void)
 {
     for (unsigned left = from_to(1, 4); left > 0; left--) {
@@ -136,59 +148,10 @@ void scene_calls(void)
         case 1: case 2: some_set(); break;
         case 3: bad_fresh(); break;
         case 4: order_judge(); break;
-        case 5: order_words(chance(50) ? from_to(TABLES, 330) : below(8170), from_to(1, 32)); break;
+        case 5: some_words(); break;
         default: step_on_nothing(); break;
         }
         maybe_changes(60);
-    }
-}
-
-/* Somebody waits for an interrupt that can be delivered from outside. */
-static unsigned waited_for(void)
-{
-    struct look l = look_at(world);
-    unsigned found[PAGES], count = 0;
-
-    for (unsigned i = 0; i < l.count; i++)
-        if (l.one[i].wait == WAIT_INTERRUPT && l.one[i].interrupt >= 16)
-            found[count++] = l.one[i].interrupt;
-    if (count == 0)
-        return from_to(16, 50);
-    count = found[below(count)];
-    return count > 50 ? world[LINE] : count;
-}
-
-static void deliver_to_waiter(void)
-{
-    unsigned number = waited_for();
-
-    order_interrupt(number, number >= 48 ? below(32) : 0);
-}
-
-static void bad_interrupt(void)
-{
-    switch (below(6)) {
-    case 0: order_interrupt(15, 0); break;
-    case 1: order_interrupt(from_to(51, 55), chance(50) ? below(3) : from_to(30, 40)); break;
-    case 2: order_interrupt(from_to(48, 50), chance(50) ? 32 : 65535); break;
-    case 3: order_interrupt(47, 1); break;
-    case 4: order_interrupt(chance(50) ? 0 : 65535, chance(50) ? 0 : 65535); break;
-    default: order_interrupt(from_to(16, 47), from_to(1, 40)); break;
-    }
-}
-
-void scene_interrupts(void)
-{
-    for (unsigned left = from_to(1, 6); left > 0; left--) {
-        unsigned choice = below(100);
-
-        if (choice < 70)
-            deliver_to_waiter();
-        else if (choice < 85)
-            order_interrupt(from_to(16, 50), 0);
-        else
-            bad_interrupt();
-        maybe_changes(80);
     }
 }
 
@@ -244,12 +207,13 @@ static unsigned edge_lr(void)
 {
     static const uint16_t inside[] = { 0, 5, 14, 15, 128, 129, 200, 350, 351, 7552, 7553, 8190, 8191 };
     static const uint8_t before[] = { 1, 1, 2, 2, 2, 2, 3, 3, 4, 4, 5, 6 };
+    unsigned words = before[below(sizeof before)];
 
     if (chance(25))
         return inside[below(sizeof inside / sizeof inside[0])];
     if (chance(15))
         return chance(50) ? 16 : TABLES_END;
-    return (chance(50) ? TABLES : at(FIRST_PAGE, 0)) - before[below(sizeof before)];
+    return (chance(50) ? TABLES : at(FIRST_PAGE, 0)) - words;
 }
 
 /* LR at the first or last words of the protected areas. */
@@ -257,6 +221,7 @@ void scene_edges(void)
 {
     struct plan p;
     unsigned code = edge_code();
+    bool exi = chance(30);
 
     if (is_idle() || (!others_ready() && chance(75)))
         return;
@@ -265,7 +230,7 @@ void scene_edges(void)
     set_at(edge_lr());
     if (chance(20))
         step_on_nothing();
-    else if (build(&p, code, chance(30), code == 14 ? 2 : code == 15 ? 1 : chance(80) ? 0 : 12))
+    else if (build(&p, code, exi, code == 14 ? 2 : code == 15 ? 1 : chance(80) ? 0 : 12))
         issue(&p);
     if (!is_idle() && any_protected(get_lr(world, world[RUNNING_PAGE]), 5))
         set_at(from_to(TABLES_END, 7400));
@@ -319,78 +284,4 @@ void scene_revive(void)
     }
     for (unsigned i = 0; i < count && !is_idle(); i++)
         do_name(chance(40) ? 10 : 8, batch[i].g.field);
-}
-
-/* Delivers what could wake somebody; true if it did. */
-static bool wake_somebody(void)
-{
-    struct look l = look_at(world);
-
-    for (unsigned i = 0; i < l.count; i++) {
-        const struct one *one = &l.one[i];
-        unsigned number = one->interrupt > 50 ? world[LINE] : one->interrupt, times = one->reason;
-
-        if (one->stopped || one->wait != WAIT_INTERRUPT || number < 16)
-            continue;
-        if (one->interrupt > 50)
-            times *= world[DIVIDER] * (one->interrupt == 51 ? 1u : 10u);
-        if (times > 40 || one->interrupt > 52)
-            continue;
-        for (; times > 0 && is_idle() && !full(); times--) {
-            order_interrupt(number, number >= 48 ? below(32) : 0);
-            maybe_changes(40);
-        }
-        if (!is_idle())
-            return true;
-    }
-    return false;
-}
-
-void scene_idle(void)
-{
-    struct registers r = { 1, 2, 0, 1, 0, 3000, 5 };
-
-    for (unsigned left = may_break() ? from_to(0, 2) : 0; left > 0; left--)
-        scene_break();
-    if (chance(40))
-        order_step();
-    if (chance(20))
-        order_registers();
-    if (chance(35)) {
-        r.a = chance(60) ? 256 : 7;
-        order_set(&r);
-    }
-    if (chance(30))
-        bad_interrupt();
-    if (chance(25)) {
-        any_burst();
-        maybe_changes(80);
-    }
-    if (is_idle() && chance(35) && burst_for_waiters())
-        return;
-    if (is_idle() && !wake_somebody())
-        unstick();
-}
-
-/* Waiters for 51-54, and the clock line again and again. */
-void scene_clock(void)
-{
-    unsigned ticks = kind == KIND_CLOCK && chance(30) ? from_to(60, 700) : from_to(5, 40), bursts = 8;
-
-    for (unsigned left = from_to(1, 4); left > 0 && others_ready() && !is_idle(); left--)
-        do_wait(chance(80) ? from_to(51, 54) : world[LINE], from_to(1, 3));
-    if ((may_break() || kind == KIND_CLOCK) && chance(70)) {
-        uint8_t near[4] = { world[C0], (uint8_t)(chance(80) ? 9 : 8), (uint8_t)(chance(80) ? 59 : 58),
-                            (uint8_t)(chance(80) ? 59 : 58) };
-
-        order_break(C0, near, 4);
-        bursts = 50;
-    }
-    for (; ticks > 0 && !full(); ticks--, bursts = 8) {
-        if (chance(bursts))
-            burst_on(world[LINE]);
-        else
-            order_interrupt(world[LINE], 0);
-        maybe_changes(kind == KIND_CLOCK ? 15 : 40);
-    }
 }

@@ -114,9 +114,10 @@ static bool spoil_length(const struct look *l)
 static bool spoil_kind(const struct look *l)
 {
     unsigned code = chance(50) ? below(CODES) : from_to(2, 14);
+    unsigned code_is = chance(80) ? from_to(3, 7) : below(3);
 
     (void)l;
-    poke(CODE_TABLE + 2 * code, (chance(80) ? from_to(3, 7) : below(3)) * 32 + (chance(50) ? 0 : below(32)));
+    poke(CODE_TABLE + 2 * code, code_is * 32 + (chance(50) ? 0 : below(32)));
     return true;
 }
 
@@ -124,9 +125,10 @@ static bool spoil_kind(const struct look *l)
 static bool spoil_lasting_code(const struct look *l)
 {
     unsigned code = chance(33) ? 15 : below(2);
+    unsigned code_is = code == 15 ? 1 : chance(50) ? 0 : 2;
 
     (void)l;
-    poke(CODE_TABLE + 2 * code, (code == 15 ? 1u : chance(50) ? 0u : 2u) * 32 + (chance(50) ? 0 : below(32)));
+    poke(CODE_TABLE + 2 * code, code_is * 32 + (chance(50) ? 0 : below(32)));
     return true;
 }
 
@@ -161,12 +163,12 @@ static bool spoil_entry(const struct look *l)
 
 static bool spoil_unused_entry(const struct look *l)
 {
-    unsigned first = world[FAULT_TABLE];
+    unsigned first = world[FAULT_TABLE], word = chance(30) ? 31 : from_to(first > 0 ? first : 1, 31);
 
     (void)l;
     if (first >= FAULT_TABLE_FULL)
         return false;
-    poke(FAULT_TABLE + (chance(30) ? 31 : from_to(first > 0 ? first : 1, 31)), chance(50) ? 17 : from_to(1, 255));
+    poke(FAULT_TABLE + word, chance(50) ? 17 : from_to(1, 255));
     return true;
 }
 

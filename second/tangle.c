@@ -57,10 +57,12 @@ static bool tangle_false_header(const struct look *l)
 static bool tangle_false_link(const struct look *l)
 {
     struct queue q = some_queue(l);
+    unsigned page;
 
     if (q.count == 0)
         return false;
-    poke(at(q.page[below(q.count)], LINK), some_false_number());
+    page = q.page[below(q.count)];
+    poke(at(page, LINK), some_false_number());
     maybe_agree(q.header);
     return true;
 }
@@ -185,6 +187,14 @@ static bool tangle_reason_of_ready(const struct look *l)
     return true;
 }
 
+/* What a message wait may have for its reason: any sender or none, any flag or none. */
+static unsigned some_reason(void)
+{
+    unsigned sender = below(16);
+
+    return sender * 16 + below(8);
+}
+
 /* One that waits for a message; if there is none, one is put to wait by hand, which breaks nothing. */
 static const struct one *message_waiter(const struct look *l)
 {
@@ -197,7 +207,7 @@ static const struct one *message_waiter(const struct look *l)
         if (candidate->wait != WAIT_NONE || candidate->page == world[RUNNING_PAGE])
             continue;
         one = candidate;
-        words[0] = (uint8_t)(one->q1 > 0 ? 7 : below(16) * 16 + below(8));
+        words[0] = (uint8_t)(one->q1 > 0 ? 7 : some_reason());
         words[2] = (uint8_t)one->page;
         order_break(at(one->page, REASON), words, 3);
         poke(at(one->page, LINK), 0);
@@ -210,10 +220,11 @@ static const struct one *message_waiter(const struct look *l)
 static bool tangle_wait_flag(const struct look *l)
 {
     const struct one *one = message_waiter(l);
+    unsigned sender = below(16);
 
     if (one == NULL)
         return false;
-    poke(at(one->page, REASON), below(16) * 16 + (chance(20) ? 7 : chance(50) ? 8 : from_to(9, 15)));
+    poke(at(one->page, REASON), sender * 16 + (chance(20) ? 7 : chance(50) ? 8 : from_to(9, 15)));
     return true;
 }
 
@@ -305,21 +316,6 @@ static bool tangle_own_semaphore(const struct look *l)
 
     poke(address, some_value(world[address]));
     return true;
-}
-
-/* A first message taken out of its queue; 0 if nobody has one. */
-static unsigned take_message(const struct look *l)
-{
-    for (unsigned i = 0, from = below(l->count); i < l->count; i++) {
-        const struct one *one = &l->one[(from + i) % l->count];
-        unsigned header = at(one->page, is_control_page(world[at(one->page, Q1)]) ? Q1 : Q2), page = world[header];
-
-        if (!is_control_page(page))
-            continue;
-        poke(header, world[at(page, LINK)]);
-        return page;
-    }
-    return 0;
 }
 
 /* A page that was a message is free, or granted, beside page waiters. */

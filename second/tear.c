@@ -7,7 +7,7 @@ static struct queue some_list(const struct look *l, unsigned fewest)
     struct queue q = { 0 };
 
     for (unsigned tries = 0; tries < 12; tries++) {
-        unsigned choice = below(10), header = at(some_one(l)->page, chance(50) ? Q1 : Q2);
+        unsigned choice = below(10), page = some_one(l)->page, header = at(page, chance(50) ? Q1 : Q2);
 
         if (choice < 5)
             header = choice < 2 ? PROCESSOR_LIST : FREE_LIST;
@@ -37,7 +37,9 @@ bool cut(const struct queue *q)
 /* A false number in the header, in the middle or at the end. */
 bool end_falsely(const struct queue *q)
 {
-    poke(word_at(q, below(q->count + 1)), some_false_number());
+    unsigned word = word_at(q, below(q->count + 1));
+
+    poke(word, some_false_number());
     return true;
 }
 
@@ -106,10 +108,12 @@ static bool tear_false_header(const struct look *l)
 static bool tear_false_link(const struct look *l)
 {
     struct queue q = some_list(l, 1);
+    unsigned word;
 
     if (q.count == 0)
         return false;
-    poke(word_at(&q, from_to(1, q.count)), some_false_number());
+    word = word_at(&q, from_to(1, q.count));
+    poke(word, some_false_number());
     return true;
 }
 
@@ -221,7 +225,9 @@ static bool tear_granted_too(const struct look *l)
 
 static bool tear_false_grant(const struct look *l)
 {
-    poke(GRANTS + (chance(40) ? existing_name(l) : from_to(1, HIGHEST_NAME)), some_false_number());
+    unsigned name = chance(40) ? existing_name(l) : from_to(1, HIGHEST_NAME);
+
+    poke(GRANTS + name, some_false_number());
     return true;
 }
 
@@ -247,8 +253,11 @@ static bool tear_grant(const struct look *l)
 static bool tear_many_links(const struct look *l)
 {
     (void)l;
-    for (unsigned left = from_to(3, 8); left > 0; left--)
-        poke(at(some_page(), chance(70) ? LINK : below(Q2 + 1)), chance(25) ? 0 : some_page());
+    for (unsigned left = from_to(3, 8); left > 0; left--) {
+        unsigned page = some_page(), word = chance(70) ? LINK : below(Q2 + 1);
+
+        poke(at(page, word), chance(25) ? 0 : some_page());
+    }
     return true;
 }
 
