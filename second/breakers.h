@@ -14,8 +14,10 @@ struct way {
     unsigned number;   /* the refusal that it aims at */
     const char *name;
     breaker *go;
-    enum wait needs;   /* somebody that waits so, if it needs one */
+    unsigned needs;    /* somebody that waits so, if it needs one (an enum wait), or one of these */
 };
+enum { NEEDS_IDLE = WAIT_MESSAGE + 1, NEEDS_FREE };  /* that nobody runs; a long free list */
+enum { LONG_LIST = 11 };
 
 /* tear.c: the lists of uses; tangle.c: wait queues; spoil.c: records, tables, counters */
 extern const struct way tears[], tangles[], spoils[];
@@ -28,6 +30,7 @@ const struct one *some_one(const struct look *l);
 const struct one *some_waiter(const struct look *l, enum wait wait);  /* of any kind with WAIT_NONE; NULL if none */
 const struct one *some_granted(const struct look *l);  /* NULL if there is none, and none can be made */
 unsigned some_message(const struct look *l);
+unsigned make_message(unsigned header);
 unsigned take_message(const struct look *l);  /* out of its queue; 0 if nobody has one */
 unsigned some_value(unsigned old);
 unsigned some_false_number(void);

@@ -59,17 +59,33 @@ const struct one *some_granted(const struct look *l)
     return one;
 }
 
-/* Some page of a Q1 or Q2, or 0. */
+/* The first free page made a message in a Q2, which breaks nothing; 0 if no page is free. */
+unsigned make_message(unsigned header)
+{
+    unsigned page = world[FREE_LIST];
+    unsigned sender = from_to(1, HIGHEST_NAME), flag = from_to(1, 7), length = below(LONGEST_TEXT + 1);
+    uint8_t words[3] = { world[header], (uint8_t)(sender * 16 + flag), (uint8_t)length };
+
+    if (!is_control_page(page))
+        return 0;
+    poke(FREE_LIST, world[at(page, LINK)]);
+    poke(FREE_SEMAPHORE, world[FREE_SEMAPHORE] - 1u);
+    order_break(at(page, LINK), words, 3);
+    poke(header, page);
+    return page;
+}
+
+/* Some page of a Q1 or Q2; if none is found, one is made or not; 0 if there is none. */
 unsigned some_message(const struct look *l)
 {
-    for (unsigned tries = 0; tries < 12; tries++) {
+    for (unsigned tries = 0; tries < 20; tries++) {
         unsigned page = some_one(l)->page;
         struct queue q = queue_read(world, at(page, chance(50) ? Q1 : Q2), LINK);
 
         if (q.count > 0)
             return q.page[below(q.count)];
     }
-    return 0;
+    return chance(50) ? make_message(at(some_one(l)->page, Q2)) : 0;
 }
 
 /* A first message taken out of its queue; 0 if nobody has one. */
@@ -168,7 +184,7 @@ static const struct way *way_at(unsigned i)
     return i < spoil_count ? &spoils[i] : &others[i - spoil_count];
 }
 
-/* What seldom did its work comes more often, and so does what needs a waiter when there is one. */
+/* What seldom did its work comes more often, and so does what needs a waiter or the like when there is one. */
 static unsigned long weight_of(const struct look *l, unsigned i, unsigned number)
 {
     const struct way *way = way_at(i);
@@ -178,7 +194,11 @@ static unsigned long weight_of(const struct look *l, unsigned i, unsigned number
         return 0;
     if (way->needs == WAIT_NONE)
         return weight;
-    return some_waiter(l, way->needs) != NULL ? 4 * weight : 0;
+    if (way->needs == NEEDS_IDLE)
+        return l->running == l->count ? 8 * weight : 0;
+    if (way->needs == NEEDS_FREE)
+        return l->free >= LONG_LIST ? 4 * weight : 0;
+    return some_waiter(l, (enum wait)way->needs) != NULL ? 4 * weight : 0;
 }
 
 static unsigned pick_way(const struct look *l, unsigned number)
@@ -201,8 +221,8 @@ static unsigned pick_number(unsigned lowest)
 {
     for (;;) {
         unsigned choice = below(100);
-        unsigned number = choice < 25 ? REFUSE_USES : choice < 57 ? REFUSE_WAITS : choice < 75 ? REFUSE_RECORDS
-                        : choice < 86 ? REFUSE_TABLES : REFUSE_RUNNING;
+        unsigned number = choice < 24 ? REFUSE_USES : choice < 57 ? REFUSE_WAITS : choice < 75 ? REFUSE_RECORDS
+                        : choice < 85 ? REFUSE_TABLES : REFUSE_RUNNING;
 
         if (number >= lowest)
             return number;
@@ -221,6 +241,8 @@ static unsigned pick_first(const struct look *l, unsigned lowest)
         return first_other + ANYTHING;
     if (l->page_waiters > 0 && chance(25))
         return pick_way(l, REFUSE_WAITS);  /* what only a hungry machine can break */
+    if (l->running == l->count && chance(12))
+        return pick_way(l, REFUSE_RUNNING);  /* and an idle one */
     return pick_way(l, pick_number(lowest));
 }
 

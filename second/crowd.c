@@ -48,7 +48,7 @@ static void flood(void)
 static void fault_before_wait(void)
 {
     if (chance(50))
-        try_to(4, chance(50) ? 12 : 11);
+        try_to(4, chance(35) ? 12 : 11);
     else
         try_to(11, chance(50) ? 9 : chance(50) ? 12 : 11);
 }
@@ -62,7 +62,7 @@ static void starve(void)
 
         if (runner_of(&l)->grant != 0 && chance(50))
             do_name(9, runner_of(&l)->name);
-        else if (chance(25))
+        else if (chance(30))
             fault_before_wait();
         else if (name != 0 && chance(40))
             do_create(name, from_to(1, 15));
@@ -94,7 +94,9 @@ static void give_something_back(void)
     const struct one *me = runner_of(&l);
 
     if (me->grant != 0 && chance(50)) {
-        if (chance(60))
+        if (others_ready() && chance(20))
+            try_to(4, chance(50) ? 12 : 11);
+        else if (chance(60))
             try_to(chance(50) ? 4 : 11, 0);
         else
             scene_single();

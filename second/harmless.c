@@ -197,7 +197,7 @@ void scene_length(void)
 
     order_length(lengths[below(5)]);
     for (unsigned left = from_to(1, 4); left > 0; left--) {
-        unsigned choice = below(8), low = below(3);
+        unsigned choice = below(9), low = chance(50) ? 0 : below(3);
 
         switch (choice) {
         case 0: order_step(); break;
@@ -205,7 +205,8 @@ void scene_length(void)
         case 2: order_registers(); break;
         case 3: order_set(&r); break;
         case 4: order_fresh(from_to(15, 47), low); break;
-        case 5: case 6: any_burst(); break;
+        case 5: order_fresh(chance(50) ? 15 : 48, low); break;
+        case 6: case 7: any_burst(); break;
         default: order_judge(); break;
         }
     }
@@ -222,7 +223,7 @@ void opening(void)
         scene_calls();
     if (chance(15))
         any_burst();
-    if (chance(15))
+    if (chance(25))
         scene_length();
     start_afresh(kind == KIND_CLOCK ? from_to(1, 2) : some_divider());
     maybe_changes(70);

@@ -82,7 +82,7 @@ void scene_idle(void)
 {
     struct registers r = { 1, 2, 0, 1, 0, 3000, 5 };
 
-    for (unsigned left = may_break() ? from_to(0, 2) : 0; left > 0; left--)
+    for (unsigned left = may_break() ? from_to(0, 4) : 0; left > 0; left--)
         scene_break();
     if (chance(40))
         order_step();

@@ -38,7 +38,7 @@ static bool spoil_zeros(const struct look *l)
 {
     unsigned page = some_one(l)->page;
 
-    poke(at(page, STATE), world[at(page, STATE)] | (16u * from_to(1, 3)));
+    poke(at(page, STATE), world[at(page, STATE)] | (chance(80) ? 16u << below(2) : 48u));
     return true;
 }
 
@@ -92,7 +92,7 @@ static bool spoil_sender(const struct look *l)
 
 static bool spoil_flag(const struct look *l)
 {
-    unsigned page = some_message(l), flag = chance(35) ? 0 : chance(50) ? 8 : from_to(7, 15);
+    unsigned page = some_message(l), flag = chance(30) ? 0 : chance(65) ? 8 : from_to(7, 15);
 
     if (page == 0)
         return false;
@@ -102,7 +102,7 @@ static bool spoil_flag(const struct look *l)
 
 static bool spoil_length(const struct look *l)
 {
-    static const uint8_t lengths[] = { 29, 30, 31, 64, 127, 128, 129, 255 };
+    static const uint8_t lengths[] = { 29, 30, 64, 127, 128, 129, 200, 255 };
     unsigned page = some_message(l);
 
     if (page == 0)
@@ -114,7 +114,7 @@ static bool spoil_length(const struct look *l)
 static bool spoil_kind(const struct look *l)
 {
     unsigned code = chance(50) ? below(CODES) : from_to(2, 14);
-    unsigned code_is = chance(80) ? from_to(3, 7) : below(3);
+    unsigned code_is = chance(40) ? 3 : chance(70) ? from_to(4, 7) : below(3);
 
     (void)l;
     poke(CODE_TABLE + 2 * code, code_is * 32 + (chance(50) ? 0 : below(32)));
@@ -135,7 +135,7 @@ static bool spoil_lasting_code(const struct look *l)
 static bool spoil_page_9_range(const struct look *l)
 {
     (void)l;
-    poke(FAULT_TABLE, chance(40) ? 0 : chance(50) ? 33 : from_to(33, 255));
+    poke(FAULT_TABLE, chance(35) ? 0 : chance(65) ? 33 : from_to(33, 255));
     return true;
 }
 
@@ -179,15 +179,21 @@ static bool spoil_line(const struct look *l)
     return true;
 }
 
-static bool spoil_counter(const struct look *l)
+static bool spoil_c0(const struct look *l)
 {
     (void)l;
-    switch (below(4)) {
-    case 0: poke(C0, chance(70) ? world[DIVIDER] - (chance(25) ? 1u : 0u) : below(256)); break;
-    case 1: poke(C1, chance(70) ? (chance(25) ? 9 : 10) : below(256)); break;
-    case 2: poke(C2, chance(70) ? (chance(25) ? 59 : 60) : below(256)); break;
-    default: poke(C3, chance(70) ? (chance(25) ? 59 : 60) : below(256)); break;
-    }
+    poke(C0, chance(70) ? world[DIVIDER] - (chance(25) ? 1u : 0u) : below(256));
+    return true;
+}
+
+/* C1, C2 or C3 at its end, at times just before it. */
+static bool spoil_counter(const struct look *l)
+{
+    static const uint8_t ends[3] = { 10, 60, 60 };
+    unsigned i = below(3);
+
+    (void)l;
+    poke(C1 + i, chance(80) ? ends[i] - (chance(20) ? 1u : 0u) : below(256));
     return true;
 }
 
@@ -204,13 +210,13 @@ static bool spoil_running(const struct look *l)
     const struct one *other = some_one(l);
     uint8_t both[2] = { 0, 0 };
 
-    switch (below(4)) {
-    case 0: break;
-    case 1:
+    switch (below(5)) {
+    case 0: case 1: break;
+    case 2:
         both[0] = (uint8_t)other->page;
         both[1] = world[at(other->page, WHO)];
         break;
-    case 2:
+    case 3:
         both[0] = (uint8_t)some_page();
         both[1] = world[RUNNING_WHO];
         break;
@@ -290,12 +296,14 @@ const struct way spoils[] = {
     { REFUSE_TABLES, "an entry of page 9", spoil_entry, WAIT_NONE },
     { REFUSE_TABLES, "an unused entry of page 9", spoil_unused_entry, WAIT_NONE },
     { REFUSE_RUNNING, "the clock line", spoil_line, WAIT_NONE },
-    { REFUSE_RUNNING, "a counter", spoil_counter, WAIT_NONE },
+    { REFUSE_RUNNING, "C0", spoil_c0, WAIT_NONE },
+    { REFUSE_RUNNING, "C1, C2 or C3", spoil_counter, WAIT_NONE },
     { REFUSE_RUNNING, "the divider", spoil_divider, WAIT_NONE },
     { REFUSE_RUNNING, "another runs, or nobody", spoil_running, WAIT_NONE },
     { REFUSE_RUNNING, "the runner is not the highest", spoil_highest, WAIT_NONE },
     { REFUSE_RUNNING, "a stopped one made ready", spoil_stopped, WAIT_NONE },
     { REFUSE_RUNNING, "word 25 of page 7", spoil_word_25, WAIT_NONE },
+    { REFUSE_RUNNING, "word 25 of page 7 while nobody runs", spoil_word_25, NEEDS_IDLE },
     { REFUSE_RUNNING, "word 26 of page 7", spoil_word_26, WAIT_NONE },
     { REFUSE_RUNNING, "a double of the runner", spoil_double, WAIT_NONE }
 };

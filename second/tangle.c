@@ -46,6 +46,8 @@ static bool tangle_false_header(const struct look *l)
 {
     struct queue q = { .header = some_wait_header(l), .link = LINK };
 
+    if (chance(50))
+        q.header = chance(50) ? PAGE_QUEUE : at(some_one(l)->page, OWN_WAIT);
     if (chance(30))
         lead_on(&q);
     else
@@ -130,9 +132,13 @@ static bool tangle_put_to_wait(const struct look *l)
 /* A page that is no processor's waits: alone, or behind one that does. */
 static bool tangle_no_processor(const struct look *l)
 {
-    struct queue q = some_queue(l);
-    unsigned header = some_wait_header(l), page = chance(50) ? some_message(l) : world[FREE_LIST];
+    struct queue q = some_queue(l), free_list = queue_read(world, FREE_LIST, LINK);
+    unsigned header = some_wait_header(l), page = 0;
 
+    if (free_list.count > 0 && chance(60))
+        page = free_list.page[chance(30) ? 0 : free_list.count - 1];  /* the last has nobody behind it */
+    else
+        page = some_message(l);
     if (page == 0)
         return false;
     if (q.count > 0 && chance(50)) {
@@ -224,7 +230,7 @@ static bool tangle_wait_flag(const struct look *l)
 
     if (one == NULL)
         return false;
-    poke(at(one->page, REASON), sender * 16 + (chance(20) ? 7 : chance(50) ? 8 : from_to(9, 15)));
+    poke(at(one->page, REASON), sender * 16 + (chance(20) ? 7 : chance(65) ? 8 : from_to(9, 15)));
     return true;
 }
 

@@ -131,13 +131,16 @@ static bool tear_loop(const struct look *l)
     return come_back(&q);
 }
 
-/* A long free list in another order, which then comes back on itself or ends as it should. */
+/*
+ * A long free list in another order, which then ends as it should or comes back on itself so
+ * that the last page of a walk of 21 is met for the second time.
+ */
 static bool tear_long_loop(const struct look *l)
 {
     struct queue q = queue_read(world, FREE_LIST, LINK);
 
     (void)l;
-    if (q.count < 11)
+    if (q.count < LONG_LIST)
         return false;
     for (unsigned i = q.count - 1; i > 0; i--) {
         unsigned other = below(i + 1);
@@ -149,7 +152,7 @@ static bool tear_long_loop(const struct look *l)
     poke(FREE_LIST, q.page[0]);
     for (unsigned i = 0; i + 1 < q.count; i++)
         poke(at(q.page[i], LINK), q.page[i + 1]);
-    poke(at(q.page[q.count - 1], LINK), chance(20) ? 0u : q.page[below(q.count / 2)]);
+    poke(at(q.page[q.count - 1], LINK), chance(20) ? 0u : q.page[below(2 * q.count - 20)]);
     return true;
 }
 
@@ -165,24 +168,39 @@ static unsigned lowest_mail(const struct one *one)
     return lowest;
 }
 
+/* If this one comes back to itself, the lowest page of its mail is lower than all that is met again or lost. */
+static bool mail_is_lowest(const struct look *l, unsigned place)
+{
+    unsigned lowest = lowest_mail(&l->one[place]);
+
+    for (unsigned i = place; i < l->count; i++)
+        if (l->one[i].page < lowest || (i > place && lowest_mail(&l->one[i]) < lowest))
+            return false;
+    return true;
+}
+
 /*
  * One with mail comes back to itself on the processor list, so its mail is met again and again.
- * Often it is the one with the lowest page of mail, which may then be what is told.
+ * Often it is one whose mail is then what is told.
  */
 static bool tear_mail_loop(const struct look *l)
 {
-    const struct one *found = NULL;
-    bool lowest = chance(70);
+    unsigned found = l->count, page = l->one[l->count - 1].page;
+    bool lowest = chance(80);
 
     for (unsigned i = 0, from = below(l->count); i < l->count; i++) {
-        const struct one *one = &l->one[(from + i) % l->count];
+        unsigned place = (from + i) % l->count;
 
-        if (one->q1 + one->q2 > 0 && (found == NULL || (lowest && lowest_mail(one) < lowest_mail(found))))
-            found = one;
+        if (l->one[place].q1 + l->one[place].q2 > 0 && (found == l->count || (lowest && mail_is_lowest(l, place))))
+            found = place;
     }
-    if (found != NULL)
-        poke(at(found->page, LIST_LINK), found->page);
-    return found != NULL;
+    if (lowest && (found == l->count || !mail_is_lowest(l, found)) && world[FREE_LIST] < page)
+        found = make_message(at(page, Q2)) != 0 ? l->count - 1 : found;  /* the last one gets some */
+    if (found == l->count)
+        return false;
+    page = l->one[found].page;
+    poke(at(page, LIST_LINK), page);
+    return true;
 }
 
 static bool tear_run_into(const struct look *l)
@@ -268,7 +286,7 @@ const struct way tears[] = {
     { REFUSE_USES, "a link with a false number", tear_false_link, WAIT_NONE },
     { REFUSE_USES, "a false number that leads on", tear_lead_on, WAIT_NONE },
     { REFUSE_USES, "a list that comes back on itself", tear_loop, WAIT_NONE },
-    { REFUSE_USES, "a long list in any order that comes back on itself", tear_long_loop, WAIT_NONE },
+    { REFUSE_USES, "a long list in any order that comes back on itself", tear_long_loop, NEEDS_FREE },
     { REFUSE_USES, "a processor with mail that comes back to itself", tear_mail_loop, WAIT_NONE },
     { REFUSE_USES, "a list that runs into another", tear_run_into, WAIT_NONE },
     { REFUSE_USES, "a processor's page in another list", tear_processor_used, WAIT_NONE },
