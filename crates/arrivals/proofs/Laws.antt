@@ -1,6 +1,6 @@
 -- A law for each way through an arrival and a burst.
 use Prim.Native.Nat.{ℕ, _≤_, _<_, _+_, _-_, _%_}
-use mathlib.Core.Path.{_≡_, refl}
+use mathlib.Core.Path.{_≡_, refl, sym, _∙_}
 use mathlib.Core.List.{List, [], _∷_}
 use mathlib.Core.Bool.{Bool, true, false}
 use lib.Dec.{eqb}
@@ -8,6 +8,7 @@ use lib.ListN.{length, getD, take, drop}
 use lib.Seq.{take-all}
 use borrow.Author.Tests.{lt-ltb, le-ltb}
 use native.Mathlib.Omega.{arith}
+use Rattle.model.specs.declared.Answer.the-variants.{Done, RefusedAt}
 use Rattle.model.specs.declared.Checked.{Checked}
 use Rattle.model.specs.declared.Checked.the-variants.{Good, Bad}
 use Rattle.model.specs.Map.{low, pairBytes, longestList}
@@ -16,8 +17,9 @@ use Rattle.model.specs.Answer.{noInterrupt, wrongClass}
 use Rattle.model.specs.Call.{isOuter, isClass}
 use Rattle.model.specs.Burst as Burst
 use Rattle.model.specs.Burst.{isList, tested}
-use Rattle.model.specs.Bytes.{Memory, whoRuns, delivered, arrived}
-use Rattle.laws.specs.Pairs.{outer-of, class-of, good-first}
+use Rattle.model.specs.Answer.Outcome.{gives}
+use Rattle.model.specs.Bytes.{Memory, whoRuns, delivered, arrived, heedsPairs}
+use Rattle.laws.specs.Pairs.{outer-of, class-of, list-of, good-first}
 use Rattle.arrivals.specs.Good.{AllGood}
 
 -- ---- an arrival: v and w are number and class as bytes
@@ -88,7 +90,7 @@ tested-on i (x ∷ y ∷ l) k c a b o h ek ea za ec eb zb e = rw (tested-pair, �
 
 -- ---- a list of good pairs: the first is good, and so are the rest
 -- whatever place the first has
-pub good-from : (i j : ℕ) (l : List ℕ) → tested i l ≡ Good → tested j l ≡ Good
+good-from : (i j : ℕ) (l : List ℕ) → tested i l ≡ Good → tested j l ≡ Good
 unfolding Burst.tested
 good-from i j [] h = refl
 good-from i j (k ∷ []) h = refl
@@ -136,3 +138,25 @@ pub ruleset bursts = (
   arrived-end,
   arrived-on,
 )
+
+-- ---- a test t was found to be a, and passed
+pub passed : (a t : Bool) → a ≡ t → a ≡ true → t ≡ true
+passed a t e h = sym e ∙ h
+
+-- ---- a burst: a list that may be one is short, so that the places of its pairs, from i on, are numbers of 16 bits; t is what came of its tests
+pub places-fit : (l : List ℕ) (i : ℕ) (a : Bool) → a ≡ isList l → a ≡ true → i ≤ 1 → i + length l < 65536
+places-fit l i a ea h f = let p = list-of l (sym ea ∙ h) in omega (arith, p .short)
+
+-- all are good, whatever place the first had
+module _ (l : List ℕ) (t : Checked) (i : ℕ) (et : t ≡ tested i l) (z : t ≡ Good) where
+  pub all-good : AllGood l
+  all-good = record { place = i; good = sym et ∙ z }
+
+  pub pairs-arrive : (m m₁ : Memory) → m₁ ≡ arrived m l → gives Done m₁ ≡ heedsPairs (tested 1 l) m l
+  pairs-arrive m m₁ e₁ = rw (good-from i 1 l (sym et ∙ z), ← e₁)
+
+-- the first bad one has place i
+pub pairs-bad : (m : Memory) (l : List ℕ) (t : Checked) (n i : ℕ) → t ≡ tested 1 l → t ≡ Bad n i → gives (RefusedAt n i) m ≡ heedsPairs (tested 1 l) m l
+pairs-bad m l t n i et z = rw (← et, z)
+
+pub ruleset lists = (places-fit, all-good, pairs-arrive, pairs-bad)

@@ -1,5 +1,6 @@
 // What comes from outside: whether an interrupt is one, its arrival, and a burst of them from the line card.
 use interrupts::deliver;
+use model::Answer;
 use model::Checked;
 use model::map;
 use model::refusals;
@@ -13,11 +14,12 @@ ghost use lib.ListN.{length};
 ghost use Rattle.model.specs.Map as Map;
 ghost use Rattle.model.specs.Call as Call;
 ghost use Rattle.model.specs.Burst as Burst;
+ghost use Rattle.model.specs.Answer.Outcome.{gives};
 ghost use Rattle.model.specs.Bytes as Model;
 ghost use Rattle.arrivals.specs.Good.{AllGood};
 
 // Whether the number is that of an interrupt from outside, and the class one that it may have.
-pub fn is_outer(number: u16) -> bool
+fn is_outer(number: u16) -> bool
     ensures { λ r. ⌜ r ≡ Call.isOuter number ⌝ }
 {
     if number < map::FIRST_OUTER_WIDE {
@@ -29,7 +31,7 @@ pub fn is_outer(number: u16) -> bool
     true
 }
 
-pub fn is_class(number: u16, class: u16) -> bool
+fn is_class(number: u16, class: u16) -> bool
     ensures { λ r. ⌜ r ≡ Call.isClass number class ⌝ }
 {
     if map::LAST_CLASS < class {
@@ -49,7 +51,7 @@ fn in_byte(number: u16) -> u8
 }
 
 // An interrupt that passed both tests is delivered; then who runs.
-pub fn arrive(m: &mut [u8], number: u16, class: u16)
+fn arrive(m: &mut [u8], number: u16, class: u16)
     requires { ⌜ (length (now m) ≡ 8192) × (Call.isOuter number ≡ true) × (Call.isClass number class ≡ true) ⌝ }
     ensures { λ _. ⌜ now (m .exit) ≡ Model.whoRuns (Model.delivered (now (m .entry)) number class) ⌝ }
 {
@@ -68,7 +70,7 @@ pub fn is_list(list: &[u8]) -> bool
 }
 
 // The pairs in order, the first of which has that place, each for 24 and then for 25.
-pub fn test(list: &[u8], place: u16) -> Checked
+fn test(list: &[u8], place: u16) -> Checked
     requires { ⌜ place + length (now list) < 65536 ⌝ }
     ensures { λ r. ⌜ r ≡ Burst.tested place (now (list .entry)) ⌝ }
 {
@@ -88,7 +90,7 @@ pub fn test(list: &[u8], place: u16) -> Checked
 }
 
 // The pairs, which passed the tests, arrive in order.
-pub fn arrive_all(m: &mut [u8], list: &[u8])
+fn arrive_all(m: &mut [u8], list: &[u8])
     requires { ⌜ (length (now m) ≡ 8192) × AllGood (now list) ⌝ }
     ensures { λ _. ⌜ now (m .exit) ≡ Model.arrived (now (m .entry)) (now (list .entry)) ⌝ }
 {
@@ -97,4 +99,36 @@ pub fn arrive_all(m: &mut [u8], list: &[u8])
     }
     arrive(m, wide(list[0]), wide(list[1]));
     arrive_all(m, &list[2..]);
+}
+
+// One interrupt, on a memory that nothing refuses: 24, 25, or it arrives.
+pub fn interrupt_judged(m: &mut [u8], number: u16, class: u16) -> Answer
+    requires { ⌜ length (now m) ≡ 8192 ⌝ }
+    ensures { λ r. ⌜ gives r (now (m .exit)) ≡ Model.interruptJudged (now (m .entry)) number class ⌝ }
+{
+    if is_outer(number) {
+        if is_class(number, class) {
+            arrive(m, number, class);
+            return Answer::Done;
+        }
+        return Answer::Refused(refusals::WRONG_CLASS);
+    }
+    Answer::Refused(refusals::NO_INTERRUPT)
+}
+
+// A burst, on such a memory: 27, the first bad pair with its place, or all arrive.
+pub fn burst_judged(m: &mut [u8], list: &[u8]) -> Answer
+    requires { ⌜ length (now m) ≡ 8192 ⌝ }
+    ensures { λ r. ⌜ gives r (now (m .exit)) ≡ Model.burstJudged (now (m .entry)) (now (list .entry)) ⌝ }
+{
+    if is_list(list) {
+        return match test(list, 1) {
+            Checked::Good => {
+                arrive_all(m, list);
+                Answer::Done
+            }
+            Checked::Bad(refusal, place) => Answer::RefusedAt(refusal, place),
+        };
+    }
+    Answer::Refused(refusals::WRONG_LIST)
 }

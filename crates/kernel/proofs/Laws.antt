@@ -1,5 +1,5 @@
 -- What is found of a memory, the head of a call, what a call comes to behind its refusals, and that a call allows one outcome only.
-use Prim.Native.Nat.{ℕ, _≤_, _<_, _+_}
+use Prim.Native.Nat.{ℕ}
 use mathlib.Core.Path.{_≡_, refl, sym, ap, _∙_}
 use mathlib.Core.List.{List}
 use mathlib.Core.Bool.{Bool, true, false, cond}
@@ -8,9 +8,7 @@ use lib.ListN.{length}
 use borrow.Author.Tests.{eqb-true, eq-eqb, ne-eqb}
 use native.Mathlib.Omega.{arith}
 use Rattle.model.specs.declared.Answer.{Answer}
-use Rattle.model.specs.declared.Answer.the-variants.{Done, RefusedAt}
-use Rattle.model.specs.declared.Checked.{Checked}
-use Rattle.model.specs.declared.Checked.the-variants.{Good, Bad}
+use Rattle.model.specs.declared.Answer.the-variants.{Done}
 use Rattle.model.specs.declared.Held.{Held}
 use Rattle.model.specs.declared.Verdict.{Verdict}
 use Rattle.model.specs.declared.Registers.{Registers}
@@ -22,14 +20,10 @@ use Rattle.model.specs.Answer.{Outcome, wrongLength, numbers, heldNumbers, verd
 use Rattle.model.specs.Answer.Outcome.{gives}
 use Rattle.model.specs.Fresh.{startable}
 use Rattle.model.specs.Call as Call
-use Rattle.model.specs.Burst.{isList, tested}
 use Rattle.laws.specs.Calls.{args-of}
-use Rattle.laws.specs.Pairs.{list-of}
-use Rattle.arrivals.specs.Good.{AllGood}
-use Rattle.arrivals.proofs.Laws.{good-from}
 use Rattle.kernel.specs.Spoken as Spoken
 use Rattle.kernel.specs.Spoken.{spoken}
-use Rattle.model.specs.Bytes.{Memory, Step, finding, toldOf, head, running, lr, registersOf, setRegistersOf, arrived, heedsPairs, fetched, started}
+use Rattle.model.specs.Bytes.{Memory, Step, finding, toldOf, head, running, lr, registersOf, setRegistersOf, fetched, started}
 
 -- ---- what is found: of the length, then what is told
 pub found-short : (m : Memory) → (length m ≡ memorySize → ⊥) → WrongLength ≡ finding m
@@ -87,28 +81,6 @@ module _ (m : Memory) where
 
     pub registers-set : (m₁ : Memory) → m₁ ≡ setRegistersOf m p r → gives Done m₁ ≡ gives Done (setRegistersOf m (running m) r)
     registers-set m₁ e₁ = rw (← ep, ← e₁)
-
--- ---- a test t was found to be a, and passed
-pub passed : (a t : Bool) → a ≡ t → a ≡ true → t ≡ true
-passed a t e h = sym e ∙ h
-
--- ---- a burst: a list that may be one is short, so that the places of its pairs, from i on, are numbers of 16 bits; t is what came of its tests
-pub places-fit : (l : List ℕ) (i : ℕ) (a : Bool) → a ≡ isList l → a ≡ true → i ≤ 1 → i + length l < 65536
-places-fit l i a ea h f = let p = list-of l (sym ea ∙ h) in omega (arith, p .short)
-
--- all are good, whatever place the first had
-module _ (l : List ℕ) (t : Checked) (i : ℕ) (et : t ≡ tested i l) (z : t ≡ Good) where
-  pub all-good : AllGood l
-  all-good = record { place = i; good = sym et ∙ z }
-
-  pub pairs-arrive : (m m₁ : Memory) → m₁ ≡ arrived m l → gives Done m₁ ≡ heedsPairs (tested 1 l) m l
-  pairs-arrive m m₁ e₁ = rw (good-from i 1 l (sym et ∙ z), ← e₁)
-
--- the first bad one has place i
-pub pairs-bad : (m : Memory) (l : List ℕ) (t : Checked) (n i : ℕ) → t ≡ tested 1 l → t ≡ Bad n i → gives (RefusedAt n i) m ≡ heedsPairs (tested 1 l) m l
-pairs-bad m l t n i et z = rw (← et, z)
-
-pub ruleset bursts = (places-fit, all-good, pairs-arrive, pairs-bad)
 
 -- ---- two outcomes that one statement allows are equal, in answer and in memory: of each call, f being its outcome
 pub one-outcome : {A : Type 0} (a b : A) (m n : Memory) (f : Outcome A Memory) → gives a m ≡ f → gives b n ≡ f → (a ≡ b) × (m ≡ n)

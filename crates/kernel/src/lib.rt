@@ -1,16 +1,11 @@
 // The public calls. Any memory, of any length, and any numbers get an answer; each contract gives answer and whole memory for every input, and says the same
 // by the paper's numbers of the answer.
-use arrivals::arrive;
-use arrivals::arrive_all;
-use arrivals::is_class;
-use arrivals::is_list;
-use arrivals::is_outer;
-use arrivals::test;
+use arrivals::burst_judged;
+use arrivals::interrupt_judged;
 use execute::fetched;
 use fresh::start;
 use fresh::startable;
 use model::Answer;
-use model::Checked;
 use model::Finding;
 use model::Held;
 use model::Registers;
@@ -76,20 +71,6 @@ pub fn instruction(m: &mut [u8]) -> Answer
     }
 }
 
-fn interrupt_judged(m: &mut [u8], number: u16, class: u16) -> Answer
-    requires { ⌜ length (now m) ≡ 8192 ⌝ }
-    ensures { λ r. ⌜ gives r (now (m .exit)) ≡ Model.interruptJudged (now (m .entry)) number class ⌝ }
-{
-    if is_outer(number) {
-        if is_class(number, class) {
-            arrive(m, number, class);
-            return Answer::Done;
-        }
-        return Answer::Refused(refusals::WRONG_CLASS);
-    }
-    Answer::Refused(refusals::NO_INTERRUPT)
-}
-
 // Delivery of an interrupt with its class number.
 pub fn interrupt(m: &mut [u8], number: u16, class: u16) -> Answer
     ensures { λ r. ⌜ gives r (now (m .exit)) ≡ Model.interrupt (now (m .entry)) number class ⌝ }
@@ -100,22 +81,6 @@ pub fn interrupt(m: &mut [u8], number: u16, class: u16) -> Answer
         Finding::WrongLength => Answer::Refused(refusals::WRONG_LENGTH),
         Finding::Broken(broken, address) => Answer::RefusedAt(broken, address),
     }
-}
-
-fn burst_judged(m: &mut [u8], list: &[u8]) -> Answer
-    requires { ⌜ length (now m) ≡ 8192 ⌝ }
-    ensures { λ r. ⌜ gives r (now (m .exit)) ≡ Model.burstJudged (now (m .entry)) (now (list .entry)) ⌝ }
-{
-    if is_list(list) {
-        return match test(list, 1) {
-            Checked::Good => {
-                arrive_all(m, list);
-                Answer::Done
-            }
-            Checked::Bad(refusal, place) => Answer::RefusedAt(refusal, place),
-        };
-    }
-    Answer::Refused(refusals::WRONG_LIST)
 }
 
 // Delivery of a burst from the line card: a list of bytes, number and class number in turn, at most 32 pairs.

@@ -1,9 +1,9 @@
 use borrow.Author.Needs.{needs}
 use Rattle.model.specs.Call as Call
 use Rattle.processors.proofs.Ways.{found-true, found-false}
-use Rattle.kernel.proofs.Laws.{passed}
-use Rattle.kernel.proofs.interrupt_judged.Statement.{statement}
-use Rattle.kernel.proofs.interrupt_judged.Tie as tie
+use Rattle.arrivals.proofs.Laws.{passed}
+use Rattle.arrivals.proofs.interrupt_judged.Statement.{statement}
+use Rattle.arrivals.proofs.interrupt_judged.Tie as tie
 
 pub interrupt-judged-spec : {M : Type 1} → statement M
 unfolding Call.interruptJudged
