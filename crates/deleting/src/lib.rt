@@ -1,4 +1,5 @@
-// Deleting: "In order: leave any wait queue (not woken); leave the processor list; Q2 then Q1 from the front: .."
+// Deleting: "In order: leave any wait queue (not woken); leave the processor list; Q2 then Q1 from the front: .."; between the two, document 02's
+// 3/13: what it sent and nobody has read is marked.
 use mail::deliver;
 use mail::make_notice;
 use model::ControlPage;
@@ -26,6 +27,70 @@ fn unlist(m: &mut [u8], page: ControlPage)
     leave(m, map::PROCESSOR_LIST, map::LIST_LINK, page);
 }
 
+// The message is marked, if it is unmarked mail with that name as its sender.
+fn mark(m: &mut [u8], name: Name, message: ControlPage)
+    requires { ⌜ length (now m) ≡ 8192 ⌝ }
+    ensures { λ _. ⌜ now (m .exit) ≡ Model.marked (now (m .entry)) (name .0) (message .0) ⌝ }
+{
+    let size = message.word(m, map::SIZE);
+    if size < map::MARK {
+        let note = message.word(m, map::NOTE);
+        if note / map::FIELD == name.0 {
+            message.store(m, map::SIZE, size + map::MARK);
+        }
+    }
+}
+
+// Every message that hangs from the cell.
+fn mark_from(m: &mut [u8], name: Name, cell: u16, left: u8)
+    requires { ⌜ (length (now m) ≡ 8192) × (cell < 8192) ⌝ }
+    ensures { λ _. ⌜ now (m .exit) ≡ Model.markedFrom left (now (m .entry)) (name .0) cell ⌝ }
+{
+    if left == 0 {
+        return;
+    }
+    let message = at(m, cell);
+    if message == 0 {
+        return;
+    }
+    mark(m, name, ControlPage(message));
+    mark_from(m, name, ControlPage(message).place(map::LINK), left - 1);
+}
+
+// Every message of Q1 and Q2 of the processor of the page.
+fn mark_mail(m: &mut [u8], name: Name, page: ControlPage)
+    requires { ⌜ length (now m) ≡ 8192 ⌝ }
+    ensures { λ _. ⌜ now (m .exit) ≡ Model.mailMarked (now (m .entry)) (name .0) (page .0) ⌝ }
+{
+    mark_from(m, name, page.place(map::Q1), map::CONTROL_PAGES);
+    mark_from(m, name, page.place(map::Q2), map::CONTROL_PAGES);
+}
+
+// Of every processor that hangs from the cell.
+fn mark_all(m: &mut [u8], name: Name, cell: u16, left: u8)
+    requires { ⌜ (length (now m) ≡ 8192) × (cell < 8192) ⌝ }
+    ensures { λ _. ⌜ now (m .exit) ≡ Model.allMarked left (now (m .entry)) (name .0) cell ⌝ }
+{
+    if left == 0 {
+        return;
+    }
+    let page = at(m, cell);
+    if page == 0 {
+        return;
+    }
+    mark_mail(m, name, ControlPage(page));
+    mark_all(m, name, ControlPage(page).place(map::LIST_LINK), left - 1);
+}
+
+// Every message that the name sent: of all processors on the list, and of the one of the page, which has left it.
+fn mark_sent(m: &mut [u8], name: Name, page: ControlPage)
+    requires { ⌜ length (now m) ≡ 8192 ⌝ }
+    ensures { λ _. ⌜ now (m .exit) ≡ Model.sentMarked (now (m .entry)) (name .0) (page .0) ⌝ }
+{
+    mark_all(m, name, map::PROCESSOR_LIST, map::CONTROL_PAGES);
+    mark_mail(m, name, page);
+}
+
 // The message becomes a notice from that name to its sender.
 fn notify(m: &mut [u8], name: Name, message: ControlPage, sender: ControlPage)
     requires { ⌜ (length (now m) ≡ 8192) × (name .0 < 16) ⌝ }
@@ -36,13 +101,13 @@ fn notify(m: &mut [u8], name: Name, message: ControlPage, sender: ControlPage)
     deliver(m, sender, message);
 }
 
-// A message of the deleted processor of that name: a notice to its sender if there is one, else given back.
+// A message of the deleted processor of that name: unmarked, it is a notice to its sender if there is one; else given back.
 fn return_message(m: &mut [u8], name: Name, message: ControlPage)
     requires { ⌜ (length (now m) ≡ 8192) × (name .0 < 16) ⌝ }
     ensures { λ _. ⌜ now (m .exit) ≡ Model.returned (now (m .entry)) (name .0) (message .0) ⌝ }
 {
     let size = message.word(m, map::SIZE);
-    if size == map::NOTICE {
+    if map::MARK <= size {
         give_back(m, message);
         return;
     }
@@ -81,6 +146,15 @@ fn return_mail(m: &mut [u8], name: Name, page: ControlPage)
     empty(m, name, page.place(map::Q1), map::CONTROL_PAGES);
 }
 
+// What that name sent is marked, then the mail of the processor of the page is returned.
+fn settle_mail(m: &mut [u8], name: Name, page: ControlPage)
+    requires { ⌜ (length (now m) ≡ 8192) × (name .0 < 16) ⌝ }
+    ensures { λ _. ⌜ now (m .exit) ≡ Model.mailSettled (now (m .entry)) (name .0) (page .0) ⌝ }
+{
+    mark_sent(m, name, page);
+    return_mail(m, name, page);
+}
+
 // The grant of the processor of that name is given back.
 fn return_grant(m: &mut [u8], name: Name)
     requires { ⌜ (length (now m) ≡ 8192) × (name .0 < 16) ⌝ }
@@ -102,7 +176,7 @@ pub fn delete(m: &mut [u8], page: ControlPage)
 {
     let n = name(m, page);
     unlist(m, page);
-    return_mail(m, n, page);
+    settle_mail(m, n, page);
     return_grant(m, n);
     give_back(m, page);
 }

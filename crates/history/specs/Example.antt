@@ -104,26 +104,26 @@ unfolding
     Operate.storesA Operate.ands Operate.increments Operate.worked Operate.returnTo Operate.reaches Operate.follows Operate.thirteen Wait.enqueue
     Wait.unqueue Wait.putToWait Wait.wake Wait.queued Wait.seat Wait.leaveWait Page.takeFree Page.firstFree Page.takePage Page.freePage
     Page.grantPage Page.giveBack Mail.asks Mail.fits Mail.matches Mail.awaits Mail.heard Mail.deliver Mail.writeMessage Mail.makeNotice Mail.move
-    Mail.testQ1 Mail.copyOut Delete.unlisted Delete.noticed Delete.returned Delete.emptied Delete.mailReturned Delete.grantReturned Delete.delete
-    Interrupt.classed Interrupt.struck Interrupt.servedFrom Interrupt.serve Interrupt.counts Interrupt.ends Interrupt.turns Interrupt.c3Counts
-    Interrupt.c2Counts Interrupt.c1Counts Interrupt.c0Counts Interrupt.delivered Turn.fold Turn.stays Turn.above Turn.better Turn.chosen
-    Turn.onPage0 Turn.keptOn Turn.contextOf Turn.savedOf Turn.kept Turn.restored Turn.save Turn.load Turn.runs Turn.switch Turn.whoRuns
-    Fresh.startable Fresh.cleared Fresh.timed Fresh.firstProcessor Fresh.chained Fresh.freed Fresh.allBuiltIn Fresh.started Lists.range Lists.linkOf
-    Lists.isGrant Lists.reach Lists.lists Judge.page Judge.reasoned Judge.reasonless Judge.quiet Judge.unasked Judge.sized Judge.message Judge.kind
-    Judge.used Judge.entry Judge.zeroBits Judge.list Judge.listed Judge.once Judge.usedOnce Judge.label Judge.names Judge.bit Judge.waiter
-    Judge.waitingBits Judge.served Judge.reasons Judge.owner Judge.messageWait Judge.messageWaits Judge.interruptSemaphore Judge.messageSemaphore
-    Judge.pageSemaphore Judge.semaphores Judge.pageWait Judge.pageWaits Judge.grant Judge.granted Judge.mail Judge.messages Judge.runner
-    Judge.notHigher Judge.running Judge.codes Judge.counters Judge.clock Judge.faults Judge.zeros Judge.wellFormed Judge.judged Walks.isControl
-    Walks.path Walks.met Tell.broken Tell.offending Tell.offendingIn Tell.least Tell.tell Tell.first Classes.cell Classes.once Classes.usedOnce
-    Classes.pointer Classes.ends Classes.usesEnd Classes.ofPages Classes.queuesEnd Classes.waitingBits Classes.reasons Classes.messageWaits
-    Classes.pageSemaphore Classes.semaphores Classes.noneFree Classes.noGrant Classes.pageWaits Classes.ofWaits Classes.labels Classes.existing
-    Classes.nought Classes.granted Classes.messages Classes.ofRecords Classes.isBuiltIn Classes.isForeign Classes.codes Classes.inRange
-    Classes.faults Classes.ofTables Classes.outer Classes.below Classes.positive Classes.clock Classes.runner Classes.notHigher Classes.shown
-    Classes.running Classes.ofCounters Classes.classes Classes.toldOf Burst.isList Burst.tested Burst.arrived Burst.burstJudged Burst.burst
-    Answer.answerOf Answer.memoryOf Answer.numbers Answer.heldNumbers Answer.verdictNumbers Answer.done Answer.jumps Answer.waits Fault.entered
-    Fault.fault Execute.run Execute.foreign Execute.isForeign Execute.argumentFault Execute.argued Execute.exi Execute.taken Execute.decoded
-    Execute.coded Execute.fetched Store.tget Store.tput Store.tzero Store.getT Store.putT Store.sizeT Store.trees Rule.all Rule.every Rule.holds
-    writes
+    Mail.testQ1 Mail.copyOut Delete.unlisted Delete.sentBy Delete.marked Delete.markedFrom Delete.mailMarked Delete.allMarked Delete.sentMarked
+    Delete.noticed Delete.returned Delete.emptied Delete.mailReturned Delete.grantReturned Delete.mailSettled Delete.delete Interrupt.classed
+    Interrupt.struck Interrupt.servedFrom Interrupt.serve Interrupt.counts Interrupt.ends Interrupt.turns Interrupt.c3Counts Interrupt.c2Counts
+    Interrupt.c1Counts Interrupt.c0Counts Interrupt.delivered Turn.fold Turn.stays Turn.above Turn.better Turn.chosen Turn.onPage0 Turn.keptOn
+    Turn.contextOf Turn.savedOf Turn.kept Turn.restored Turn.save Turn.load Turn.runs Turn.switch Turn.whoRuns Fresh.startable Fresh.cleared
+    Fresh.timed Fresh.firstProcessor Fresh.chained Fresh.freed Fresh.allBuiltIn Fresh.started Lists.range Lists.linkOf Lists.isGrant Lists.reach
+    Lists.lists Judge.page Judge.reasoned Judge.reasonless Judge.quiet Judge.unasked Judge.sized Judge.message Judge.kind Judge.used Judge.entry
+    Judge.zeroBits Judge.list Judge.listed Judge.once Judge.usedOnce Judge.label Judge.names Judge.bit Judge.waiter Judge.waitingBits Judge.served
+    Judge.reasons Judge.owner Judge.messageWait Judge.messageWaits Judge.interruptSemaphore Judge.messageSemaphore Judge.pageSemaphore
+    Judge.semaphores Judge.pageWait Judge.pageWaits Judge.grant Judge.granted Judge.mail Judge.messages Judge.runner Judge.notHigher Judge.running
+    Judge.codes Judge.counters Judge.clock Judge.faults Judge.zeros Judge.wellFormed Judge.judged Walks.isControl Walks.path Walks.met Tell.broken
+    Tell.offending Tell.offendingIn Tell.least Tell.tell Tell.first Classes.cell Classes.once Classes.usedOnce Classes.pointer Classes.ends
+    Classes.usesEnd Classes.ofPages Classes.queuesEnd Classes.waitingBits Classes.reasons Classes.messageWaits Classes.pageSemaphore
+    Classes.semaphores Classes.noneFree Classes.noGrant Classes.pageWaits Classes.ofWaits Classes.labels Classes.existing Classes.nought
+    Classes.granted Classes.messages Classes.ofRecords Classes.isBuiltIn Classes.isForeign Classes.codes Classes.inRange Classes.faults
+    Classes.ofTables Classes.outer Classes.below Classes.positive Classes.clock Classes.runner Classes.notHigher Classes.shown Classes.running
+    Classes.ofCounters Classes.classes Classes.toldOf Burst.isList Burst.tested Burst.arrived Burst.burstJudged Burst.burst Answer.answerOf
+    Answer.memoryOf Answer.numbers Answer.heldNumbers Answer.verdictNumbers Answer.done Answer.jumps Answer.waits Fault.entered Fault.fault
+    Execute.run Execute.foreign Execute.isForeign Execute.argumentFault Execute.argued Execute.exi Execute.taken Execute.decoded Execute.coded
+    Execute.fetched Store.tget Store.tput Store.tzero Store.getT Store.putT Store.sizeT Store.trees Rule.all Rule.every Rule.holds writes
 at-trees = record {
   living2 = refl;
   living3 = refl;

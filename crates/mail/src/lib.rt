@@ -177,7 +177,7 @@ fn copy_head(m: &mut [u8], message: ControlPage, address: u16)
     let size = message.word(m, map::SIZE);
     write(m, address, note / map::FIELD);
     write(m, wrapped(address, 1), note % map::FIELD);
-    write(m, wrapped(address, 2), size % map::NOTICE);
+    write(m, wrapped(address, 2), size % map::MARK);
 }
 
 // And its text behind them.
@@ -185,7 +185,7 @@ pub fn copy_out(m: &mut [u8], message: ControlPage, address: u16)
     requires { ⌜ (length (now m) ≡ 8192) × (address < 8192) ⌝ }
     ensures { λ _. ⌜ now (m .exit) ≡ Model.copyOut (now (m .entry)) (message .0) address ⌝ }
 {
-    let size = message.word(m, map::SIZE) % map::NOTICE;
+    let size = message.word(m, map::SIZE) % map::MARK;
     copy_head(m, message, address);
     copy(
         m,

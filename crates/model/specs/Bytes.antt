@@ -388,6 +388,9 @@ lengthOf = Mail.lengthOf bytes
 abbrev pub isNotice : Memory → ℕ → Bool
 isNotice = Mail.isNotice bytes
 
+abbrev pub unmarked : Memory → ℕ → Bool
+unmarked = Mail.unmarked bytes
+
 abbrev pub matches : Memory → ℕ → ℕ → ℕ → Bool
 matches = Mail.matches bytes
 
@@ -424,6 +427,24 @@ copyOut = Mail.copyOut bytes
 abbrev pub unlisted : Memory → ℕ → Memory
 unlisted = Delete.unlisted bytes
 
+abbrev pub sentBy : Memory → ℕ → ℕ → Bool
+sentBy = Delete.sentBy bytes
+
+abbrev pub marked : Memory → ℕ → ℕ → Memory
+marked = Delete.marked bytes
+
+abbrev pub markedFrom : ℕ → Memory → ℕ → ℕ → Memory
+markedFrom = Delete.markedFrom bytes
+
+abbrev pub mailMarked : Memory → ℕ → ℕ → Memory
+mailMarked = Delete.mailMarked bytes
+
+abbrev pub allMarked : ℕ → Memory → ℕ → ℕ → Memory
+allMarked = Delete.allMarked bytes
+
+abbrev pub sentMarked : Memory → ℕ → ℕ → Memory
+sentMarked = Delete.sentMarked bytes
+
 abbrev pub noticed : Memory → ℕ → ℕ → ℕ → Memory
 noticed = Delete.noticed bytes
 
@@ -438,6 +459,9 @@ mailReturned = Delete.mailReturned bytes
 
 abbrev pub grantReturned : Memory → ℕ → Memory
 grantReturned = Delete.grantReturned bytes
+
+abbrev pub mailSettled : Memory → ℕ → ℕ → Memory
+mailSettled = Delete.mailSettled bytes
 
 abbrev pub delete : Memory → ℕ → Memory
 delete = Delete.delete bytes

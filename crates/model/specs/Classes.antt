@@ -145,7 +145,7 @@ module _ (S : Store) (m : S .M) (ps : List ℕ) (L : Lists) where
   unfoldable pub granted : List Row
   granted = tells (range lastName 1 1) grantFor existing ∷ tells (grants ∷ range 16 1 (grantFor 16)) itself nought ∷ []
 
-  -- "senders 1-15, flags 1-7, word 2 of a message 0-29 or 128"
+  -- "senders 1-15, flags 1-7, word 2 of a message 0-29, 64-93 or 128"
   unfoldable pub messages : List Row
   messages = tells (gather L (mails ps)) page (Judge.message S m) ∷ []
 

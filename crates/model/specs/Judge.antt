@@ -9,8 +9,8 @@ use Rattle.model.specs.Map as Map
 use Rattle.model.specs.Map.{place, pageSize, upper, lower, top, less, zerosIn, aWord, freeList, freeSemaphore, pageQueue, processorList}
 use Rattle.model.specs.Map.{runningPage, runningLabel, clockLine, c0, c1, c2, c3, zeroWord, divider, codeWord, allCodes, builtInCodes}
 use Rattle.model.specs.Map.{firstUnused, entryAfter, entries, entriesFull, grantFor, headerAfter, semaphoreAfter, firstControl, lastControl}
-use Rattle.model.specs.Map.{controlPages, reason, ownSemaphore, ownQueue, q1, q2, state, note, size, longest, notice, interrupts, lastName}
-use Rattle.model.specs.Map.{lastPriority, lastFlag, lastFault, firstOuter, lastLine, c1End, c2End, c3End, waitBit}
+use Rattle.model.specs.Map.{controlPages, reason, ownSemaphore, ownQueue, q1, q2, state, note, size, longest, lengthIn, notice, interrupts}
+use Rattle.model.specs.Map.{lastName, lastPriority, lastFlag, lastFault, firstOuter, lastLine, c1End, c2End, c3End, waitBit}
 use Rattle.model.specs.Address.{word, at}
 use Rattle.model.specs.Processor as Processor
 use Rattle.model.specs.Mail.{fits}
@@ -46,9 +46,10 @@ module _ (S : Store) (m : S .M) where
   unfoldable pub unasked : ℕ → ℕ → Rule
   unasked p q = never (fits (upper (word S m p reason)) (lower (word S m p reason)) (word S m q note))
 
-  -- "senders 1-15, flags 1-7, word 2 of a message 0-29 or 128"
+  -- "senders 1-15, flags 1-7, word 2 of a message 0-29 or 128", amended by document 02, 3/13: 0-29, 64-93 or 128. That is at most 128, and
+  -- modulo 64 at most 29
   unfoldable pub sized : ℕ → Rule
-  sized q = unlessSame (word S m q size) notice (most (word S m q size) longest)
+  sized q = both (most (word S m q size) notice) (most (lengthIn (word S m q size)) longest)
 
   unfoldable pub message : ℕ → Rule
   message q = both (among (upper (word S m q note)) 1 lastName) (both (among (lower (word S m q note)) 1 lastFlag) (sized q))
@@ -150,7 +151,7 @@ module _ (S : Store) (m : S .M) where
     unfoldable pub granted : Rule
     granted = below pageSize grant
 
-    -- "senders 1-15, flags 1-7, word 2 of a message 0-29 or 128"
+    -- "senders 1-15, flags 1-7, word 2 of a message 0-29, 64-93 or 128"
     unfoldable pub mail : ℕ → Rule
     mail p = both (each (L (place p q1)) message) (each (L (place p q2)) message)
 

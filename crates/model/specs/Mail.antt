@@ -4,7 +4,7 @@ use mathlib.Core.Bool.{Bool, true, false, cond}
 use lib.Dec.{eqb}
 use Rattle.model.specs.Store.{Store}
 use Rattle.model.specs.Map.{place, pair, upper, lower, lengthIn, link, reason, ownSemaphore, ownQueue, q1, q2, note, size, text, notice}
-use Rattle.model.specs.Map.{headWords}
+use Rattle.model.specs.Map.{headWords, isUnmarked}
 use Rattle.model.specs.Address.{word, store, at, write, wrapped, copy}
 use Rattle.model.specs.Queue.{first, queue, join, leave}
 use Rattle.model.specs.Processor.{name, running}
@@ -30,12 +30,16 @@ module _ (S : Store) where
   abbrev pub flag : S .M → ℕ → ℕ
   flag m q = lower (word S m q note)
 
-  -- "A notice has 128 in word 2 and is read as length 0."
+  -- "A notice has 128 in word 2 and is read as length 0." "Marked mail is read as before, and RME hands out the true length."
   abbrev pub lengthOf : S .M → ℕ → ℕ
   lengthOf m q = lengthIn (word S m q size)
 
   abbrev pub isNotice : S .M → ℕ → Bool
   isNotice m q = eqb (word S m q size) notice
+
+  -- mail that is not marked; what is neither this nor a notice is marked mail
+  abbrev pub unmarked : S .M → ℕ → Bool
+  unmarked m q = isUnmarked (word S m q size)
 
   unfoldable pub matches : S .M → ℕ → ℕ → ℕ → Bool
   matches m n f q = fits n f (word S m q note)

@@ -352,12 +352,25 @@ text = 3
 abbrev pub longest : ℕ
 longest = 29
 
--- "A notice has 128 in word 2 and is read as length 0"; what RME hands out before the text: sender, flag, length
+-- "A notice has 128 in word 2 and is read as length 0"
 abbrev pub notice : ℕ
 notice = 128
 
+-- document 02, 3/13: a message is marked "by 64 added in word 2"; unmarked, it is neither marked nor a notice
+abbrev pub mark : ℕ
+mark = 64
+
+abbrev pub markAdded : ℕ → ℕ
+markAdded w = w + mark
+
+abbrev pub isUnmarked : ℕ → Bool
+isUnmarked w = ltb w mark
+
+-- "RME hands out the true length": without the mark
 abbrev pub lengthIn : ℕ → ℕ
-lengthIn w = w % 128
+lengthIn w = w % mark
+
+-- what RME hands out before the text: sender, flag, length
 
 abbrev pub headWords : ℕ
 headWords = 3

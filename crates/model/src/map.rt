@@ -221,6 +221,9 @@ pub const LONGEST: u8 = 29;
 
 pub const NOTICE: u8 = 128;
 
+// "marks every message it sent that is still unread, by 64 added in word 2"
+pub const MARK: u8 = 64;
+
 pub const HEAD_WORDS: u8 = 3;
 
 pub const HEAD_WORDS_WIDE: u16 = 3;

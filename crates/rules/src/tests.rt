@@ -125,10 +125,7 @@ fn sized(m: &[u8], q: ControlPage) -> bool
     ensures { λ r. ⌜ r ≡ holds (Judge.sized bytes (now (m .entry)) (q .0)) ⌝ }
 {
     let w = q.word(m, map::SIZE);
-    if w == map::NOTICE {
-        return true;
-    }
-    w <= map::LONGEST
+    both(w <= map::NOTICE, w % map::MARK <= map::LONGEST)
 }
 
 pub fn message(m: &[u8], q: ControlPage) -> bool

@@ -20,17 +20,17 @@ ghost use lib.ListN.{length};
 // How much text a message has.
 fn message_text(size: u8) {
     if size == 0 {
-        return text(b", no text\n");
+        return text(b", no text");
     }
     if size == 1 {
-        return text(b", 1 word\n");
+        return text(b", 1 word");
     }
     text(b", ");
     word(size);
-    text(b" words\n");
+    text(b" words");
 }
 
-// The message of a page.
+// The message of a page; marked, it is mail whose sender is gone.
 fn message(m: &[u8], page: ControlPage)
     requires { ⌜ length (now m) ≡ 8192 ⌝ }
 {
@@ -46,7 +46,11 @@ fn message(m: &[u8], page: ControlPage)
     if size == map::NOTICE {
         return text(b"\n");
     }
-    message_text(size);
+    message_text(size % map::MARK);
+    if map::MARK <= size {
+        text(b", its sender is gone");
+    }
+    text(b"\n");
 }
 
 // The messages from a page on, each in a line of its own.

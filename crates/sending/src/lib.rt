@@ -127,7 +127,7 @@ pub fn rme(m: &mut [u8], name: Name, flag: u8, address: u16, length: u16) -> Ans
         return fault(m, faults::NO_MATCH);
     }
     let size = message.word(m, map::SIZE);
-    if clear(map::HEAD_WORDS + size % map::NOTICE, address) {
+    if clear(map::HEAD_WORDS + size % map::MARK, address) {
         receive(m, message, address);
         return done(m, length);
     }
