@@ -8,7 +8,7 @@ use native.Mathlib.Omega.{arith}
 use lib.ListN.{length, getD}
 use Rattle.model.specs.Map as Map
 use Rattle.model.specs.Map.{controlPages, firstControl, freeList, freeSemaphore, grantFor, headerAfter, interrupts, lastControl, lastFlag, lastName}
-use Rattle.model.specs.Map.{less, longest, lower, memorySize, notice, ownQueue, ownSemaphore, pageQueue, place, processorList, q1, q2, semaphoreAfter}
+use Rattle.model.specs.Map.{lengthIn, less, longest, lower, memorySize, notice, ownQueue, ownSemaphore, pageQueue, place, processorList, q1, q2, semaphoreAfter}
 use Rattle.model.specs.Map.{upper}
 use Rattle.model.specs.Bytes.{word, lists, judged, walk}
 use Rattle.model.specs.Store.{bytes}
@@ -78,13 +78,13 @@ sems m L f pg g h s (own p i e) =
     rw (e, d, stock-else L (place p ownSemaphore) (omega arith)) (g p i)
 
 abbrev pub MessageRule : ℕ → ℕ → Type 0
-MessageRule n w = ((1 ≤ upper n) × (upper n ≤ lastName)) × (((1 ≤ lower n) × (lower n ≤ lastFlag)) × (w ≢ notice → w ≤ longest))
+MessageRule n w = ((1 ≤ upper n) × (upper n ≤ lastName)) × (((1 ≤ lower n) × (lower n ≤ lastFlag)) × ((w ≤ notice) × (lengthIn w ≤ longest)))
 
 pub of-rule : {n w : ℕ} → MessageRule n w → Message n w
-of-rule t = record { sender = t .0 .0; known = t .0 .1; flag = t .1 .0 .0; small = t .1 .0 .1; long = t .1 .1 }
+of-rule t = record { sender = t .0 .0; known = t .0 .1; flag = t .1 .0 .0; small = t .1 .0 .1; most = t .1 .1 .0; long = t .1 .1 .1 }
 
 pub as-rule : {n w : ℕ} → Message n w → MessageRule n w
-as-rule t = ((t .sender, t .known), ((t .flag, t .small), t .long))
+as-rule t = ((t .sender, t .known), ((t .flag, t .small), (t .most, t .long)))
 
 mail : (m : List ℕ) (ps : List ℕ) (L : Lists) → means (Judge.messages bytes m ps L) → (p w : ℕ) → 1 ≤ count p ps → q1 ≤ w → w ≤ q2
     → (q : ℕ) → 1 ≤ count q (L (place p w)) → MessageRule (word m q Map.note) (word m q Map.size)

@@ -9,7 +9,7 @@ use native.Mathlib.Omega.{arith}
 use lib.ListN.{length, getD, set}
 use lib.Dec.{eqb}
 use borrow.Author.Tests.{eqb-true, eqb-false, eq-eqb, ne-eqb, leb-true}
-use Rattle.model.specs.Map.{controlPages, grantFor, lastFlag, lastName, link, lower, note, notice, pageSize, place, q1, q2, runningPage, size, state}
+use Rattle.model.specs.Map.{controlPages, grantFor, isUnmarked, lastFlag, lastName, link, lower, note, notice, pageSize, place, q1, q2, runningPage, size, state}
 use Rattle.model.specs.Map.{upper}
 use Rattle.model.specs.Bytes.{running, store, word, lists, leave, giveBack, deliver, makeNotice, pageOf, returned, emptied, mailReturned}
 use Rattle.model.specs.Bytes.{grantReturned, delete}
@@ -31,7 +31,8 @@ use Rattle.laws.specs.Who.{Busy, busy}
 use Rattle.laws.specs.Grants.{Any, any-of, give-back, some-is}
 use Rattle.laws.specs.Post.{retold-letter, notice-only, notice-letter, notice-base}
 use Rattle.laws.specs.Aside.{give-still, deliver-still}
-use Rattle.laws.specs.Leave.{Letters, Bag, unlisted-bag}
+use Rattle.laws.specs.Leave.{Letters, Bag, tot-short, unlisted-bag}
+use Rattle.laws.specs.Marking.{marked-bag}
 use Rattle.laws.specs.Ends.{Fine, start-base, stop-base, done-fine}
 use Rattle.laws.specs.Ways.{named-each}
 use Rattle.laws.specs.Simple.{named-in, bad}
@@ -59,12 +60,12 @@ module _ {m : List ℕ} {ps : List ℕ} {L : Lists} {W : View} {hs : List ℕ} {
 
   pub returned-base : (n : ℕ) → 1 ≤ n → n ≤ lastName → Message (word m q note) (word m q size) → Returned m (returned m n q) ps hs g
   unfolding Delete.returned Delete.noticed
-  returned-base n n1 n2 t = go (eqb (word m q size) notice) (eqb (pageOf m (upper (word m q note))) 0) refl refl
+  returned-base n n1 n2 t = go (isUnmarked (word m q size)) (eqb (pageOf m (upper (word m q note))) 0) refl refl
     where
-      go : (x y : Bool) → eqb (word m q size) notice ≡ x → eqb (pageOf m (upper (word m q note))) 0 ≡ y → Returned m (returned m n q) ps hs g
-      go true y e f = rw e given
-      go false true e f = rw (e, f) given
-      go false false e f =
+      go : (x y : Bool) → isUnmarked (word m q size) ≡ x → eqb (pageOf m (upper (word m q note))) 0 ≡ y → Returned m (returned m n q) ps hs g
+      go false y e f = rw e given
+      go true true e f = rw (e, f) given
+      go true false e f =
           let p = pageOf m (upper (word m q note)) in
           let fl = lower (word m q note) in
           let hp = named-in b (upper (word m q note)) (eqb-false p 0 f) in
@@ -195,10 +196,6 @@ module _ (p w n : ℕ) (u : q1 ≤ w) (v : w ≤ q2) (n1 : 1 ≤ n) (n2 : n ≤ 
   drain (x ∷ xs) (suc i) l q = on i q (drain xs i (omega arith) (next q))
 
 -- ---- both queues
-pub tot-short : {m : List ℕ} {ps : List ℕ} {L : Lists} {W : View} {hs : List ℕ} {g : ℕ} → Base m ps L W hs g → (xs : List ℕ)
-    → ((z : ℕ) → count z xs ≤ count z hs) → length xs ≤ controlPages
-tot-short b xs f = short xs (λ z. omega (arith, f z, b .all z))
-
 mail-back : {m : List ℕ} (p n g : ℕ) → 1 ≤ n → n ≤ lastName → Bag m p g → Any (mailReturned m n p) (p ∷ []) g
 unfolding Delete.mailReturned
 mail-back {m} p n g n1 n2 t =
@@ -275,11 +272,11 @@ grant-back {m} {hs} n l t = go (eqb (getD m (grantFor n) 0) 0) refl
 -- ---- "In order: ..; then its own page."
 pub delete-base : {m : List ℕ} {ps : List ℕ} {L : Lists} {W : View} (p : ℕ) → 1 ≤ count p ps → W .low runningPage ≢ p → Base m ps L W [] noOne
     → Any (delete m p) [] noOne
-unfolding Delete.delete
+unfolding Delete.delete Delete.mailSettled
 delete-base {m} {W = W} p hp d b =
     let n = lower (W .label p) in
     let r = b .facts .names .range p hp in
-    let t1 = mail-back p n n (r .name) (omega arith) (unlisted-bag p hp d b) in
+    let t1 = mail-back p n n (r .name) (omega arith) (marked-bag n (unlisted-bag p hp d b)) in
     let t2 = grant-back n (omega arith) t1 in
     rw (b .mem .reads .words .label p (proc-page (b .facts .sep) p hp)) (any-of (give-back (t2 .base) .base))
 

@@ -13,7 +13,7 @@ use Rattle.model.specs.Instruction.{builtIn}
 use Rattle.model.specs.Map as Map
 use Rattle.model.specs.Map.{aWord, allCodes, builtInCodes, c1End, c2End, c3End, clockLine, codeWord, entries, entriesFull, entryAfter, firstOuter}
 use Rattle.model.specs.Map.{firstUnused, freeList, freeSemaphore, grantFor, headerAfter, interrupts, lastFault, lastFlag, lastLine, lastName}
-use Rattle.model.specs.Map.{lastPriority, less, longest, lower, memorySize, notice, ownQueue, pageQueue, pageSize, place, q1, q2, runningLabel}
+use Rattle.model.specs.Map.{lastPriority, lengthIn, less, longest, lower, memorySize, notice, ownQueue, pageQueue, pageSize, place, q1, q2, runningLabel}
 use Rattle.model.specs.Map.{runningPage, upper, waitBit, waitIn, zeroWord, zerosIn}
 use Rattle.model.specs.Bytes as Memory
 use Rattle.model.specs.Mail.{fits}
@@ -129,13 +129,14 @@ pub record Granted (ps : List ℕ) (L : Lists) (l : ℕ → ℕ) (g : ℕ) : Typ
   pub bare : (p : ℕ) → 1 ≤ count p (L pageQueue) → (length (L freeList) ≡ 0) × (length (L (grantFor (lower (l p)))) ≡ 0)
   pub known : (k : ℕ) → k < pageSize → k ≢ g → length (L (grantFor k)) ≢ 0 → bearers l ps k ≡ 1
 
--- "senders 1-15, flags 1-7, word 2 of a message 0-29 or 128"
+-- "senders 1-15, flags 1-7, word 2 of a message 0-29, 64-93 or 128"
 pub record Message (n w : ℕ) : Type 0 where
   pub sender : 1 ≤ upper n
   pub known : upper n ≤ lastName
   pub flag : 1 ≤ lower n
   pub small : lower n ≤ lastFlag
-  pub long : w ≢ notice → w ≤ longest
+  pub most : w ≤ notice
+  pub long : lengthIn w ≤ longest
 
 -- "word 25 of page 7 is the running one's word 7"
 pub record Runs (ps : List ℕ) (l b : ℕ → ℕ) : Type 0 where

@@ -4,6 +4,7 @@ use mathlib.Core.Path.{_≡_, refl, sym, ap, _∙_}
 use mathlib.Core.Logic.{_≢_, _⊎_, inl, inr}
 use mathlib.Core.Bool.{Bool, true, false}
 use mathlib.Core.List.{List, [], _∷_, _++_}
+use lib.ListN.{length}
 use Prim.Native.Nat.{ℕ, zero, suc, _+_, _-_, _≤_, _<_}
 use native.Mathlib.Omega.{arith}
 use lib.Dec.{eqb}
@@ -20,7 +21,7 @@ use Rattle.model.specs.Lists.{count, Lists, sum, uses, queues}
 use Rattle.laws.specs.Count.{hit-other, hit-or, count-append, zero-or}
 use Rattle.laws.specs.Chain.{Page, Chain, walk-chain, split-at-page}
 use Rattle.laws.specs.Queues.{upd, upd-other}
-use Rattle.laws.specs.Heads.{one, one-le, sum-two, sum-pos, sum-skip, Seat, seat-of}
+use Rattle.laws.specs.Heads.{one, one-le, short, sum-two, sum-pos, sum-skip, Seat, seat-of}
 use Rattle.laws.specs.Heads.Seat.{line, page, own}
 use Rattle.laws.specs.Uses.{Sep, proc-page, list-short}
 use Rattle.laws.specs.Places.{in-queues, q-free, queues-pos}
@@ -167,6 +168,11 @@ module _ {m : List ℕ} {ps : List ℕ} {L : Lists} {W : View} {hs : List ℕ} {
           go a (own y u e) = let d : a + 1 ≡ place y ownQueue = omega arith in rw d (own-wait y u (zero-or (count p (L (place y ownQueue)))))
 
 -- ---- what the deleted one leaves behind: its page and its mail, in hand, and the chains of its mail
+-- what is in hand is short
+pub tot-short : {m : List ℕ} {ps : List ℕ} {L : Lists} {W : View} {hs : List ℕ} {g : ℕ} → Base m ps L W hs g → (xs : List ℕ)
+    → ((z : ℕ) → count z xs ≤ count z hs) → length xs ≤ controlPages
+tot-short b xs f = short xs (λ z. omega (arith, f z, b .all z))
+
 pub record Letters (m : List ℕ) (xs : List ℕ) : Type 0 where
   pub at : (x : ℕ) → 1 ≤ count x xs → Message (word m x Map.note) (word m x size)
 

@@ -42,6 +42,7 @@ pub mod Aside
 pub mod Grow
 pub mod Shrink
 pub mod Leave
+pub mod Marking
 pub mod Who
 -- How calls end; a fresh start; the instructions and interrupts
 pub mod Ends

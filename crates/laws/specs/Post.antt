@@ -223,7 +223,7 @@ module _ {m : List ℕ} {ps : List ℕ} {L : Lists} {W : View} {hs : List ℕ} {
       → Message (word (makeNotice m q n f) q note) (word (makeNotice m q n f) q size)
   notice-letter n f i j k l =
       rw (notice-words n f .0, notice-words n f .1)
-      (record { sender = omega arith; known = omega arith; flag = omega arith; small = omega arith; long = λ z. absurd (z refl) })
+      (record { sender = omega arith; known = omega arith; flag = omega arith; small = omega arith; most = omega arith; long = omega arith })
 
   pub notice-base : (n f p : ℕ) → 1 ≤ n → n ≤ lastName → 1 ≤ f → f ≤ lastFlag → 1 ≤ count p ps → Gave (deliver (makeNotice m q n f) p q) ps hs g W
   notice-base n f p i j k l h = written-base (notice-only n f) (notice-letter n f i j k l) p h
@@ -251,7 +251,7 @@ module _ {m : List ℕ} {ps : List ℕ} {L : Lists} {W : View} {hs : List ℕ} {
         → Message (word (writeMessage m q f a l) q note) (word (writeMessage m q f a l) q size)
     message-letter f1 f2 n =
         rw (message-words .0, message-words .1)
-        (record { sender = omega (arith, n .name); known = omega arith; flag = omega arith; small = omega arith; long = λ z. l2 })
+        (record { sender = omega (arith, n .name); known = omega arith; flag = omega arith; small = omega arith; most = omega arith; long = omega arith })
 
   pub message-base : (f a l p : ℕ) → 1 ≤ f → f ≤ lastFlag → l ≤ longest → Label (word m (running m) label) → 1 ≤ count p ps
       → Gave (deliver (writeMessage m q f a l) p q) ps hs g W

@@ -1,6 +1,6 @@
 -- Memory map: "8,192 words of 8 bits". Every step keeps words below 256, on any memory. With it what other laws share: either arm of a test, and the walk of
 -- a test of Q1. Assumes nothing.
-use mathlib.Core.Path.{_≡_, refl}
+use mathlib.Core.Path.{_≡_, refl, sym, _∙_}
 use mathlib.Core.Logic.{_≢_, _⊎_, inl, inr}
 use mathlib.Core.Bool.{Bool, true, false, cond}
 use mathlib.Core.List.{List, [], _∷_}
@@ -9,11 +9,11 @@ use native.Mathlib.Omega.{arith}
 use lib.ListN.{length, getD, set}
 use lib.Seq.{getD-set-same, getD-set-other, set-out}
 use lib.Dec.{eqb, ltb}
-use borrow.Author.Tests.{eqb-false, ltb-true, ltb-false}
+use borrow.Author.Tests.{eqb-false, eq-eqb, ne-eqb, ltb-true, ltb-false}
 use Rattle.model.specs.Map.{builtInCodes, c0, c0Interrupt, c1, c1End, c1Interrupt, c2, c2End, c2Interrupt, c3, c3End, c3Interrupt, clockLine}
 use Rattle.model.specs.Map.{codeWord, controlPages, divider, firstClassed, firstControl, firstName, firstPriority, firstUnused, freeList}
-use Rattle.model.specs.Map.{freeSemaphore, grantFor, guardedLast, headWords, headerOf, high, highLr, interruptPage, interrupts, keeps, keptCount}
-use Rattle.model.specs.Map.{kernelPages, label, lastOuter, link, listLink, low, lowLr, lower, memorySize, note, notice, ownSemaphore, pageQueue}
+use Rattle.model.specs.Map.{freeSemaphore, grantFor, guardedLast, headWords, headerOf, high, highLr, interruptPage, interrupts, isUnmarked, keeps, keptCount}
+use Rattle.model.specs.Map.{kernelPages, label, lastOuter, link, listLink, low, lowLr, lower, mark, markAdded, memorySize, note, notice, ownSemaphore, pageQueue}
 use Rattle.model.specs.Map.{pageSize, pair, place, processorList, q1, q2, reason, runningLabel, runningPage, semaphoreOf, size, state, text}
 use Rattle.model.specs.Map.{threeFlags, topped, upper, waitBit, wordA, wordS, wordValues, zeroPlace}
 use Rattle.model.specs.Address.{wrapped}
@@ -246,13 +246,70 @@ unfolding Delete.unlisted Wait.leaveWait
 small-unlisted {m} s p =
     small-leave (either Small (Model.queued m (Model.seat interrupts m p) p) (small-unqueue s (Model.seat interrupts m p) p) s) processorList listLink p
 
+-- what is marked is below 64 before
+small-marked : {m : List ℕ} → Small m → (n q : ℕ) → Small (Model.marked m n q)
+unfolding Delete.marked Delete.sentBy
+small-marked {m} s n q = go (isUnmarked (word m q size)) refl
+  where
+    go : (c : Bool) → isUnmarked (word m q size) ≡ c → Small (Model.marked m n q)
+    go true e =
+        let l = ltb-true (word m q size) mark e in
+        rw e (either Small (eqb (upper (word m q note)) n) (small-set (place q size) (markAdded (word m q size)) (omega arith) s) s)
+    go false e = rw e s
+
+pub from-end : (i : ℕ) (m : List ℕ) (n a : ℕ) → getD m a 0 ≡ 0 → Model.markedFrom i m n a ≡ m
+unfolding Delete.markedFrom
+from-end zero m n a e = refl
+from-end (suc i) m n a e = rw (eq-eqb (getD m a 0) 0 e, Delete.markedFrom)
+
+pub from-next : (i : ℕ) (m : List ℕ) (n a x : ℕ) → getD m a 0 ≡ x → x ≢ 0 → Model.markedFrom (suc i) m n a ≡ Model.markedFrom i (Model.marked m n x) n (place x link)
+unfolding Delete.markedFrom
+from-next i m n a x e d = let z : getD m a 0 ≢ 0 = λ f. d (sym e ∙ f) in rw (ne-eqb (getD m a 0) 0 z, Delete.markedFrom, e)
+
+small-marks : (i : ℕ) {m : List ℕ} (n a : ℕ) → Small m → Small (Model.markedFrom i m n a)
+unfolding Delete.markedFrom
+small-marks zero n a s = s
+small-marks (suc i) {m} n a s = go (hit-or (getD m a 0) 0) (λ x. small-marks i n (place x link) (small-marked s n x))
+  where
+    go : (getD m a 0 ≡ 0) ⊎ (getD m a 0 ≢ 0) → ((x : ℕ) → Small (Model.markedFrom i (Model.marked m n x) n (place x link)))
+        → Small (Model.markedFrom (suc i) m n a)
+    go (inl e) ih = rw (from-end (suc i) m n a e) s
+    go (inr d) ih = rw (from-next i m n a (getD m a 0) refl d) (ih (getD m a 0))
+
+small-mail : {m : List ℕ} (n p : ℕ) → Small m → Small (Model.mailMarked m n p)
+unfolding Delete.mailMarked
+small-mail n p s = small-marks controlPages n (place p q2) (small-marks controlPages n (place p q1) s)
+
+pub all-end : (i : ℕ) (m : List ℕ) (n a : ℕ) → getD m a 0 ≡ 0 → Model.allMarked i m n a ≡ m
+unfolding Delete.allMarked
+all-end zero m n a e = refl
+all-end (suc i) m n a e = rw (eq-eqb (getD m a 0) 0 e, Delete.allMarked)
+
+pub all-next : (i : ℕ) (m : List ℕ) (n a p : ℕ) → getD m a 0 ≡ p → p ≢ 0 → Model.allMarked (suc i) m n a ≡ Model.allMarked i (Model.mailMarked m n p) n (place p listLink)
+unfolding Delete.allMarked
+all-next i m n a p e d = let z : getD m a 0 ≢ 0 = λ f. d (sym e ∙ f) in rw (ne-eqb (getD m a 0) 0 z, Delete.allMarked, e)
+
+small-all : (i : ℕ) {m : List ℕ} (n a : ℕ) → Small m → Small (Model.allMarked i m n a)
+unfolding Delete.allMarked
+small-all zero n a s = s
+small-all (suc i) {m} n a s = go (hit-or (getD m a 0) 0) (λ x. small-all i n (place x listLink) (small-mail n x s))
+  where
+    go : (getD m a 0 ≡ 0) ⊎ (getD m a 0 ≢ 0) → ((x : ℕ) → Small (Model.allMarked i (Model.mailMarked m n x) n (place x listLink)))
+        → Small (Model.allMarked (suc i) m n a)
+    go (inl e) ih = rw (all-end (suc i) m n a e) s
+    go (inr d) ih = rw (all-next i m n a (getD m a 0) refl d) (ih (getD m a 0))
+
+small-sent : {m : List ℕ} → Small m → (n p : ℕ) → Small (Model.sentMarked m n p)
+unfolding Delete.sentMarked
+small-sent s n p = small-mail n p (small-all controlPages n processorList s)
+
 small-returned : {m : List ℕ} → Small m → (n q : ℕ) → n < 16 → q < wordValues → Small (Model.returned m n q)
 unfolding Delete.returned Delete.noticed
 small-returned {m} s n q l u =
     let f = lower (word m q note) in
     let p = Model.pageOf m (upper (word m q note)) in
-    either Small (eqb (word m q size) notice) (small-give s q u)
-    (either Small (eqb p 0) (small-give s q u) (small-deliver (small-notice s q n f l (omega arith)) p q u))
+    either Small (isUnmarked (word m q size))
+    (either Small (eqb p 0) (small-give s q u) (small-deliver (small-notice s q n f l (omega arith)) p q u)) (small-give s q u)
 
 small-emptied : (i : ℕ) {m : List ℕ} (n h : ℕ) → n < 16 → Small m → Small (Model.emptied i m n h)
 unfolding Delete.emptied
@@ -268,11 +325,12 @@ small-emptied (suc i) {m} n h l s =
         in rw q ih
 
 pub small-delete : {m : List ℕ} → Small m → (p : ℕ) → p < wordValues → Small (Model.delete m p)
-unfolding Delete.delete Delete.mailReturned Delete.grantReturned
+unfolding Delete.delete Delete.mailSettled Delete.mailReturned Delete.grantReturned
 small-delete {m} s p l =
     let n = name m p in
-    let t = small-emptied controlPages n (place p q1) (omega arith) (small-emptied controlPages n (place p q2) (omega arith) (small-unlisted s p)) in
-    let m1 = Model.mailReturned (Model.unlisted m p) n p in
+    let t = small-emptied controlPages n (place p q1) (omega arith) (small-emptied controlPages n (place p q2) (omega arith) (small-sent (small-unlisted s p)
+    n p)) in
+    let m1 = Model.mailSettled (Model.unlisted m p) n p in
     small-give (either Small (eqb (getD m1 (grantFor n) 0) 0) t
     (small-give (small-set (grantFor n) 0 (omega arith) t) (getD m1 (grantFor n) 0) (t .at (grantFor n)))) p l
 
