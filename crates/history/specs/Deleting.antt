@@ -1,45 +1,54 @@
 -- DEP: what waits for every other processor grows by the notices to it, at the end of its Q1, in the order of the messages that are returned, Q2 then Q1; the
 -- step law, and what was put stands. Assumes nothing.
 use mathlib.Core.Path.{_≡_, refl, sym, ap, _∙_}
-use mathlib.Core.Logic.{_≢_}
+use mathlib.Core.Logic.{_≢_, _⊎_, inl, inr}
 use mathlib.Core.Bool.{Bool, true, false}
 use mathlib.Core.List.{List, [], _∷_, _++_, append-nil, append-assoc}
 use Prim.Native.Nat.{ℕ, _%_, _≤_, _<_}
 use native.Mathlib.Omega.{arith}
 use lib.ListN.{length, getD, set}
 use lib.Dec.{eqb}
-use borrow.Author.Tests.{eqb-true, eqb-false, leb-true}
-use Rattle.model.specs.Map.{controlPages, isStopped}
-use Rattle.model.specs.Map.{grantFor, label, place, processorList, q1, q2, runningPage, state}
+use borrow.Author.Tests.{eqb-true, eqb-false, leb-true, lt-ltb, ltb-true}
+use Rattle.model.specs.Map.{controlPages, isStopped, isUnmarked, lower, mark, notice}
+use Rattle.model.specs.Map.{grantFor, label, note, place, processorList, q1, q2, runningPage, size, state}
 use Rattle.model.specs.Bytes.{name, running, word}
 use Rattle.model.specs.Delete as Delete
+use Rattle.model.specs.Processor as Processor
 use Rattle.model.specs.Answer.{memoryOf}
 use Rattle.model.specs.Bytes as Model
-use Rattle.model.specs.Bytes.{lists, processors, queue, pageOf, giveBack, unlisted, emptied, mailReturned, grantReturned, delete}
+use Rattle.model.specs.Bytes.{lists, processors, queue, pageOf, isNamed, sender, giveBack, emptied, mailReturned, grantReturned, delete}
 use Rattle.model.specs.Lists.{count, Lists, some}
-use Rattle.laws.specs.Count.{hit-self, count-append, count-mid}
+use Rattle.laws.specs.Count.{hit-self, hit-other, hit-or, count-append, count-mid}
 use Rattle.laws.specs.Chain.{chain-move, split-at-page}
 use Rattle.laws.specs.Queues.{upd, upd-same}
 use Rattle.laws.specs.Uses.{proc-page}
+use Rattle.laws.specs.Members.{count-more}
 use Rattle.laws.specs.Inv.{View, view, Base}
 use Rattle.laws.specs.Judged.{WellFormed}
 use Rattle.laws.specs.Frames.{other}
 use Rattle.laws.specs.Hands.{take-grant}
-use Rattle.laws.specs.Grants.{give-back, some-is}
+use Rattle.laws.specs.Grants.{give-back, some-is, each-two}
 use Rattle.laws.specs.Mails.{mail-queue}
-use Rattle.laws.specs.Leave.{Bag}
-use Rattle.laws.specs.Simple.{named-in}
+use Rattle.laws.specs.Shrink.{gone, in-P}
+use Rattle.laws.specs.Leave.{Bag, tot-short}
+use Rattle.laws.specs.Marking.{Fate}
+use Rattle.laws.specs.Marking.Fate.{marks, stays}
+use Rattle.laws.specs.Simple.{first-in, named-in}
 use Rattle.laws.specs.Who.{label-at, listed, Busy, busy}
-use Rattle.laws.specs.Delete.{Queue, Drained, drain, tot-short, facts-whole}
-use Rattle.history.specs.Letter.{waitingFor, Same, posts, label-same, waits-same, procs-same, held, held-same}
+use Rattle.laws.specs.Delete.{Queue, Drained, drain, facts-whole}
+use Rattle.history.specs.Letter.{Letter, waitingFor, Same, posts, label-same, waits-same, procs-same, held, held-same}
 use Rattle.history.specs.Ways.{dep-both}
-use Rattle.history.specs.Put.{Log, of, putting, notices, depMail}
+use Rattle.history.specs.Put.{Log, Mailed, nothing, of, returning, returnsTo, notices, noticesAbout, depMail}
 use Rattle.history.specs.Calm.{calm-low}
-use Rattle.history.specs.Told.{of-none, calm-done, runs-in, Sent}
+use Rattle.history.specs.Told.{of-none, calm-done, calm-fault, runs-in, Sent}
+use Rattle.history.specs.Traced.{Each, each-append, Waited, Origin, About, Traced, some-page, posts-waited, same-still, still-traced}
+use Rattle.history.specs.Traced.Origin.{unchanged, newly-marked, notified}
+use Rattle.history.specs.Traced.About.{back}
 use Rattle.history.specs.Quiet.{fault-sent}
 use Rattle.history.specs.Returning.{notices-append, Grown, grown-then, grown-same, give-grows}
 use Rattle.history.specs.Emptying.{Aims, aims-on, emptied-grows}
-use Rattle.history.specs.Leaving.{stayed, left-grown, left-aims, bag, bag-procs, bag-q1, bag-q2}
+use Rattle.history.specs.Leaving.{stayed, bag-procs, bag-q1, bag-q2}
+use Rattle.history.specs.Settling.{k, marked, marked-aims, name-is, prior-last, prior-names, prior-pages, prior-waits}
 
 -- ---- the invariant, and what was put since m
 record After (m m1 : List ℕ) (ps : List ℕ) (l : Log) (hs : List ℕ) (g : ℕ) : Type 0 where
@@ -144,28 +153,35 @@ grant-after {m} {m1} {ps} {l} {hs} n u t = go (eqb (getD m1 (grantFor n) 0) 0) r
           grown = rw (append-nil l) at (grown-then (t .grown) g1);
         }))
 
--- ---- "In order: ..; then its own page."
-delete-after : (xs : List ℕ) (p : ℕ) (ys : List ℕ) {m : List ℕ} {L : Lists} {W : View} (b : Base m (xs ++ p ∷ ys) L W [] 32) → 1 ≤ count p (xs ++ p ∷ ys)
-    → W .low runningPage ≢ p → After m (delete m p) (xs ++ ys) (notices m p (L (place p q2) ++ L (place p q1))) [] 32
-unfolding Delete.delete
-delete-after xs p ys {m} {L} {W} b hp d =
-    let n = W .label p % 16 in
-    let u = unlisted m p in
+-- ---- "In order: ..; then its own page.": from where what it sent is marked
+delete-after : (xs : List ℕ) (p : ℕ) (ys : List ℕ) {m : List ℕ} {L : Lists} {W : View} (b : Base m (xs ++ p ∷ ys) L W [] 32) (d : W .low runningPage ≢ p)
+    → After (k xs p ys b d) (delete m p) (xs ++ ys) (notices m p (L (place p q2) ++ L (place p q1))) [] 32
+unfolding Delete.delete Delete.mailSettled
+delete-after xs p ys {m} {L} {W} b d =
+    let hp = in-P xs p ys in
+    let n = lower (W .label p) in
     let r = b .facts .names .range p hp in
     let lp = label-at b p hp in
-    let t = bag xs p ys b d in
+    let t = marked xs p ys b d in
     let e1 = bag-q1 xs p ys b d in
     let e2 = bag-q2 xs p ys b d in
-    let a1 : Aims m p (unlisted m p) (t .q1) = rw e1 (left-aims xs p ys b 5 (omega arith) (omega arith)) in
-    let a2 : Aims m p (unlisted m p) (t .q2) = rw e2 (left-aims xs p ys b 6 (omega arith) (omega arith)) in
-    let x = mail-after m p n n (r .name) (omega arith) (ap (λ (v : ℕ). v % 16) (sym lp)) t a2 a1 in
-    let y : After u (mailReturned u n p) (xs ++ ys) (notices m p (L (place p q2) ++ L (place p q1))) (p ∷ []) n = rw (bag-procs xs p ys b d, e1, e2) at x in
-    rw lp (after-give (grant-after n (omega arith) (record {
-      lists = y .lists;
-      view = y .view;
-      base = y .base;
-      grown = grown-then (left-grown xs p ys b) (y .grown);
-    })))
+    let a1 : Aims m p (k xs p ys b d) (t .q1) = rw e1 (marked-aims xs p ys b d q1 (omega arith) (omega arith)) in
+    let a2 : Aims m p (k xs p ys b d) (t .q2) = rw e2 (marked-aims xs p ys b d q2 (omega arith) (omega arith)) in
+    let x = mail-after m p n n (r .name) (omega arith) (name-is xs p ys b d) t a2 a1 in
+    let y : After (k xs p ys b d) (mailReturned (k xs p ys b d) n p) (xs ++ ys) (notices m p (L (place p q2) ++ L (place p q1))) (p ∷ []) n =
+    rw (bag-procs xs p ys b d, e1, e2) at x in
+    rw lp (after-give (grant-after n (omega arith) y))
+
+-- ---- what the notices are about, Q2 then Q1
+about-append : (m : List ℕ) (p : ℕ) (xs ys : List ℕ) → noticesAbout m p (xs ++ ys) ≡ noticesAbout m p xs ++ noticesAbout m p ys
+unfolding noticesAbout
+about-append m p [] ys = refl
+about-append m p (x ∷ xs) ys = go (eqb (returnsTo m p x) 0) refl (about-append m p xs ys)
+  where
+    go : (c : Bool) → eqb (returnsTo m p x) 0 ≡ c → noticesAbout m p (xs ++ ys) ≡ noticesAbout m p xs ++ noticesAbout m p ys
+        → noticesAbout m p (x ∷ xs ++ ys) ≡ noticesAbout m p (x ∷ xs) ++ noticesAbout m p ys
+    go true e ih = rw (e, noticesAbout, ih)
+    go false e ih = rw (e, noticesAbout, ih)
 
 -- ---- the instruction
 module _ {m : List ℕ} (w : WellFormed m) (d : running m ≢ 0) where
@@ -175,11 +191,19 @@ module _ {m : List ℕ} (w : WellFormed m) (d : running m ≢ 0) where
     abbrev letters : Log
     letters = notices m p (queue m (place p q2) ++ queue m (place p q1))
 
-    -- who is left was there
+    -- who is left was there, and only p is gone; what waits is as it was when it was marked, and the notices
     record Left : Type 0 where
       procs : List ℕ
       were : (y : ℕ) → 1 ≤ count y procs → 1 ≤ count y (processors m)
-      after : After m (delete m p) procs letters [] 32
+      but : (y : ℕ) → 1 ≤ count y (processors m) → y ≢ p → 1 ≤ count y procs
+      gone : count p procs ≡ 0
+      prior : List ℕ
+      waits : (y : ℕ) → 1 ≤ count y procs → waitingFor prior y ≡ waitingFor m y
+      last : (y : ℕ) → 1 ≤ count y procs → held prior y q1 ≡ held m y q1
+      names : (y : ℕ) → 1 ≤ count y procs → word prior y label ≡ word m y label
+      pages : (y w x : ℕ) → 1 ≤ count y procs → q1 ≤ w → w ≤ q2 → 1 ≤ count x (queue prior (place y w))
+          → Waited m prior y x × Fate (name m p) (word m x note) (word m x size) (word prior x size)
+      after : After prior (delete m p) procs letters [] 32
 
     left : Left
     left =
@@ -188,9 +212,16 @@ module _ {m : List ℕ} (w : WellFormed m) (d : running m ≢ 0) where
         record {
           procs = r .0 ++ r .1;
           were = λ y i. rw (listed b, r .2) (stayed (r .0) p (r .1) c y i);
+          but = λ y i e. omega (arith, rw (listed b, r .2) at i, count-more (r .0) p (r .1) y, hit-other y p e);
+          gone = gone (r .0) p (r .1) (c .facts .sep);
+          prior = k (r .0) p (r .1) c n;
+          waits = prior-waits (r .0) p (r .1) c n;
+          last = prior-last (r .0) p (r .1) c n;
+          names = prior-names (r .0) p (r .1) c n;
+          pages = prior-pages (r .0) p (r .1) c n;
           after =
               rw (mail-queue b p q2 h (omega arith) (omega arith), mail-queue b p q1 h (omega arith) (omega arith))
-              (delete-after (r .0) p (r .1) c (rw (r .2) at h) n);
+              (delete-after (r .0) p (r .1) c n);
         }
 
     module _ (len : ℕ) where
@@ -200,7 +231,7 @@ module _ {m : List ℕ} (w : WellFormed m) (d : running m ≢ 0) where
       abbrev m3 : List ℕ
       m3 = memoryOf (Model.done m2 len)
 
-      t : After m m2 (left .procs) letters [] 32
+      t : After (left .prior) m2 (left .procs) letters [] 32
       t = left .after
 
       ended : Same (left .procs) (t .lists) m2 m3
@@ -210,19 +241,104 @@ module _ {m : List ℕ} (w : WellFormed m) (d : running m ≢ 0) where
       procs-are = procs-same (t .base) ended
 
       waits-are : (y : ℕ) → 1 ≤ count y (processors m3) → waitingFor m3 y ≡ waitingFor m y ++ of y letters
-      waits-are y i = let j = rw procs-are at i in waits-same (t .base) (posts ended) y j ∙ t .grown .waits y j
+      waits-are y i =
+          let j = rw procs-are at i in
+          waits-same (t .base) (posts ended) y j ∙ t .grown .waits y j ∙ ap (λ (l : List Letter). l ++ of y letters) (left .waits y j)
 
       last-is : (y : ℕ) → 1 ≤ count y (processors m3) → held m3 y q1 ≡ held m y q1 ++ of y letters
-      last-is y i = let j = rw procs-are at i in held-same (t .base) (posts ended) y q1 j (omega arith) (omega arith) ∙ t .grown .last y j
+      last-is y i =
+          let j = rw procs-are at i in
+          held-same (t .base) (posts ended) y q1 j (omega arith) (omega arith) ∙ t .grown .last y j
+          ∙ ap (λ (l : List Letter). l ++ of y letters) (left .last y j)
 
-      deleted-sent : Sent m m3 (putting letters)
+      deleted-sent : Sent m m3 (returning m p (queue m (place p q2) ++ queue m (place p q1)))
       deleted-sent = record {
         told = record {
           at = λ y h i k f. rw (of-none y, waits-are y i);
-          keeps = λ y h i. (let j = rw procs-are at i in label-same ended y j ∙ t .grown .names y j);
+          keeps = λ y h i. (let j = rw procs-are at i in label-same ended y j ∙ t .grown .names y j ∙ left .names y j);
           born = λ y h i. absurd (omega (arith, left .were y (rw procs-are at i)));
         };
         stands = record { at = λ y i. (held m y q1, last-is y i) };
+      }
+
+      -- ---- by pages
+      -- one name, one processor
+      alone : (y : ℕ) → 1 ≤ count y (processors m) → name m y ≡ name m p → y ≡ p
+      alone y i e = go (hit-or y p)
+        where
+          go : (y ≡ p) ⊎ (y ≢ p) → y ≡ p
+          go (inl z) = z
+          go (inr z) = absurd (omega (arith, each-two (λ v. name m v) y p (lists m processorList) z e (rw (listed b) at i) h, b .facts .names .differ p h))
+
+      abbrev mail : Mailed
+      mail = returning m p (queue m (place p q2) ++ queue m (place p q1))
+
+      from : (y w x : ℕ) → 1 ≤ count y (processors m3) → q1 ≤ w → w ≤ q2 → 1 ≤ count x (queue m3 (place y w)) → Origin m m3 mail y x
+      from y w x i u v c = second (t .grown .pages y (a .0 .head) x j (a .0 .low) (a .0 .high) (a .0 .here))
+        where
+          j : 1 ≤ count y (left .procs)
+          j = rw procs-are at i
+
+          a : Waited m2 m3 y x × (word m3 x size ≡ word m2 x size)
+          a = posts-waited (t .base) (posts ended) y w x j u v c
+
+          first : Waited m m3 y x → word m3 x size ≡ word (left .prior) x size → Fate (name m p) (word m x note) (word m x size) (word (left .prior) x size)
+              → Origin m m3 mail y x
+          first o e (marks l f g) =
+              newly-marked o (e ∙ g) (some-page m3 (place y w) x c) (lt-ltb (word m x size) mark l) (λ r k q. rw (procs-are, alone r k (q ∙ f)) (left .gone))
+          first o e (stays l g) =
+              unchanged o (e ∙ g) (some-page m3 (place y w) x c) (λ z r k q. rw procs-are (left .but r k (λ s.
+              l (ltb-true (word m x size) mark z) (sym q ∙ ap (λ (z : ℕ). name m z) s))))
+
+          second : (Waited (left .prior) m2 y x × (word m2 x size ≡ word (left .prior) x size)) ⊎ (word m2 x size ≡ notice) → Origin m m3 mail y x
+          second (inr z) = notified (a .1 ∙ z)
+          second (inl z) =
+              let q = left .pages y (z .0 .head) x j (z .0 .low) (z .0 .high) (z .0 .here) in
+              first (record {
+                head = q .0 .head;
+                low = q .0 .low;
+                high = q .0 .high;
+                here = q .0 .here;
+                note = a .0 .note ∙ z .0 .note ∙ q .0 .note;
+              }) (a .1 ∙ z .1) (q .1)
+
+      -- to whom a message goes back
+      goes : (q : ℕ) → returnsTo m p q ≢ 0
+          → (isUnmarked (word m q size) ≡ true) × (1 ≤ count (returnsTo m p q) (processors m)) × (name m (returnsTo m p q) ≡ sender m q)
+      unfolding returnsTo Processor.isNamed
+      goes q o = go (isUnmarked (word m q size)) (eqb (sender m q) (name m p)) refl refl
+        where
+          go : (x y : Bool) → isUnmarked (word m q size) ≡ x → eqb (sender m q) (name m p) ≡ y
+              → (isUnmarked (word m q size) ≡ true) × (1 ≤ count (returnsTo m p q) (processors m)) × (name m (returnsTo m p q) ≡ sender m q)
+          go false y e f = absurd (o (rw e))
+          go true true e f = absurd (o (rw (e, f)))
+          go true false e f =
+              let z : returnsTo m p q ≡ pageOf m (sender m q) = rw (e, f) in
+              let i = first-in (isNamed m (sender m q)) (processors m) (λ s. o (z ∙ s)) in
+              (e, rw z (i .0), rw z (eqb-true (name m (pageOf m (sender m q))) (sender m q) (i .1)))
+
+      backs : (w : ℕ) → q1 ≤ w → w ≤ q2 → (zs : List ℕ) → ((z : ℕ) → 1 ≤ count z zs → 1 ≤ count z (queue m (place p w)))
+          → Each (λ (y : ℕ × ℕ). About m 0 (y .0) (y .1)) (noticesAbout m p zs)
+      unfolding noticesAbout
+      backs w u v [] i = tt
+      backs w u v (q ∷ zs) i = go (eqb (returnsTo m p q) 0) refl (backs w u v zs (λ z c. i z (omega arith)))
+        where
+          go : (c : Bool) → eqb (returnsTo m p q) 0 ≡ c → Each (λ (y : ℕ × ℕ). About m 0 (y .0) (y .1)) (noticesAbout m p zs)
+              → Each (λ (y : ℕ × ℕ). About m 0 (y .0) (y .1)) (noticesAbout m p (q ∷ zs))
+          go true e ih = rw (e, noticesAbout) ih
+          go false e ih =
+              let g = goes q (eqb-false (returnsTo m p q) 0 e) in
+              let j = i q (omega (arith, hit-self q)) in
+              rw (e, noticesAbout) (back (some-page m (place p w) q j) p w (rw (listed b) h) u v j (g .0) (g .1) (g .2), ih)
+
+      deleted-traced : Traced m m3 mail
+      deleted-traced = record {
+        pages = λ y w x i j u v c. from y w x j u v c;
+        about =
+            rw (about-append m p (queue m (place p q2)) (queue m (place p q1))) (each-append (λ (y : ℕ × ℕ). About m 0 (y .0) (y .1))
+            (noticesAbout m p (queue m (place p q2))) (noticesAbout m p (queue m (place p q1)))
+            (backs q2 (omega arith) (omega arith) (queue m (place p q2)) (λ z c. c)) (backs q1 (omega arith) (omega arith) (queue m (place p q1)) (λ z c. c)));
+        written = λ y x o e. absurd (o refl);
       }
 
   -- "10 NI isn't stopped": the one that runs is not
@@ -235,3 +351,7 @@ module _ {m : List ℕ} (w : WellFormed m) (d : running m ≢ 0) where
   pub dep-sent : (n len : ℕ) → Sent m (memoryOf (Model.named m 12 n len)) (depMail m n)
   dep-sent n len = dep-both m (λ o e. Sent m (memoryOf o) e) (λ f i j. fault-sent w d f) n len (λ g.
       deleted-sent (pageOf m n) (named-in b n (g .found)) (others (pageOf m n) (g .stopped)) len)
+
+  pub dep-traced : (n len : ℕ) → Traced m (memoryOf (Model.named m 12 n len)) (depMail m n)
+  dep-traced n len = dep-both m (λ o e. Traced m (memoryOf o) e) (λ f i j. still-traced (same-still b (calm-fault b d f)) nothing refl refl) n len (λ g.
+      deleted-traced (pageOf m n) (named-in b n (g .found)) (others (pageOf m n) (g .stopped)) len)

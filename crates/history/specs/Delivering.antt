@@ -1,13 +1,14 @@
 -- A message in hand, delivered to the processor of page p: it stands at the end of Q1 of p, behind all that waits for p; for every other processor all stays as
 -- it was, word for word. Assumes nothing.
 use mathlib.Core.Path.{_≡_, sym, ap, _∙_}
-use mathlib.Core.Logic.{_≢_}
+use mathlib.Core.Logic.{_≢_, _⊎_, inl, inr}
 use mathlib.Core.List.{List, [], _∷_, _++_, append-assoc, map}
 use Prim.Native.Nat.{ℕ, _≤_}
 use native.Mathlib.Omega.{arith}
 use Rattle.model.specs.Map.{lastFlag, lower, pair, place, q1, q2, upper}
 use Rattle.model.specs.Bytes.{deliver, queue, makeNotice}
 use Rattle.model.specs.Lists.{count, Lists}
+use Rattle.laws.specs.Count.{hit-or, hit-other, count-append}
 use Rattle.laws.specs.Inv.{View, Message, Base}
 use Rattle.laws.specs.Post.{Delivered, deliver-all, deliver-frame, notice-words}
 use Rattle.laws.specs.Mails.{mail-queue}
@@ -63,3 +64,30 @@ module _ {m : List ℕ} {ps : List ℕ} {L : Lists} {W : View} {hs : List ℕ} {
       let e5 : held (deliver m p q) y q1 ≡ held m y q1 = stays y q1 h (omega arith) (omega arith) (omega arith) in
       let e6 : held (deliver m p q) y q2 ≡ held m y q2 = stays y q2 h (omega arith) (omega arith) (omega arith) in
       rw (waits-held (deliver m p q) y, waits-held m y, e5, e6)
+
+  -- by pages: it is the one that is new
+  pub delivered-from : (y w x : ℕ) → 1 ≤ count y ps → q1 ≤ w → w ≤ q2 → 1 ≤ count x (queue (deliver m p q) (place y w))
+      → (1 ≤ count x (queue m (place y w))) ⊎ (x ≡ q)
+  delivered-from y w x h u v i = go (hit-or y p) (hit-or w q1)
+    where
+      i2 : 1 ≤ count x (all .gave .lists (place y w))
+      i2 = rw (mail-queue (all .gave .base) y w h u v) at i
+
+      away : place y w ≢ place p q1 → 1 ≤ count x (queue m (place y w))
+      away n = rw (mail-queue b y w h u v) (rw (all .others (place y w) n (omega arith)) at i2)
+
+      here : y ≡ p → w ≡ q1 → (x ≡ q) ⊎ (x ≢ q) → (1 ≤ count x (queue m (place y w))) ⊎ (x ≡ q)
+      here e f (inl z) = inr z
+      here e f (inr d) =
+          let i3 = rw (e, f, all .here) at i2 in
+          inl (rw (mail-queue b y w h u v, e, f) (omega (arith, i3, count-append x (L (place p q1)) (q ∷ []), hit-other x q d)))
+
+      go : (y ≡ p) ⊎ (y ≢ p) → (w ≡ q1) ⊎ (w ≢ q1) → (1 ≤ count x (queue m (place y w))) ⊎ (x ≡ q)
+      go (inl e) (inl f) = here e f (hit-or x q)
+      go (inl e) (inr f) = inl (away (omega arith))
+      go (inr e) f = inl (away (omega arith))
+
+  pub delivered-pages : queue (deliver m p q) (place p q1) ≡ queue m (place p q1) ++ q ∷ []
+  delivered-pages =
+      mail-queue (all .gave .base) p q1 hp (omega arith) (omega arith) ∙ all .here
+      ∙ ap (λ (l : List ℕ). l ++ q ∷ []) (sym (mail-queue b p q1 hp (omega arith) (omega arith)))

@@ -9,8 +9,9 @@ use native.Mathlib.Omega.{arith}
 use lib.ListN.{length, set}
 use lib.Dec.{eqb}
 use borrow.Author.Tests.{eqb-false}
-use Rattle.model.specs.Map.{lower, notice, q1, q2, upper}
+use Rattle.model.specs.Map.{isUnmarked, lower, q1, q2, upper}
 use Rattle.model.specs.Map.{label, link, note, place, size}
+use Rattle.model.specs.Address.{unless}
 use Rattle.model.specs.Bytes.{name, store, word}
 use Rattle.model.specs.Delete as Delete
 use Rattle.model.specs.Bytes.{pageOf, returned, emptied}
@@ -32,19 +33,19 @@ use Rattle.history.specs.Returning.{sentBack, notices-next, notices-none
 
 -- ---- to whom message q goes back, by the memory of that moment; 0: to none
 abbrev pub backTo : List ℕ → ℕ → ℕ
-backTo m q = cond (eqb (word m q size) notice) 0 (pageOf m (upper (word m q note)))
+backTo m q = unless (isUnmarked (word m q size)) 0 (pageOf m (upper (word m q note)))
 
 module _ {m : List ℕ} {ps : List ℕ} {L : Lists} {W : View} {hs : List ℕ} {g q : ℕ} (b : Base m ps L W (q ∷ hs) g) where
   returned-grows : (n : ℕ) → 1 ≤ n → n ≤ 15 → Message (word m q note) (word m q size)
       → Grown ps m (returned m n q) (sentBack (backTo m q) n (lower (word m q note)))
   unfolding Delete.returned Delete.noticed
-  returned-grows n n1 n2 t = go (eqb (word m q size) notice) (eqb (pageOf m (upper (word m q note))) 0) refl refl
+  returned-grows n n1 n2 t = go (isUnmarked (word m q size)) (eqb (pageOf m (upper (word m q note))) 0) refl refl
     where
-      go : (x y : Bool) → eqb (word m q size) notice ≡ x → eqb (pageOf m (upper (word m q note))) 0 ≡ y
+      go : (x y : Bool) → isUnmarked (word m q size) ≡ x → eqb (pageOf m (upper (word m q note))) 0 ≡ y
           → Grown ps m (returned m n q) (sentBack (backTo m q) n (lower (word m q note)))
-      go true y e f = rw e (give-grows b)
-      go false true e f = rw (e, f) (give-grows b)
-      go false false e f =
+      go false y e f = rw e (give-grows b)
+      go true true e f = rw (e, f) (give-grows b)
+      go true false e f =
           let r = pageOf m (upper (word m q note)) in
           let hp = named-in b (upper (word m q note)) (eqb-false r 0 f) in
           rw (e, f) (notice-grows b n (lower (word m q note)) r n1 n2 (t .flag) (t .small) hp)

@@ -33,10 +33,9 @@ use Rattle.laws.specs.Grants.{each-two}
 use Rattle.laws.specs.Members.{count-more}
 use Rattle.laws.specs.Shrink.{in-P, gone, shrink-mem, left-is}
 use Rattle.laws.specs.Shrink as Shrink
-use Rattle.laws.specs.Leave.{Bag, seat-is, queued-in, unlisted-bag}
+use Rattle.laws.specs.Leave.{Bag, tot-short, seat-is, queued-in, unlisted-bag}
 use Rattle.laws.specs.Simple.{first-in, first-yes, first-no, named-same}
 use Rattle.laws.specs.Who.{label-at, listed}
-use Rattle.laws.specs.Delete.{tot-short}
 use Rattle.history.specs.Letter.{Same, Posts, queue-same, texts-same}
 use Rattle.history.specs.Letter.Ours.{mail}
 use Rattle.history.specs.Put.{returnsTo}
@@ -101,7 +100,7 @@ module _ (xs : List ℕ) (p : ℕ) (ys : List ℕ) {m : List ℕ} {L : Lists} {W
   not-gone : (y : ℕ) → 1 ≤ count y (xs ++ ys) → y ≢ p
   not-gone y h e = omega (arith, ap (λ (z : ℕ). count z (xs ++ ys)) e, gone xs p ys s)
 
-  left-posts : Posts (xs ++ p ∷ ys) L m (unlisted m p)
+  pub left-posts : Posts (xs ++ p ∷ ys) L m (unlisted m p)
   unfolding Delete.unlisted
   left-posts = record {
     at = λ c i.
@@ -116,7 +115,7 @@ module _ (xs : List ℕ) (p : ℕ) (ys : List ℕ) {m : List ℕ} {L : Lists} {W
       let Z = o .view in
       (withWords Z (put1 (Z .note) p 0) (put1 (Z .size) p (Z .reason p)) (Z .reason) (Z .label) (Z .state), o .label, shrink-mem xs p ys (o .sep) (o .mem))
 
-  left-names : (y : ℕ) → Page y → Memory.word u y Map.label ≡ Memory.word m y Map.label
+  pub left-names : (y : ℕ) → Page y → Memory.word u y Map.label ≡ Memory.word m y Map.label
   left-names y g = left-mem .2 .reads .words .label y g ∙ left-mem .1 y ∙ sym (b .mem .reads .words .label y g)
 
   left-procs : processors (unlisted m p) ≡ xs ++ ys

@@ -108,7 +108,7 @@ words-moved m m′ a b (suc n) la lb h =
 abbrev pub Texts : List ℕ → List ℕ → ℕ → Type 0
 Texts m m′ x = (j : ℕ) → note ≤ j → j < pageSize → word m′ x j ≡ word m x j
 
--- "word 2 of a message 0-29 or 128"
+-- "word 2 of a message 0-29, 64-93 or 128": modulo 64 at most 29
 abbrev pub Sized : List ℕ → ℕ → Type 0
 Sized m x = lengthIn (word m x Map.size) ≤ longest
 
@@ -199,14 +199,8 @@ same-on f g = record { at = λ c h. g .at c h ∙ f .at c h }
 module _ {m : List ℕ} {ps : List ℕ} {L : Lists} {W : View} {hs : List ℕ} {g : ℕ} (b : Base m ps L W hs g) where
   pub letter-sized : (p w x : ℕ) → 1 ≤ count p ps → q1 ≤ w → w ≤ q2 → 1 ≤ count x (L (place p w)) → Sized m x
   letter-sized p w x h u v i =
-      let t = b .facts .mail p w h u v x i in
       let n = q-free (b .facts .sep) p w x u v h i in
-      let e = b .mem .reads .words .size x (n .0) (n .1) in
-      go (hit-or (word m x Map.size) notice) t e
-    where
-      go : (word m x Map.size ≡ notice) ⊎ (word m x Map.size ≢ notice) → Message (W .note x) (W .size x) → word m x Map.size ≡ W .size x → Sized m x
-      go (inl z) t e = omega arith
-      go (inr z) t e = let y = t .long (λ f. z (e ∙ f)) in omega arith
+      rw (b .mem .reads .words .size x (n .0) (n .1)) (b .facts .mail p w h u v x i .long)
 
   module _ {m′ : List ℕ} (s : Posts ps L m m′) where
     pub chain-same : (p w : ℕ) → 1 ≤ count p ps → q1 ≤ w → w ≤ q2 → Chain m′ 0 (place p w) (L (place p w))

@@ -7,6 +7,7 @@ pub mod Ways
 -- What leaves mail alone: steps, how a call ends, interrupts, the instructions without mail
 pub mod Calm
 pub mod Told
+pub mod Traced
 pub mod Clocks
 pub mod Quiet
 -- SME
@@ -27,6 +28,8 @@ pub mod Making
 pub mod Returning
 pub mod Emptying
 pub mod Leaving
+pub mod Marking
+pub mod Settling
 pub mod Deleting
 -- The instruction as a whole, the other calls
 pub mod Whole

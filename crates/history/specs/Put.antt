@@ -13,7 +13,7 @@ use Rattle.model.specs.Address.{unless, wrapped, guarded, clear}
 use Rattle.model.specs.Page.{Taken}
 use Rattle.model.specs.Page.Taken.{took}
 use Rattle.model.specs.Instruction.{exiCode, firstWord, lengthFor, shapeFor, builtIn}
-use Rattle.model.specs.Bytes.{at, queue, running, name, pageOf, takePage, inQ2, lengthOf, sender, flag, isNotice, stopped, kind, isForeign, argumentFault}
+use Rattle.model.specs.Bytes.{at, queue, running, name, pageOf, takePage, inQ2, lengthOf, sender, flag, unmarked, stopped, kind, isForeign, argumentFault}
 use Rattle.model.specs.Bytes.{pointed, direct, indexed, codeAt, finding, lr}
 use Rattle.history.specs.Letter.{Letter, words, mailOf}
 
@@ -21,23 +21,27 @@ use Rattle.history.specs.Letter.{Letter, words, mailOf}
 abbrev pub Log : Type 0
 Log = List (ℕ × Letter)
 
--- what is put, what is read, and where the first word that was read is written
+-- what is put, what is read, and where the first word that was read is written; the page on which the one that runs wrote what it sends, 0 for none; and of
+-- each notice that is put, to whom, with the page of the message that it is about
 pub record Mailed : Type 0 where
   pub puts : Log
   pub reads : Log
   pub target : ℕ
-
-abbrev pub putting : Log → Mailed
-putting l = record { puts = l; reads = []; target = 0 }
+  pub wrote : ℕ
+  pub about : List (ℕ × ℕ)
 
 abbrev pub nothing : Mailed
-nothing = putting []
+nothing = record { puts = []; reads = []; target = 0; wrote = 0; about = [] }
 
 abbrev pub reading : ℕ → Letter → ℕ → Mailed
-reading p x a = record { puts = []; reads = (p, x) ∷ []; target = a }
+reading p x a = record { puts = []; reads = (p, x) ∷ []; target = a; wrote = 0; about = [] }
+
+-- message x is sent on page q; a notice is about the message that was to be sent
+abbrev pub sending : ℕ × Letter → ℕ → Mailed
+sending x q = record { puts = x ∷ []; reads = []; target = 0; wrote = q; about = cond (x .1 .notice) ((x .0, q) ∷ []) [] }
 
 -- those of page p
-unfoldable pub of : ℕ → Log → List Letter
+unfoldable pub of : {A : Type 0} → ℕ → List (ℕ × A) → List A
 of p [] = []
 of p (x ∷ xs) = elim (eqb p (x .0)) [ true ↦ x .1 ∷ of p xs | false ↦ of p xs ]
 
@@ -54,6 +58,9 @@ posting m n f a =
 unfoldable pub hasPage : Taken (List ℕ) → Bool
 hasPage (took q m) = cond (eqb q 0) false true
 
+unfoldable pub pageTaken : Taken (List ℕ) → ℕ
+pageTaken (took q m) = q
+
 unfoldable pub smeMail : List ℕ → ℕ → ℕ → ℕ → Mailed
 smeMail m n f a =
     cond (eqb n 0) nothing
@@ -61,7 +68,7 @@ smeMail m n f a =
     (cond (guarded a) nothing
     (cond (ltb longest (at m a)) nothing
     (unless (clear (at m a) (wrapped a 1)) nothing
-    (cond (hasPage (takePage m (running m))) (putting (posting m n f a ∷ [])) nothing)))))
+    (cond (hasPage (takePage m (running m))) (sending (posting m n f a) (pageTaken (takePage m (running m)))) nothing)))))
 
 -- ---- RME: the first match in Q2
 unfoldable pub rmeMail : List ℕ → ℕ → ℕ → ℕ → Mailed
@@ -70,9 +77,9 @@ rmeMail m n f a =
     (unless (clear (headWords + lengthOf m (inQ2 m n f)) a) nothing
     (reading (running m) (mailOf m (inQ2 m n f)) a))
 
--- ---- DEP: notices to the senders that exist, Q2 then Q1; the deleted one, of page p, is no longer one of them
+-- ---- DEP: notices to the senders that exist, Q2 then Q1; the deleted one, of page p, is no longer one of them. Nothing for marked mail
 unfoldable pub returnsTo : List ℕ → ℕ → ℕ → ℕ
-returnsTo m p q = cond (isNotice m q) 0 (cond (eqb (sender m q) (name m p)) 0 (pageOf m (sender m q)))
+returnsTo m p q = unless (unmarked m q) 0 (cond (eqb (sender m q) (name m p)) 0 (pageOf m (sender m q)))
 
 unfoldable pub notices : List ℕ → ℕ → List ℕ → Log
 notices m p [] = []
@@ -81,12 +88,20 @@ notices m p (q ∷ qs) = elim (eqb (returnsTo m p q) 0) [
   | false ↦ (returnsTo m p q, noticeFrom (name m p) (flag m q)) ∷ notices m p qs
 ]
 
+-- each with the page of the message that goes back
+unfoldable pub noticesAbout : List ℕ → ℕ → List ℕ → List (ℕ × ℕ)
+noticesAbout m p [] = []
+noticesAbout m p (q ∷ qs) = elim (eqb (returnsTo m p q) 0) [ true ↦ noticesAbout m p qs | false ↦ (returnsTo m p q, q) ∷ noticesAbout m p qs ]
+
+abbrev pub returning : List ℕ → ℕ → List ℕ → Mailed
+returning m p qs = record { puts = notices m p qs; reads = []; target = 0; wrote = 0; about = noticesAbout m p qs }
+
 unfoldable pub depMail : List ℕ → ℕ → Mailed
 depMail m n =
     cond (eqb n 0) nothing
     (cond (eqb (pageOf m n) 0) nothing
     (unless (stopped m (pageOf m n)) nothing
-    (putting (notices m (pageOf m n) (queue m (place (pageOf m n) q2) ++ queue m (place (pageOf m n) q1))))))
+    (returning m (pageOf m n) (queue m (place (pageOf m n) q2) ++ queue m (place (pageOf m n) q1)))))
 
 -- ---- any instruction, in the order of the codes; e is what EXI does
 unfoldable pub runMail : (List ℕ → Arguments → Mailed) → List ℕ → ℕ → Arguments → Mailed

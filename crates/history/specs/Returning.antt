@@ -7,26 +7,28 @@ use mathlib.Core.List.{List, [], _∷_, _++_, append-nil, append-assoc}
 use Prim.Native.Nat.{ℕ, _%_, _≤_}
 use native.Mathlib.Omega.{arith}
 use lib.Dec.{eqb}
-use Rattle.model.specs.Map.{lower, q1}
-use Rattle.model.specs.Map.{label, note, place}
+use Rattle.model.specs.Map.{label, lower, note, notice, place, q1, q2, size}
 use Rattle.model.specs.Bytes.{name, word}
-use Rattle.model.specs.Bytes.{giveBack, deliver, makeNotice}
+use Rattle.model.specs.Bytes.{giveBack, deliver, makeNotice, queue}
 use Rattle.model.specs.Lists.{count, Lists}
 use Rattle.laws.specs.Count.{hit-or}
 use Rattle.laws.specs.Chain.{Page}
 use Rattle.laws.specs.Uses.{proc-page}
+use Rattle.laws.specs.Places.{q-free}
+use Rattle.laws.specs.Mails.{mail-queue}
 use Rattle.laws.specs.Inv.{View, Message, Base}
-use Rattle.laws.specs.Changes.{hand-out}
+use Rattle.laws.specs.Changes.{hand-out, hand-page}
 use Rattle.laws.specs.Hands.{in-hand, hand-base}
 use Rattle.laws.specs.Grants.{give-frame}
-use Rattle.laws.specs.Post.{retold-letter, notice-only, notice-letter, deliver-frame}
+use Rattle.laws.specs.Post.{retold-letter, notice-only, notice-words, notice-letter, deliver-frame}
 use Rattle.laws.specs.Aside.{aside-hand}
 use Rattle.laws.specs.Stores.{only-word}
-use Rattle.history.specs.Letter.{Letter, mailOf, waitingFor, Posts, posts, waits-same, held, held-same}
+use Rattle.history.specs.Letter.{Letter, mailOf, waitingFor, Posts, posts, waits-same, held, held-same, Texted}
 use Rattle.history.specs.Put.{Log, of, noticeFrom, returnsTo, notices}
 use Rattle.history.specs.Calm.{calm-only, calm-give}
 use Rattle.history.specs.Told.{of-none, of-here, of-other, of-append}
-use Rattle.history.specs.Delivering.{delivered-last, delivered-other, delivered-here, delivered-away, notice-mail}
+use Rattle.history.specs.Traced.{Waited, posts-waited}
+use Rattle.history.specs.Delivering.{delivered-last, delivered-other, delivered-here, delivered-away, delivered-texts, delivered-from, notice-mail}
 
 -- ---- what is put, one after the other
 -- the notice from the name n with flag f to the processor of page r, if there is one
@@ -54,25 +56,42 @@ notices-append m p (x ∷ xs) ys =
     notices-next m p x (xs ++ ys) ∙ ap {B = Log} (λ k. l ++ k) (notices-append m p xs ys) ∙ sym (append-assoc l (notices m p xs) (notices m p ys))
     ∙ ap {B = Log} (λ k. k ++ notices m p ys) (sym (notices-next m p x xs))
 
--- ---- from m to m1 what waits for the processors ps grows by l, at the end of Q1, and their names stay
+-- ---- from m to m1 what waits for the processors ps grows by l, at the end of Q1, and their names stay; by pages, what waits is a notice, or waited and is as
+-- it was
 pub record Grown (ps : List ℕ) (m m1 : List ℕ) (l : Log) : Type 0 where
   pub waits : (y : ℕ) → 1 ≤ count y ps → waitingFor m1 y ≡ waitingFor m y ++ of y l
   pub last : (y : ℕ) → 1 ≤ count y ps → held m1 y q1 ≡ held m y q1 ++ of y l
   pub names : (y : ℕ) → 1 ≤ count y ps → word m1 y label ≡ word m y label
+  pub pages : (y w x : ℕ) → 1 ≤ count y ps → q1 ≤ w → w ≤ q2 → 1 ≤ count x (queue m1 (place y w))
+      → (Waited m m1 y x × (word m1 x size ≡ word m x size)) ⊎ (word m1 x size ≡ notice)
 
 pub grown-refl : (ps m : List ℕ) → Grown ps m m []
 grown-refl ps m = record {
   waits = λ y h. rw (of-none y) (sym (append-nil (waitingFor m y)));
   last = λ y h. rw (of-none y) (sym (append-nil (held m y q1)));
   names = λ y h. refl;
+  pages = λ y w x h u v i. inl (record { head = w; low = u; high = v; here = i; note = refl }, refl);
 }
 
 pub grown-then : {ps m m1 m2 : List ℕ} {l k : Log} → Grown ps m m1 l → Grown ps m1 m2 k → Grown ps m m2 (l ++ k)
-grown-then {m = m} {l = l} {k = k} f g = record {
+grown-then {ps = ps} {m = m} {m1 = m1} {m2 = m2} {l = l} {k = k} f g = record {
   waits = λ y h. rw (g .waits y h, f .waits y h, of-append y l k) (append-assoc (waitingFor m y) (of y l) (of y k));
   last = λ y h. rw (g .last y h, f .last y h, of-append y l k) (append-assoc (held m y q1) (of y l) (of y k));
   names = λ y h. g .names y h ∙ f .names y h;
+  pages = λ y w x h u v i. on y x h (g .pages y w x h u v i);
 }
+  where
+    before : (y x : ℕ) (a : Waited m1 m2 y x) → word m2 x size ≡ word m1 x size
+        → (Waited m m1 y x × (word m1 x size ≡ word m x size)) ⊎ (word m1 x size ≡ notice)
+        → (Waited m m2 y x × (word m2 x size ≡ word m x size)) ⊎ (word m2 x size ≡ notice)
+    before y x a e (inr z) = inr (e ∙ z)
+    before y x a e (inl c) =
+        inl (record { head = c .0 .head; low = c .0 .low; high = c .0 .high; here = c .0 .here; note = a .note ∙ c .0 .note }, e ∙ c .1)
+
+    on : (y x : ℕ) → 1 ≤ count y ps → (Waited m1 m2 y x × (word m2 x size ≡ word m1 x size)) ⊎ (word m2 x size ≡ notice)
+        → (Waited m m2 y x × (word m2 x size ≡ word m x size)) ⊎ (word m2 x size ≡ notice)
+    on y x h (inr z) = inr z
+    on y x h (inl a) = before y x (a .0) (a .1) (f .pages y (a .0 .head) x h (a .0 .low) (a .0 .high) (a .0 .here))
 
 -- for some of them
 pub grown-same : {m : List ℕ} {ps : List ℕ} {L : Lists} {W : View} {hs : List ℕ} {g : ℕ} (b : Base m ps L W hs g) {m1 : List ℕ} → Posts ps L m m1
@@ -82,6 +101,7 @@ grown-same {m} b s qs i n = record {
   waits = λ y h. rw (of-none y, waits-same b s y (i y h)) (sym (append-nil (waitingFor m y)));
   last = λ y h. rw (of-none y, held-same b s y q1 (i y h) (omega arith) (omega arith)) (sym (append-nil (held m y q1)));
   names = n;
+  pages = λ y w x h u v j. inl (posts-waited b s y w x (i y h) u v j);
 }
 
 -- ---- names stay
@@ -123,8 +143,38 @@ module _ {m : List ℕ} {ps : List ℕ} {L : Lists} {W : View} {hs : List ℕ} {
         names = λ y h.
             let d : y ≢ q = λ e. omega (arith, ap (λ (z : ℕ). count z ps) e, hand-out b q (in-hand b)) in
             deliver-names b2 y h p hp t ∙ only-word o y 7 d (omega arith);
+        pages = λ y w x h u v i. from y w x h u v (delivered-from b2 p hp t y w x h u v i);
       }
     where
+      m1 : List ℕ
+      m1 = deliver (makeNotice m q n f) p q
+
+      texts : Texted ps (makeNotice m q n f) (deliver (makeNotice m q n f) p q)
+      texts =
+          let o = notice-only b n f in
+          delivered-texts (hand-base q (in-hand b) o b) p hp (retold-letter b o (notice-letter b n f n1 n2 f1 f2))
+
+      from : (y w x : ℕ) → 1 ≤ count y ps → q1 ≤ w → w ≤ q2 → (1 ≤ count x (queue (makeNotice m q n f) (place y w))) ⊎ (x ≡ q)
+          → (Waited m (deliver (makeNotice m q n f) p q) y x × (word (deliver (makeNotice m q n f) p q) x size ≡ word m x size))
+          ⊎ (word (deliver (makeNotice m q n f) p q) x size ≡ notice)
+      from y w x h u v (inr e) =
+          let c = in-hand b in
+          inr (rw e (texts .at q (hand-page b q c) (hand-out b q c) size (omega arith) (omega arith) ∙ notice-words b n f .1))
+      from y w x h u v (inl i) =
+          let a = posts-waited b (notice-posts n f) y w x h u v i in
+          let j = rw (mail-queue b y (a .0 .head) h (a .0 .low) (a .0 .high)) at (a .0 .here) in
+          let c = q-free (b .facts .sep) y (a .0 .head) x (a .0 .low) (a .0 .high) h j in
+          inl (
+            record {
+              head = a .0 .head;
+              low = a .0 .low;
+              high = a .0 .high;
+              here = a .0 .here;
+              note = texts .at x (c .0) (c .1) note (omega arith) (omega arith) ∙ a .0 .note;
+            },
+            texts .at x (c .0) (c .1) size (omega arith) (omega arith) ∙ a .1,
+          )
+
       grows : (F : List ℕ → ℕ → List Letter) (y : ℕ)
           → F (deliver (makeNotice m q n f) p q) p ≡ F (makeNotice m q n f) p ++ mailOf (makeNotice m q n f) q ∷ []
           → (y ≢ p → F (deliver (makeNotice m q n f) p q) y ≡ F (makeNotice m q n f) y) → F (makeNotice m q n f) y ≡ F m y → (y ≡ p) ⊎ (y ≢ p)

@@ -11,7 +11,7 @@ use lib.Dec.{eqb}
 use borrow.Author.Tests.{eqb-false, ne-eqb}
 use Rattle.model.specs.Map.{q1}
 use Rattle.model.specs.Map as Map
-use Rattle.model.specs.Map.{guardedLast, label, longest, memorySize, note, notice, place, processorList}
+use Rattle.model.specs.Map.{guardedLast, label, lengthIn, longest, memorySize, note, notice, place, processorList}
 use Rattle.model.specs.Address.{wrapped}
 use Rattle.model.specs.Bytes.{name, store, word}
 use Rattle.model.specs.Address.{clear}
@@ -41,7 +41,7 @@ use Rattle.history.specs.Order.{only}
 use Rattle.history.specs.Letter.{Letter, mailOf, words, key, waitingFor, Same, posts, posts-then, agrees, waits-same, procs-same, words-moved, held}
 use Rattle.history.specs.Letter.{held-same, label-same}
 use Rattle.history.specs.Ways.{sme-both, sent-both}
-use Rattle.history.specs.Put.{Mailed, of, nothing, putting, noticeFrom, posting, hasPage, smeMail}
+use Rattle.history.specs.Put.{Mailed, of, nothing, sending, noticeFrom, posting, hasPage, pageTaken, smeMail}
 use Rattle.history.specs.Calm.{calm-only}
 use Rattle.history.specs.Told.{Told, Stands, of-none, of-here, of-other, calm-done, runs-in, Sent, sent-same}
 use Rattle.history.specs.Quiet.{fault-sent}
@@ -84,7 +84,7 @@ module _ {m : List ℕ} {ps : List ℕ} {L : Lists} {W : View} (b : Base m ps L 
   abbrev x : Letter
   x = mailOf m2 q
 
-  put-told : Told m m4 (putting ((p, x) ∷ []))
+  put-told : Told m m4 (sending (p, x) q)
   put-told = record {
     at = λ y h i k f. ap (only (key k f)) (rw (of-none y) (cases y (rw (listed b) at h) (hit-or y p)));
     keeps = λ y h i.
@@ -98,7 +98,7 @@ module _ {m : List ℕ} {ps : List ℕ} {L : Lists} {W : View} (b : Base m ps L 
       cases y h (inl e) = rw (e, of-here p x) (late p hp ∙ delivered-here b2 p hp t2 ∙ ap (λ (l : List Letter). l ++ x ∷ []) (early p hp))
       cases y h (inr n) = rw (of-other y p x n, append-nil (waitingFor m y)) (late y h ∙ delivered-away b2 p hp t2 y h n ∙ early y h)
 
-  put-stands : Stands m4 (putting ((p, x) ∷ []))
+  put-stands : Stands m4 (sending (p, x) q)
   put-stands = record { at = λ y h. cases y (rw procs4 at h) (hit-or y p) }
     where
       cases : (y : ℕ) → 1 ≤ count y ps → (y ≡ p) ⊎ (y ≢ p) → (zs : List Letter) × (held m4 y q1 ≡ zs ++ of y ((p, x) ∷ []))
@@ -106,7 +106,7 @@ module _ {m : List ℕ} {ps : List ℕ} {L : Lists} {W : View} (b : Base m ps L 
           (held m2 p q1, rw (e, of-here p x) (held-same (g3 .base) (posts d3) p q1 hp (omega arith) (omega arith) ∙ delivered-last b2 p hp t2))
       cases y h (inr n) = (held m4 y q1, rw (of-other y p x n) (sym (append-nil (held m4 y q1))))
 
-  pub put-sent : Sent m m4 (putting ((p, x) ∷ []))
+  pub put-sent : Sent m m4 (sending (p, x) q)
   put-sent = record { told = put-told; stands = put-stands }
 
 -- ---- what is written
@@ -142,7 +142,7 @@ module _ {m : List ℕ} {ps : List ℕ} {L : Lists} {W : View} {hs : List ℕ} {
         let c = name m (running m) in
         let e1 : (name m (running m) * 16 + f) / 16 ≡ name m (running m) = omega arith in
         let e2 : (name m (running m) * 16 + f) % 16 ≡ f = omega arith in
-        let e3 : l % 128 ≡ l = omega arith in
+        let e3 : lengthIn l ≡ l = omega arith in
         rw (message-words b f a l l2 .0, message-words b f a l l2 .1, ne-eqb l notice (omega arith), e1, e2, e3, written-text far)
 
 -- ---- the instruction
@@ -177,14 +177,14 @@ module _ {m : List ℕ} (w : WellFormed m) (d : running m ≢ 0) where
     named = label-in (t .base) (running m1) in1
 
     notice-sent : (n f len : ℕ) → 1 ≤ n → n ≤ 15 → 1 ≤ f → f ≤ 7
-        → Sent m (memoryOf (Model.done (deliver (makeNotice m1 q n f) (running m1) q) len)) (putting ((running m, noticeFrom n f) ∷ []))
+        → Sent m (memoryOf (Model.done (deliver (makeNotice m1 q n f) (running m1) q) len)) (sending (running m, noticeFrom n f) q)
     notice-sent n f len n1 n2 f1 f2 =
         let h = put-sent b s1 (t .base) (notice-only (t .base) n f) (running m1) in1 (notice-letter (t .base) n f n1 n2 f1 f2) len in
         rw run1 (rw (run1, notice-mail (t .base) n f f2) at h)
 
     message-sent : (f a l p len : ℕ) → 1 ≤ f → f ≤ 7 → l ≤ longest → a < memorySize → 1 ≤ count p (lists m processorList) → clear l a ≡ true
         → Sent m (memoryOf (Model.done (deliver (writeMessage m1 q f a l) p q) len))
-        (putting ((p, record { notice = false; sender = name m (running m); flag = f; size = l; text = words m a l }) ∷ []))
+        (sending (p, record { notice = false; sender = name m (running m); flag = f; size = l; text = words m a l }) q)
     message-sent f a l p len f1 f2 l2 la hp c =
         let o : (i : ℕ) → i < l → Open (wrapped a i) = λ i h. clear-open (wrapped a i) (clear-at l a c i h) in
         let tx : words m1 a l ≡ words m a l = words-moved m m1 a a l la la (λ i h. takes-word b r hr q m1 e (wrapped a i) (o i h)) in
@@ -195,24 +195,27 @@ module _ {m : List ℕ} (w : WellFormed m) (d : running m ≢ 0) where
         rw (wm, lb, tx) at h
 
     posted-sent : (n f a len : ℕ) → 1 ≤ n → n ≤ 15 → 1 ≤ f → f ≤ 7 → getD m a 0 ≤ longest → clear (getD m a 0) (wrapped a 1) ≡ true
-        → Sent m (memoryOf (Model.done (posted m1 q n f a (getD m a 0)) len)) (putting (posting m n f a ∷ []))
+        → Sent m (memoryOf (Model.done (posted m1 q n f a (getD m a 0)) len)) (sending (posting m n f a) q)
     unfolding Operate.posted posting
     posted-sent n f a len n1 n2 f1 f2 l2 c = go (eqb (pageOf m n) 0) refl
       where
-        go : (x : Bool) → eqb (pageOf m n) 0 ≡ x → Sent m (memoryOf (Model.done (posted m1 q n f a (getD m a 0)) len)) (putting (posting m n f a ∷ []))
+        go : (x : Bool) → eqb (pageOf m n) 0 ≡ x → Sent m (memoryOf (Model.done (posted m1 q n f a (getD m a 0)) len)) (sending (posting m n f a) q)
         go true z = rw (page1 n, z) (notice-sent n f len n1 n2 f1 f2)
         go false z =
             rw (page1 n, z) (message-sent f (wrapped a 1) (getD m a 0) (pageOf m n) len f1 f2 l2 (omega arith)
             (named-in b n (eqb-false (pageOf m n) 0 z)) c)
 
   to-sent : (n f a len : ℕ) → 1 ≤ n → n ≤ 15 → 1 ≤ f → f ≤ 7 → getD m a 0 ≤ longest → clear (getD m a 0) (wrapped a 1) ≡ true
-      → Sent m (memoryOf (Model.sent m n f a (getD m a 0) len)) (cond (hasPage (takePage m (running m))) (putting (posting m n f a ∷ [])) nothing)
+      → Sent m (memoryOf (Model.sent m n f a (getD m a 0) len)) (cond (hasPage (takePage m (running m))) (sending (posting m n f a) (pageTaken (takePage m (running m)))) nothing)
+  unfolding pageTaken
   to-sent n f a len n1 n2 f1 f2 l2 c = go (take-page r hr b)
     where
       go : Takes m r (lists m processorList) (lists m) (view m) [] 32
-          → Sent m (memoryOf (Model.sent m n f a (getD m a 0) len)) (cond (hasPage (takePage m (running m))) (putting (posting m n f a ∷ [])) nothing)
+          → Sent m (memoryOf (Model.sent m n f a (getD m a 0) len)) (cond (hasPage (takePage m (running m))) (sending (posting m n f a) (pageTaken (takePage m (running m)))) nothing)
       go (gets q m1 e z t k) =
-          sent-both m Ends e n f a _ len _ (λ y. absurd (z y)) (λ y. posted-sent q m1 e t k n f a len n1 n2 f1 f2 l2 c)
+          sent-both m Ends e n f a _ len _ (λ y. absurd (z y)) (λ y.
+          let i : pageTaken (takePage m (running m)) ≡ q = rw e in
+          rw i (posted-sent q m1 e t k n f a len n1 n2 f1 f2 l2 c))
       go (lacks e f3 g3) = sent-both m Ends e n f a _ len _ (λ y. sent-same b (memoryOf (waitsForPage m)) (page-waits w d f3 g3)) (λ y. absurd (y refl))
 
   pub sme-sent : (n f a len : ℕ) → n < 16 → f < 8 → Sent m (memoryOf (Model.sme m n f a len)) (smeMail m n f a)

@@ -27,7 +27,7 @@ use Rattle.laws.specs.Waits.{Fit, wait-base, waits-not}
 use Rattle.laws.specs.Unmoved.{fault-frame}
 use Rattle.history.specs.Order.{only}
 use Rattle.history.specs.Letter.{Letter, mailOf, key, waitingFor, Same, same-on, posts, label-same, waits-same, procs-same}
-use Rattle.history.specs.Put.{of, Mailed, nothing, Log}
+use Rattle.history.specs.Put.{of, Mailed, nothing}
 use Rattle.history.specs.Calm.{calm-lr, calm-turn, calm-wait, ours-unmoved, ours-low, ours-proc}
 
 -- ---- from m to m′ with the mail e, for every processor that lives before and after
@@ -44,19 +44,19 @@ pub record Stands (m′ : List ℕ) (e : Mailed) : Type 0 where
   pub at : (p : ℕ) → 1 ≤ count p (processors m′) → (zs : List Letter) × (map (mailOf m′) (queue m′ (place p q1)) ≡ zs ++ of p (e .puts))
 
 -- ---- what is put to one processor, one after the other
-pub of-none : (p : ℕ) → of p [] ≡ []
+pub of-none : {A : Type 0} (p : ℕ) → of {A = A} p [] ≡ []
 unfolding of
 of-none p = refl
 
-of-yes : (p : ℕ) (x : ℕ × Letter) (l : Log) → eqb p (x .0) ≡ true → of p (x ∷ l) ≡ x .1 ∷ of p l
+of-yes : {A : Type 0} (p : ℕ) (x : ℕ × A) (l : List (ℕ × A)) → eqb p (x .0) ≡ true → of p (x ∷ l) ≡ x .1 ∷ of p l
 unfolding of
 of-yes p x l e = rw (e, of)
 
-of-no : (p : ℕ) (x : ℕ × Letter) (l : Log) → eqb p (x .0) ≡ false → of p (x ∷ l) ≡ of p l
+of-no : {A : Type 0} (p : ℕ) (x : ℕ × A) (l : List (ℕ × A)) → eqb p (x .0) ≡ false → of p (x ∷ l) ≡ of p l
 unfolding of
 of-no p x l e = rw (e, of)
 
-pub of-append : (p : ℕ) (l k : Log) → of p (l ++ k) ≡ of p l ++ of p k
+pub of-append : {A : Type 0} (p : ℕ) (l k : List (ℕ × A)) → of p (l ++ k) ≡ of p l ++ of p k
 of-append p [] k = rw (of-none p)
 of-append p (x ∷ l) k = go (eqb p (x .0)) refl (of-append p l k)
   where
@@ -64,10 +64,10 @@ of-append p (x ∷ l) k = go (eqb p (x .0)) refl (of-append p l k)
     go true e ih = rw (of-yes p x (l ++ k) e, of-yes p x l e, ih)
     go false e ih = rw (of-no p x (l ++ k) e, of-no p x l e, ih)
 
-pub of-here : (p : ℕ) (x : Letter) → of p ((p, x) ∷ []) ≡ x ∷ []
+pub of-here : {A : Type 0} (p : ℕ) (x : A) → of p ((p, x) ∷ []) ≡ x ∷ []
 of-here p x = rw (of-yes p (p, x) [] (eq-eqb p p refl), of-none p)
 
-pub of-other : (p r : ℕ) (x : Letter) → p ≢ r → of p ((r, x) ∷ []) ≡ []
+pub of-other : {A : Type 0} (p r : ℕ) (x : A) → p ≢ r → of p ((r, x) ∷ []) ≡ []
 of-other p r x n = rw (of-no p (r, x) [] (ne-eqb p r n), of-none p)
 
 -- nothing was put

@@ -19,7 +19,7 @@ use Rattle.model.specs.Lists.{count, Lists, some}
 use Rattle.laws.specs.Count.{hit-self, count-append, count-mid}
 use Rattle.laws.specs.Chain.{Page, Chain, NoDup, chain-move, chain-leave, leave-is}
 use Rattle.laws.specs.Queues.{upd-same}
-use Rattle.laws.specs.Heads.{one-le, short}
+use Rattle.laws.specs.Heads.{one-le}
 use Rattle.laws.specs.Uses.{proc-page}
 use Rattle.laws.specs.Inv.{Base, Facts, Message, View, noOne, view}
 use Rattle.laws.specs.Judged.{WellFormed}

@@ -1,6 +1,6 @@
 -- Deleting, 3/13: "marks every message it sent that is still unread, by 64 added in word 2". What a mark is to one word, that a walk marks the messages it
 -- meets and leaves every other word, and that lists, uses and sentences stay: a mark moves nothing. Assumes nothing.
-use mathlib.Core.Path.{_≡_, refl, sym, ap, _∙_}
+use mathlib.Core.Path.{_≡_, refl, ap, _∙_}
 use mathlib.Core.Logic.{_≢_, _⊎_, inl, inr}
 use mathlib.Core.Bool.{Bool, true, false, cond}
 use mathlib.Core.List.{List, [], _∷_, _++_, append-assoc}
@@ -9,7 +9,7 @@ use native.Mathlib.Omega.{arith}
 use lib.ListN.{length, getD, length-set}
 use lib.Seq.{getD-set-same}
 use lib.Dec.{eqb}
-use borrow.Author.Tests.{eqb-true, eqb-false, eq-eqb, ne-eqb, ltb-true, ltb-false, le-ltb}
+use borrow.Author.Tests.{eqb-true, eqb-false, ltb-true, ltb-false}
 use Rattle.model.specs.Map as Map
 use Rattle.model.specs.Map.{controlPages, guardedLast, isUnmarked, link, listLink, mark, markAdded, memorySize, note, pageSize, place, processorList, q1, q2}
 use Rattle.model.specs.Map.{size, upper, wordValues}
@@ -22,8 +22,8 @@ use Rattle.laws.specs.Chain.{Page, Chain, chain-move}
 use Rattle.laws.specs.Queues.{link-procs, link-other}
 use Rattle.laws.specs.Heads.{Place, seat-of, mails-of}
 use Rattle.laws.specs.Heads.Place.{int, three, grant, slot}
-use Rattle.laws.specs.Uses.{Among, Head, Sep, head-place, proc-page, list-short}
-use Rattle.laws.specs.Places.{in-procs, in-q, all-pages, q-free, grant-low, grant-high}
+use Rattle.laws.specs.Uses.{Among, Sep, head-place, proc-page, list-short}
+use Rattle.laws.specs.Places.{in-procs, in-q, q-free, grant-low, grant-high}
 use Rattle.laws.specs.Inv.{Base, Facts, Mem, Message, View}
 use Rattle.laws.specs.Frames.{other, holds-kept, fixed-same, seat-same}
 use Rattle.laws.specs.Views.{withWords}
@@ -158,21 +158,21 @@ from-marked (x ∷ xs) (suc i) m n a l k c =
     (then-marked t (from-marked xs i (marked m n x) n (place x link) (t .size ∙ l) (omega arith) d))
 
 -- ---- Q1 and Q2 of a processor
-pub record Mailed (m : List ℕ) (p : ℕ) (xs ys : List ℕ) : Type 0 where
+pub record Hung (m : List ℕ) (p : ℕ) (xs ys : List ℕ) : Type 0 where
   pub chain1 : Chain m link (place p q1) xs
   pub chain2 : Chain m link (place p q2) ys
   pub short1 : length xs ≤ controlPages
   pub short2 : length ys ≤ controlPages
 
-mail-marked : (m : List ℕ) (n p : ℕ) (xs ys : List ℕ) → length m ≡ memorySize → Mailed m p xs ys → Marked n (xs ++ ys) m (mailMarked m n p)
+mail-marked : (m : List ℕ) (n p : ℕ) (xs ys : List ℕ) → length m ≡ memorySize → Hung m p xs ys → Marked n (xs ++ ys) m (mailMarked m n p)
 unfolding Delete.mailMarked
 mail-marked m n p xs ys l c =
     let t = from-marked xs controlPages m n (place p q1) l (c .short1) (c .chain1) in
     let d = marked-chain t link (place p q2) ys (omega arith) (omega arith) (λ y. omega arith) (c .chain2) in
     then-marked t (from-marked ys controlPages (markedFrom controlPages m n (place p q1)) n (place p q2) (t .size ∙ l) (c .short2) d)
 
-mailed-on : {n : ℕ} {zs : List ℕ} {m m1 : List ℕ} → Marked n zs m m1 → (p : ℕ) (xs ys : List ℕ) → Mailed m p xs ys → Mailed m1 p xs ys
-mailed-on t p xs ys c = record {
+hung-on : {n : ℕ} {zs : List ℕ} {m m1 : List ℕ} → Marked n zs m m1 → (p : ℕ) (xs ys : List ℕ) → Hung m p xs ys → Hung m1 p xs ys
+hung-on t p xs ys c = record {
   chain1 = marked-chain t link (place p q1) xs (omega arith) (omega arith) (λ y. omega arith) (c .chain1);
   chain2 = marked-chain t link (place p q2) ys (omega arith) (omega arith) (λ y. omega arith) (c .chain2);
   short1 = c .short1;
@@ -182,7 +182,7 @@ mailed-on t p xs ys c = record {
 -- ---- of every processor on the list
 module _ (L : Lists) where
   all-marked : (ps : List ℕ) (i : ℕ) (m : List ℕ) (n a : ℕ) → length m ≡ memorySize → length ps ≤ i → Chain m listLink a ps
-      → ((p : ℕ) → 1 ≤ count p ps → Mailed m p (L (place p q1)) (L (place p q2))) → Marked n (gather L (mails ps)) m (allMarked i m n a)
+      → ((p : ℕ) → 1 ≤ count p ps → Hung m p (L (place p q1)) (L (place p q2))) → Marked n (gather L (mails ps)) m (allMarked i m n a)
   all-marked [] i m n a l k c h = rw (all-end i m n a c) (none-marked n m)
   all-marked (p ∷ ps) zero m n a l k c h = absurd (omega arith)
   all-marked (p ∷ ps) (suc i) m n a l k c h =
@@ -191,7 +191,7 @@ module _ (L : Lists) where
       let t = mail-marked m n p xs ys l (h p (omega (arith, hit-self p))) in
       let d = marked-chain t listLink (place p listLink) ps (omega arith) (omega arith) (λ y. omega arith) (c .2) in
       let u = all-marked ps i (mailMarked m n p) n (place p listLink) (t .size ∙ l) (omega arith) d
-      (λ y j. mailed-on t y (L (place y q1)) (L (place y q2)) (h y (omega arith))) in
+      (λ y j. hung-on t y (L (place y q1)) (L (place y q2)) (h y (omega arith))) in
       rw (all-next i m n a p (c .0) (omega (arith, c .1)), ← append-assoc xs ys (gather L (mails ps))) (then-marked t u)
 
 -- ---- lists, uses and sentences stay; of the words only sizes change, of pages that are no processor's
@@ -288,7 +288,7 @@ module _ {m : List ℕ} {p g : ℕ} (n : ℕ) (t : Bag m p g) where
           let j = mails-of (k .head) (t .procs) (k .here) in
           q-free sb (j .page) (j .word) x (j .low) (j .high) (j .proc) (rw (j .is) at (k .there))
 
-  listed-mail : (y : ℕ) → 1 ≤ count y (t .procs) → Mailed m y (t .lists (place y q1)) (t .lists (place y q2))
+  listed-mail : (y : ℕ) → 1 ≤ count y (t .procs) → Hung m y (t .lists (place y q1)) (t .lists (place y q2))
   listed-mail y h = record {
     chain1 = hangs q1 (omega arith) (omega arith);
     chain2 = hangs q2 (omega arith) (omega arith);
@@ -310,7 +310,7 @@ module _ {m : List ℕ} {p g : ℕ} (n : ℕ) (t : Bag m p g) where
       short : (w : ℕ) → q1 ≤ w → w ≤ q2 → length (t .lists (place y w)) ≤ controlPages
       short w u v = list-short sb (place y w) (in-q (t .procs) y w u v h)
 
-  own-mail : Mailed m p (t .q1) (t .q2)
+  own-mail : Hung m p (t .q1) (t .q2)
   own-mail = record {
     chain1 = t .chain1;
     chain2 = t .chain2;
@@ -329,10 +329,10 @@ module _ {m : List ℕ} {p g : ℕ} (n : ℕ) (t : Bag m p g) where
       )) in
       let k : length (t .procs) ≤ controlPages = rw (sb .procs) at (list-short sb processorList (in-procs ps)) in
       let u = all-marked (t .lists) ps controlPages m n processorList (t .base .mem .size) k c listed-mail in
-      then-marked u (mail-marked (allMarked controlPages m n processorList) n p (t .q1) (t .q2) (u .size ∙ t .base .mem .size) (mailed-on u p (t .q1) (t .q2)
+      then-marked u (mail-marked (allMarked controlPages m n processorList) n p (t .q1) (t .q2) (u .size ∙ t .base .mem .size) (hung-on u p (t .q1) (t .q2)
       own-mail))
 
-  pub marked-bag : Bag (sentMarked m n p) p g
+  abbrev pub marked-bag : Bag (sentMarked m n p) p g
   marked-bag = record {
     procs = t .procs;
     lists = t .lists;
