@@ -41,7 +41,7 @@ use Rattle.history.specs.Ways.{dep-both}
 use Rattle.history.specs.Put.{Log, Mailed, nothing, of, returning, returnsTo, notices, noticesAbout, depMail}
 use Rattle.history.specs.Calm.{calm-low}
 use Rattle.history.specs.Told.{of-none, calm-done, calm-fault, runs-in, Sent}
-use Rattle.history.specs.Traced.{Each, each-append, Waited, Origin, About, Traced, some-page, posts-waited, same-still, still-traced}
+use Rattle.history.specs.Traced.{Each, each-all, each-append, Waited, Origin, About, Traced, some-page, posts-waited, calm-traced}
 use Rattle.history.specs.Traced.Origin.{unchanged, newly-marked, notified}
 use Rattle.history.specs.Traced.About.{back}
 use Rattle.history.specs.Quiet.{fault-sent}
@@ -338,7 +338,7 @@ module _ {m : List ℕ} (w : WellFormed m) (d : running m ≢ 0) where
             rw (about-append m p (queue m (place p q2)) (queue m (place p q1))) (each-append (λ (y : ℕ × ℕ). About m 0 (y .0) (y .1))
             (noticesAbout m p (queue m (place p q2))) (noticesAbout m p (queue m (place p q1)))
             (backs q2 (omega arith) (omega arith) (queue m (place p q2)) (λ z c. c)) (backs q1 (omega arith) (omega arith) (queue m (place p q1)) (λ z c. c)));
-        written = λ y x o e. absurd (o refl);
+        written = each-all (λ y o. absurd (o refl)) letters;
       }
 
   -- "10 NI isn't stopped": the one that runs is not
@@ -353,5 +353,5 @@ module _ {m : List ℕ} (w : WellFormed m) (d : running m ≢ 0) where
       deleted-sent (pageOf m n) (named-in b n (g .found)) (others (pageOf m n) (g .stopped)) len)
 
   pub dep-traced : (n len : ℕ) → Traced m (memoryOf (Model.named m 12 n len)) (depMail m n)
-  dep-traced n len = dep-both m (λ o e. Traced m (memoryOf o) e) (λ f i j. still-traced (same-still b (calm-fault b d f)) nothing refl refl) n len (λ g.
+  dep-traced n len = dep-both m (λ o e. Traced m (memoryOf o) e) (λ f i j. calm-traced b (calm-fault b d f)) n len (λ g.
       deleted-traced (pageOf m n) (named-in b n (g .found)) (others (pageOf m n) (g .stopped)) len)

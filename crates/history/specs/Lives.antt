@@ -2,16 +2,16 @@
 -- in this life and then what waits for it, Q2 before Q1, is what was put to it in this life, in that order, with text. Assumes nothing.
 use mathlib.Core.Path.{_≡_, refl, sym, ap, _∙_}
 use mathlib.Core.Bool.{Bool, true, false, cond, _&&_}
-use mathlib.Core.List.{List, [], _++_, append-assoc}
-use Prim.Native.Nat.{ℕ, _≤_}
+use mathlib.Core.List.{List, [], _++_, append-assoc, map}
+use Prim.Native.Nat.{ℕ, suc, _≤_}
 use native.Mathlib.Omega.{arith}
 use lib.ListN.{length}
-use lib.Dec.{leb}
+use lib.Dec.{eqb, leb}
 use borrow.Author.Tests.{leb-true, leb-false, le-leb}
 use Rattle.model.specs.Map.{memorySize}
 use Rattle.model.specs.Fresh.{startable}
 use Rattle.model.specs.Answer.{memoryOf}
-use Rattle.model.specs.Bytes.{fresh, processors}
+use Rattle.model.specs.Bytes.{fresh, processors, running}
 use Rattle.model.specs.Lists.{count}
 use Rattle.laws.specs.Words.{Small}
 use Rattle.laws.specs.Calls as Calls
@@ -21,17 +21,32 @@ use Rattle.history.specs.Order.{only, only-append}
 use Rattle.history.specs.Letter.{Letter, key, waitingFor}
 use Rattle.history.specs.Put.{Mailed, nothing, of, mailed}
 use Rattle.history.specs.Told.{Told}
-use Rattle.history.specs.Whole.{instruction-told}
-use Rattle.history.specs.Others.{interrupt-told, burst-told, set-told, read-told, judge-told, refused-told, host-told}
+use Rattle.history.specs.Whole.{instruction-told, instruction-traced}
+use Rattle.history.specs.Traced.{Traced, still-traced}
+use Rattle.history.specs.Others.{Passing, interrupt-passes, burst-passes, set-passes, read-passes, judge-passes, refused-passes, host-passes}
 use Rattle.history.specs.Begin.{fresh-empty}
 
--- ---- what was put to each processor in its present life, and what it has read; a processor is named by its page
+-- ---- a life: a processor is named by its page, and one page may hold one after the other; so a life is a page, and the call in which it began
+pub record Life : Type 0 where
+  pub page : ℕ
+  pub since : ℕ
+
+-- ---- what was put to each processor in its present life, and what it has read; how many calls there were, and in which of them each life began; the life
+-- that sent the message of each page; and of each notice that was put to a processor, the life that sent the mail which the notice is about
 pub record Past : Type 0 where
   pub put : ℕ → List Letter
   pub read : ℕ → List Letter
+  pub calls : ℕ
+  pub since : ℕ → ℕ
+  pub by : ℕ → Life
+  pub noticed : ℕ → List Life
+
+-- the life of the processor of page p
+abbrev pub life : Past → ℕ → Life
+life h p = record { page = p; since = h .since p }
 
 abbrev pub noneYet : Past
-noneYet = record { put = λ p. []; read = λ p. [] }
+noneYet = record { put = λ p. []; read = λ p. []; calls = 0; since = λ p. 0; by = λ q. record { page = 0; since = 0 }; noticed = λ p. [] }
 
 -- the processor of page p lives: it is on the processor list
 abbrev pub Living : List ℕ → ℕ → Type 0
@@ -40,11 +55,19 @@ Living m p = 1 ≤ count p (processors m)
 unfoldable pub lives : List ℕ → ℕ → Bool
 lives m p = leb 1 (count p (processors m))
 
+-- the one that runs sent what it wrote; the message of any other page is of whom it was
+unfoldable pub sentBy : List ℕ → Mailed → Past → ℕ → Life
+sentBy m e h q = cond (eqb q (e .wrote)) (life h (running m)) (h .by q)
+
 -- from m to m′ with the mail e: a life goes on where p is on the list before and after; else it is over, or begins with nothing
 unfoldable pub grown : List ℕ → List ℕ → Mailed → Past → Past
 grown m m′ e h = record {
   put = λ p. cond (lives m p && lives m′ p) (h .put p ++ of p (e .puts)) [];
   read = λ p. cond (lives m p && lives m′ p) (h .read p ++ of p (e .reads)) [];
+  calls = suc (h .calls);
+  since = λ p. cond (lives m p && lives m′ p) (h .since p) (suc (h .calls));
+  by = λ q. sentBy m e h q;
+  noticed = λ p. cond (lives m p && lives m′ p) (h .noticed p ++ map (sentBy m e h) (of p (e .about))) [];
 }
 
 -- a call puts and reads nothing unless it is an instruction
@@ -115,15 +138,23 @@ grown-kept {m} {m′} {e} t h k p i s f = go (leb 1 (count p (processors m))) re
         let j = leb-false 1 (count p (processors m)) q in
         rw (q, t .born p (omega arith) i)
 
-pub call-told : {m : List ℕ} → Sound m → (a : Act) → restarts a ≡ false → Told m (after a m) (mailBy a m)
+-- ---- the laws of one call
+pub record Lawful (m m′ : List ℕ) (e : Mailed) : Type 0 where
+  pub told : Told m m′ e
+  pub traced : Traced m m′ e
+
+pub passing-lawful : {m m′ : List ℕ} → Passing m m′ → Lawful m m′ nothing
+passing-lawful t = record { told = t .told; traced = still-traced (t .still) nothing refl refl }
+
+pub call-lawful : {m : List ℕ} → Sound m → (a : Act) → restarts a ≡ false → Lawful m (after a m) (mailBy a m)
 unfolding Calls.after mailBy restarts
-call-told k (fresh-start line d) e = refused-told k line d e
-call-told k instruct e = instruction-told k
-call-told k (signal n c) e = interrupt-told k n c
-call-told k (signals l) e = burst-told k l
-call-told k (set r) e = set-told k r
-call-told k read e = read-told k
-call-told k judge-it e = judge-told k
+call-lawful k (fresh-start line d) e = passing-lawful (refused-passes k line d e)
+call-lawful k instruct e = record { told = instruction-told k; traced = instruction-traced k }
+call-lawful k (signal n c) e = passing-lawful (interrupt-passes k n c)
+call-lawful k (signals l) e = passing-lawful (burst-passes k l)
+call-lawful k (set r) e = passing-lawful (set-passes k r)
+call-lawful k read e = passing-lawful (read-passes k)
+call-lawful k judge-it e = passing-lawful (judge-passes k)
 
 start-kept : (m : List ℕ) (line d : ℕ) → length m ≡ memorySize → startable line d ≡ true → Kept (memoryOf (fresh m line d)) noneYet
 start-kept m line d l e p i s f = rw (fresh-empty m line d l e p i)
@@ -144,10 +175,10 @@ later-kept {m} k h q a = go (restarts a) refl
   where
     go : (c : Bool) → restarts a ≡ c → Kept (after a m) (later a m h)
     go true e = rw e (restart-kept k a e)
-    go false e = rw e (grown-kept (call-told k a e) h q)
+    go false e = rw e (grown-kept (call-lawful k a e .told) h q)
 
 pub nothing-lost : (m : List ℕ) (h : Past) → Run m h → (p : ℕ) → 1 ≤ count p (processors m) → (s f : ℕ)
     → only (key s f) (h .read p ++ waitingFor m p) ≡ only (key s f) (h .put p)
 nothing-lost _ _ (start m line d l s e) = start-kept m line d l e
 nothing-lost _ _ (call m h a r) = later-kept (reached-sound m (run-reached m h r)) h (nothing-lost m h r) a
-nothing-lost _ _ (host m m′ h k r) = grown-kept (host-told (reached-sound m (run-reached m h r)) k) h (nothing-lost m h r)
+nothing-lost _ _ (host m m′ h k r) = grown-kept (host-passes (reached-sound m (run-reached m h r)) k .told) h (nothing-lost m h r)

@@ -10,7 +10,7 @@ use Rattle.model.specs.Map.{link, place, q1, q2}
 use Rattle.model.specs.Mail as Mail
 use Rattle.model.specs.Bytes.{leave, move}
 use Rattle.model.specs.Lists.{count, Lists}
-use Rattle.laws.specs.Count.{hit-or, count-mid}
+use Rattle.laws.specs.Count.{hit-or, hit-other, count-append, count-mid}
 use Rattle.laws.specs.Chain.{Page}
 use Rattle.laws.specs.Queues.{upd, upd-same, upd-other}
 use Rattle.laws.specs.Uses.{Sep, proc-page}
@@ -21,6 +21,7 @@ use Rattle.laws.specs.JoinLeave.{join-frame, leave-frame}
 use Rattle.laws.specs.Changes.{hand-page}
 use Rattle.laws.specs.Hands.{in-hand, hand-new, take-mail, give-mail}
 use Rattle.history.specs.Order.{only, only-append, Fails, overtakes-none}
+use Rattle.history.specs.Traced.{Still, texted-still}
 use Rattle.history.specs.Letter.{Letter, mailOf, key, asked, one-key, map-append, waitingFor, waits-by, Texted, waits-through}
 
 -- a message that leaves Q1 or Q2 leaves all texts
@@ -84,6 +85,25 @@ module _ {m : List ℕ} {ps : List ℕ} {L : Lists} {W : View} {hs : List ℕ} {
         (hand-page b1 q (in-hand b1)) (hand-new b1) (place x j) (λ z. head-off s x j (place p q2) px l o i6 (sym z)) (λ z i. omega arith) (omega arith)
         ∙ leave-texts b p q1 q xs ys h (omega arith) (omega arith) e .at x px o j k l;
   }
+
+  -- by pages: each stays in Q1 or Q2 of the same one
+  pub moved-still : Still m (move m p q)
+  moved-still = texted-still b move-lists move-texts (λ y w x i u v c. from y w x i u v c (hit-or y p) (hit-or w q1))
+    where
+      from : (y w x : ℕ) → 1 ≤ count y ps → q1 ≤ w → w ≤ q2 → 1 ≤ count x (moved (place y w)) → (y ≡ p) ⊎ (y ≢ p) → (w ≡ q1) ⊎ (w ≢ q1)
+          → (z : ℕ) × (q1 ≤ z) × (z ≤ q2) × (1 ≤ count x (L (place y z)))
+      from y w x i u v c (inr n) f = (w, u, v, rw (moved-other (place y w) (omega arith) (omega arith)) at c)
+      from y w x i u v c (inl a) (inl f) =
+          let k = rw (a, f, moved-q1) at c in
+          (q1, omega arith, omega arith, rw (a, e) (omega (arith, count-append x xs (q ∷ ys), count-append x xs ys)))
+      from y w x i u v c (inl a) (inr f) =
+          let g : w ≡ q2 = omega arith in
+          let k = rw (a, g, moved-q2) at c in
+          second (hit-or x q) k
+        where
+          second : (x ≡ q) ⊎ (x ≢ q) → 1 ≤ count x (L (place p q2) ++ q ∷ []) → (z : ℕ) × (q1 ≤ z) × (z ≤ q2) × (1 ≤ count x (L (place y z)))
+          second (inl z) k = (q1, omega arith, omega arith, rw (a, z) in5)
+          second (inr z) k = (q2, omega arith, omega arith, rw a (omega (arith, count-append x (L (place p q2)) (q ∷ []), hit-other x q z)))
 
   -- what waits for p, and for any other
   abbrev M : List ℕ → List Letter

@@ -21,34 +21,34 @@ use Rattle.model.specs.Processor.{inRange}
 use Rattle.laws.specs.Uses.{Sep, proc-page}
 use Rattle.laws.specs.Inv.{Base, noOne, view}
 use Rattle.laws.specs.Judged.{invariant}
-use Rattle.laws.specs.Who.{listed}
 use Rattle.laws.specs.Calls.{Sound, well, Host, guarded-low, guarded-high, unrefused, interrupt-sound, read-same, judge-same}
 use Rattle.laws.specs.Pairs.{outer-of}
 use Rattle.laws.specs.Bursts.{OneByOne, Comes, comes}
 use Rattle.laws.specs.Bursts.OneByOne.{none, one}
 use Rattle.laws.specs.Bursts.Comes.{no-list, bad-pair, taken}
 use Rattle.history.specs.Order.{only}
-use Rattle.history.specs.Letter.{Ours, Same, key, waitingFor, procs-same}
+use Rattle.history.specs.Letter.{Ours, Same, key, waitingFor}
 use Rattle.history.specs.Letter.Ours.{mail, first, next, named}
 use Rattle.history.specs.Put.{of, nothing}
 use Rattle.history.specs.Calm.{calm-refl, mine-high}
 use Rattle.history.specs.Told.{Told, of-none, told-same}
+use Rattle.history.specs.Traced.{Still, still-on, same-still}
 use Rattle.history.specs.Clocks.{calm-interrupt}
 use Rattle.history.specs.Quiet.{registers-calm}
 
--- ---- nothing is put or read, and those that live are the same: so it goes on from one call to the next
+-- ---- nothing is put or read, those that live are the same, and each message waits on its page: so it goes on from one call to the next
 pub record Passing (m m′ : List ℕ) : Type 0 where
   pub told : Told m m′ nothing
-  pub alive : processors m′ ≡ processors m
+  pub still : Still m m′
 
 passing-on : {m m₁ m₂ : List ℕ} → Passing m m₁ → Passing m₁ m₂ → Passing m m₂
 passing-on {m} {m₁} {m₂} s t = record {
   told = record {
-    at = λ p i j k f. t .told .at p (rw (s .alive) i) j k f ∙ ap (only (key k f)) (between p) ∙ s .told .at p i (rw (s .alive) i) k f;
-    keeps = λ p i j. t .told .keeps p (rw (s .alive) i) j ∙ s .told .keeps p i (rw (s .alive) i);
-    born = λ p i j. t .told .born p (rw (s .alive) i) j;
+    at = λ p i j k f. t .told .at p (rw (s .still .alive) i) j k f ∙ ap (only (key k f)) (between p) ∙ s .told .at p i (rw (s .still .alive) i) k f;
+    keeps = λ p i j. t .told .keeps p (rw (s .still .alive) i) j ∙ s .told .keeps p i (rw (s .still .alive) i);
+    born = λ p i j. t .told .born p (rw (s .still .alive) i) j;
   };
-  alive = t .alive ∙ s .alive;
+  still = still-on (s .still) (t .still);
 }
   where
     between : (p : ℕ) → waitingFor m₁ p ++ of p [] ≡ of p [] ++ waitingFor m₁ p
@@ -61,18 +61,11 @@ module _ {m : List ℕ} (h : Sound m) where
   size-is : eqb (length m) memorySize ≡ true
   size-is = eq-eqb (length m) memorySize (h .size)
 
-  -- where no message moves, nothing is put or read
-  pub calm-told : (m′ : List ℕ) → Same (lists m processorList) (lists m) m m′ → Told m m′ nothing
-  calm-told m′ s = told-same b m′ s
+  -- where no message moves, nothing is put or read, nor does who lives change, nor the page of a message
+  pub calm-passes : (m′ : List ℕ) → Same (lists m processorList) (lists m) m m′ → Passing m m′
+  calm-passes m′ s = record { told = told-same b m′ s; still = same-still b s }
 
-  pub stays-told : Told m m nothing
-  stays-told = calm-told m (calm-refl m)
-
-  -- nor does who lives change
-  calm-passes : (m′ : List ℕ) → Same (lists m processorList) (lists m) m m′ → Passing m m′
-  calm-passes m′ s = record { told = calm-told m′ s; alive = procs-same b s ∙ sym (listed b) }
-
-  stays : Passing m m
+  pub stays : Passing m m
   stays = calm-passes m (calm-refl m)
 
   pub interrupt-passes : (k c : ℕ) → Passing m (memoryOf (interrupt m k c))
@@ -86,31 +79,28 @@ module _ {m : List ℕ} (h : Sound m) where
           let a = outer-of k e in
           rw (unrefused h, e, f) (calm-passes (whoRuns (delivered m k c)) (calm-interrupt k c (omega (arith, a)) (omega (arith, a)) b))
 
-  pub interrupt-told : (k c : ℕ) → Told m (memoryOf (interrupt m k c)) nothing
-  interrupt-told k c = interrupt-passes k c .told
-
-  pub set-told : (r : Registers) → Told m (memoryOf (setRegisters m r)) nothing
+  pub set-passes : (r : Registers) → Passing m (memoryOf (setRegisters m r))
   unfolding Call.head Call.setRegisters Call.setJudged Answer.memoryOf
-  set-told r = go (eqb (running m) 0) (inRange r) refl refl
+  set-passes r = go (eqb (running m) 0) (inRange r) refl refl
     where
-      go : (x y : Bool) → eqb (running m) 0 ≡ x → inRange r ≡ y → Told m (memoryOf (setRegisters m r)) nothing
-      go true y e f = rw (unrefused h, e) stays-told
-      go false false e f = rw (unrefused h, e, f) stays-told
+      go : (x y : Bool) → eqb (running m) 0 ≡ x → inRange r ≡ y → Passing m (memoryOf (setRegisters m r))
+      go true y e f = rw (unrefused h, e) stays
+      go false false e f = rw (unrefused h, e, f) stays
       go false true e f =
-          rw (unrefused h, e, f) (calm-told (setRegistersOf m (running m) r) (registers-calm (well h) (eqb-false (running m) 0 e) r))
+          rw (unrefused h, e, f) (calm-passes (setRegistersOf m (running m) r) (registers-calm (well h) (eqb-false (running m) 0 e) r))
 
-  pub read-told : Told m (memoryOf (readRegisters m)) nothing
-  read-told = rw (read-same h) stays-told
+  pub read-passes : Passing m (memoryOf (readRegisters m))
+  read-passes = rw (read-same h) stays
 
-  pub judge-told : Told m (memoryOf (judge m)) nothing
-  judge-told = rw (judge-same h) stays-told
+  pub judge-passes : Passing m (memoryOf (judge m))
+  judge-passes = rw (judge-same h) stays
 
-  pub refused-told : (line d : ℕ) → startable line d ≡ false → Told m (memoryOf (fresh m line d)) nothing
+  pub refused-passes : (line d : ℕ) → startable line d ≡ false → Passing m (memoryOf (fresh m line d))
   unfolding Call.fresh Answer.memoryOf
-  refused-told line d e = rw (size-is, e) stays-told
+  refused-passes line d e = rw (size-is, e) stays
 
-  pub host-told : {m′ : List ℕ} → Host m m′ → Told m m′ nothing
-  host-told {m′} k = calm-told m′ (record { at = λ c o. k .same c (high c o) (safe c o) })
+  pub host-passes : {m′ : List ℕ} → Host m m′ → Passing m m′
+  host-passes {m′} k = calm-passes m′ (record { at = λ c o. k .same c (high c o) (safe c o) })
     where
       s : Sep (lists m processorList) (lists m)
       s = b .facts .sep
@@ -132,10 +122,10 @@ repeated-passes : {m l m′ : List ℕ} → Sound m → OneByOne m l m′ → Pa
 repeated-passes h (none m) = stays h
 repeated-passes h (one m k c l m′ e o) = passing-on (interrupt-passes h k c) (repeated-passes (interrupt-sound h k c) o)
 
-pub burst-told : {m : List ℕ} → Sound m → (l : List ℕ) → Told m (memoryOf (burst m l)) nothing
-burst-told {m} h l = go (comes (well h) l)
+pub burst-passes : {m : List ℕ} → Sound m → (l : List ℕ) → Passing m (memoryOf (burst m l))
+burst-passes {m} h l = go (comes (well h) l)
   where
-    go : Comes m l → Told m (memoryOf (burst m l)) nothing
-    go (no-list u r) = rw (r .1) (stays-told h)
-    go (bad-pair x n p i j f q r) = rw (r .1) (stays-told h)
-    go (taken p e o) = repeated-passes h o .told
+    go : Comes m l → Passing m (memoryOf (burst m l))
+    go (no-list u r) = rw (r .1) (stays h)
+    go (bad-pair x n p i j f q r) = rw (r .1) (stays h)
+    go (taken p e o) = repeated-passes h o

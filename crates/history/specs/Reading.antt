@@ -1,5 +1,5 @@
 -- Instructions: RME reads the first match in Q2; of any sender and flag it is the oldest that waits. Assumes nothing.
-use mathlib.Core.Path.{_≡_, sym, ap, _∙_}
+use mathlib.Core.Path.{_≡_, refl, sym, ap, _∙_}
 use mathlib.Core.Logic.{_≢_, _⊎_, inl, inr}
 use mathlib.Core.Bool.{true}
 use mathlib.Core.List.{List, [], _∷_, _++_, append-assoc, append-nil, map}
@@ -31,7 +31,8 @@ use Rattle.history.specs.Letter.{label-same, waits-same, procs-same, mai
 use Rattle.history.specs.Ways.{rme-both}
 use Rattle.history.specs.Put.{of, reading, rmeMail}
 use Rattle.history.specs.Calm.{ours-low, ours-fits, calm-give}
-use Rattle.history.specs.Told.{Told, of-none, of-here, of-other, calm-done, runs-in}
+use Rattle.history.specs.Told.{Told, of-none, of-here, of-other, calm-done, calm-fault, runs-in}
+use Rattle.history.specs.Traced.{Still, Traced, still-on, same-still, still-traced, texted-still, calm-traced}
 use Rattle.history.specs.Quiet.{clear-far, fault-sent}
 use Rattle.history.specs.Moving.{leave-texts}
 use Rattle.history.specs.Tests.{Found, found}
@@ -78,6 +79,18 @@ module _ {m : List ℕ} {ps : List ℕ} {L : Lists} {W : View} (b : Base m ps L 
         upd-other L (place p q2) (place y q1) (xs ++ ys) (omega arith),
         upd-other L (place p q2) (place y q2) (xs ++ ys) (omega arith),
       ) (sym (waits-by b y i))
+
+  -- by pages
+  pub left-still : Still m (giveBack m1 q)
+  left-still = still-on (texted-still b b1 left-texts (λ y w x i u v c. (w, u, v, from y w x u v i c (hit-or y p) (hit-or w q2)))) (same-still b1 (calm-give b1))
+    where
+      from : (y w x : ℕ) → q1 ≤ w → w ≤ q2 → 1 ≤ count y ps → 1 ≤ count x (upd L (place p q2) (xs ++ ys) (place y w)) → (y ≡ p) ⊎ (y ≢ p) → (w ≡ q2) ⊎ (w ≢ q2)
+          → 1 ≤ count x (L (place y w))
+      from y w x u v i c (inl a) (inl f) =
+          let k = rw (a, f, upd-same L (place p q2) (xs ++ ys)) at c in
+          rw (a, f, e) (omega (arith, count-append x xs (q ∷ ys), count-append x xs ys))
+      from y w x u v i c (inl a) (inr f) = rw (upd-other L (place p q2) (place y w) (xs ++ ys) (omega arith)) at c
+      from y w x u v i c (inr a) f = rw (upd-other L (place p q2) (place y w) (xs ++ ys) (omega arith)) at c
 
   pub left-order : (n f : ℕ) → asked n f (mailOf m q) ≡ true → Fails (asked n f) (M xs) → (k l : ℕ)
       → only (key k l) (mailOf m q ∷ waitingFor (giveBack m1 q) p) ≡ only (key k l) (waitingFor m p)
@@ -146,3 +159,24 @@ module _ {m : List ℕ} (w : WellFormed m) (d : running m ≢ 0) where
     where
       q6 : queue m (place r q2) ≡ lists m (place r q2)
       q6 = mail-queue b r q2 hr (omega arith) (omega arith)
+
+  -- ---- by pages
+  received-still : (n f q a len : ℕ) → Found m n f q (lists m (place r q2)) → clear (headWords + lengthIn (word m q size)) a ≡ true
+      → Still m (memoryOf (Model.done (Model.received m q a) len))
+  unfolding Operate.received
+  received-still n f q a len t cl =
+      let x = copyOut m q a in
+      let bx : Base x (lists m processorList) (lists m) (view m) [] 32 = base-kept (out-kept m q a cl) b in
+      let b1 = take-mail bx r q2 q (t .before) (t .behind) hr (omega arith) (omega arith) (t .is) in
+      let m2 = giveBack (leave x (place r q2) 0 q) q in
+      let g2 = give-back b1 in
+      still-on (same-still b (out-calm (b .facts .sep) m q a cl)) (still-on (left-still bx r q (t .before) (t .behind) hr (t .is))
+      (same-still (g2 .base) (calm-done (g2 .base .facts .sep) m2 (runs-in (g2 .base)) len)))
+
+  pub rme-traced : (n f a len : ℕ) → Traced m (memoryOf (Model.rme m n f a len)) (rmeMail m n f a)
+  rme-traced n f a len = rme-both m (λ o e. Traced m (memoryOf o) e) (λ f i j. calm-traced b (calm-fault b d f)) n f a len (λ g.
+      let t : Found m n f (Model.inQ2 m n f) (queue m (place r q2)) = found m n f (queue m (place r q2)) (g .found) in
+      let q6 = mail-queue b r q2 hr (omega arith) (omega arith) in
+      still-traced (received-still n f (Model.inQ2 m n f) a len
+      (record { before = t .before; behind = t .behind; is = sym q6 ∙ t .is; match = t .match; none = t .none }) (g .target))
+      (reading r (mailOf m (Model.inQ2 m n f)) a) refl refl)

@@ -30,9 +30,9 @@ use Rattle.history.specs.Order.{only, only-nil, only-yes, only-no, only-
 use Rattle.history.specs.Letter.{Letter, key, waitingFor, and-true}
 use Rattle.history.specs.Put.{Mailed, nothing, found, of, smeMail, rmeMail, depMail, runMail, arguedMail, exiMail, fetchedMail, mailed, codeRun}
 use Rattle.history.specs.Told.{of-none}
-use Rattle.history.specs.Others.{host-told}
+use Rattle.history.specs.Others.{host-passes}
 use Rattle.history.specs.Whole.{sme-none, rme-none, dep-none}
-use Rattle.history.specs.Lives.{Past, Run, noneYet, lives, grown, mailBy, restarts, later, call-told, nothing-lost}
+use Rattle.history.specs.Lives.{Past, Run, noneYet, lives, grown, mailBy, restarts, later, call-lawful, nothing-lost}
 
 -- ---- two messages are the same: mail or notice, sender, flag, length and text
 unfoldable pub alike : Bool → Bool → Bool
@@ -265,7 +265,7 @@ refused-keeps {m} k h line d e p i =
 -- a life keeps its name
 pub name-stays : {m : List ℕ} → Sound m → (a : Act) → restarts a ≡ false → (p : ℕ) → 1 ≤ count p (processors m) → 1 ≤ count p (processors (after a m))
     → name (after a m) p ≡ name m p
-name-stays k a e p i j = ap (λ (w : ℕ). w % 16) (call-told k a e .keeps p i j)
+name-stays k a e p i j = ap (λ (w : ℕ). w % 16) (call-lawful k a e .told .keeps p i j)
 
 -- the host takes nothing from the past, and no name
 pub host-grows : {m m′ : List ℕ} → Sound m → Host m m′ → (h : Past) (p : ℕ) → 1 ≤ count p (processors m) → 1 ≤ count p (processors m′)
@@ -274,5 +274,5 @@ host-grows {m} {m′} k o h p i j =
     let t = grown-on m m′ p i j nothing h in (
       t .0 ∙ rw (of-none p) (append-nil (h .put p)),
       t .1 ∙ rw (of-none p) (append-nil (h .read p)),
-      ap (λ (w : ℕ). w % 16) (host-told k o .keeps p i j),
+      ap (λ (w : ℕ). w % 16) (host-passes k o .told .keeps p i j),
     )

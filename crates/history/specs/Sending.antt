@@ -9,9 +9,8 @@ use native.Mathlib.Omega.{arith}
 use lib.ListN.{getD}
 use lib.Dec.{eqb}
 use borrow.Author.Tests.{eqb-false, ne-eqb}
-use Rattle.model.specs.Map.{q1}
 use Rattle.model.specs.Map as Map
-use Rattle.model.specs.Map.{guardedLast, label, lengthIn, longest, memorySize, note, notice, place, processorList}
+use Rattle.model.specs.Map.{guardedLast, label, lengthIn, longest, memorySize, note, notice, pageSize, place, processorList, q1, q2, upper}
 use Rattle.model.specs.Address.{wrapped}
 use Rattle.model.specs.Bytes.{name, store, word}
 use Rattle.model.specs.Address.{clear}
@@ -20,33 +19,37 @@ use Rattle.model.specs.Page.Taken.{took}
 use Rattle.model.specs.Operate as Operate
 use Rattle.model.specs.Answer.{memoryOf}
 use Rattle.model.specs.Bytes as Model
-use Rattle.model.specs.Bytes.{lists, processors, deliver, writeMessage, makeNotice, posted, pageOf, takePage, waitsForPage, running}
+use Rattle.model.specs.Bytes.{lists, processors, queue, deliver, writeMessage, makeNotice, posted, pageOf, takePage, waitsForPage, running}
 use Rattle.model.specs.Lists.{count, Lists}
-use Rattle.laws.specs.Count.{hit-or}
+use Rattle.laws.specs.Count.{hit-or, count-mid}
 use Rattle.laws.specs.Chain.{Page}
+use Rattle.laws.specs.Places.{in-q, q-free}
 use Rattle.laws.specs.Inv.{View, view, Label, Message, Base}
 use Rattle.laws.specs.Judged.{WellFormed}
 use Rattle.laws.specs.Frames.{other, Only}
 use Rattle.laws.specs.Views.{retold}
-use Rattle.laws.specs.Changes.{hand-page}
+use Rattle.laws.specs.Changes.{hand-page, hand-free}
 use Rattle.laws.specs.Hands.{in-hand, hand-base}
 use Rattle.laws.specs.Grants.{Gave, Takes, take-page}
 use Rattle.laws.specs.Grants.Takes.{gets, lacks}
 use Rattle.laws.specs.Aside.{aside-hand}
-use Rattle.laws.specs.Post.{deliver-all, deliver-frame, retold-letter, two, notice-only, notice-letter, message-only, message-words, message-letter}
+use Rattle.laws.specs.Post.{deliver-all, deliver-frame, retold-letter, two, notice-only, notice-words, notice-letter, message-only, message-words, message-letter}
 use Rattle.laws.specs.Who.{listed, label-at, Busy, busy, running-same, label-in}
-use Rattle.laws.specs.Mails.{clear-at}
+use Rattle.laws.specs.Mails.{clear-at, mail-queue}
 use Rattle.laws.specs.Simple.{named-in, Open, clear-open, named-same}
 use Rattle.history.specs.Order.{only}
 use Rattle.history.specs.Letter.{Letter, mailOf, words, key, waitingFor, Same, posts, posts-then, agrees, waits-same, procs-same, words-moved, held}
-use Rattle.history.specs.Letter.{held-same, label-same}
+use Rattle.history.specs.Letter.{held-same, label-same, Posts, texts-same, queue-same, mail-same}
 use Rattle.history.specs.Ways.{sme-both, sent-both}
 use Rattle.history.specs.Put.{Mailed, of, nothing, sending, noticeFrom, posting, hasPage, pageTaken, smeMail}
 use Rattle.history.specs.Calm.{calm-only}
-use Rattle.history.specs.Told.{Told, Stands, of-none, of-here, of-other, calm-done, runs-in, Sent, sent-same}
+use Rattle.history.specs.Told.{Told, Stands, of-none, of-here, of-other, calm-done, calm-fault, runs-in, Sent, sent-same}
+use Rattle.history.specs.Traced.{Each, Waited, Origin, About, Stood, Traced, posts-waited, calm-traced}
+use Rattle.history.specs.Traced.Origin.{unchanged, sent, notified}
+use Rattle.history.specs.Traced.About.{own}
 use Rattle.history.specs.Quiet.{fault-sent}
 use Rattle.history.specs.Taking.{calm-takes, takes-word, page-waits}
-use Rattle.history.specs.Delivering.{delivered-last, delivered-here, delivered-away, notice-mail}
+use Rattle.history.specs.Delivering.{delivered-last, delivered-here, delivered-away, delivered-texts, delivered-from, delivered-pages, notice-mail}
 use Rattle.history.specs.Copied.{copy-at}
 
 -- ---- a page taken from m, then written, then delivered
@@ -65,7 +68,7 @@ module _ {m : List ℕ} {ps : List ℕ} {L : Lists} {W : View} (b : Base m ps L 
   abbrev m4 : List ℕ
   m4 = memoryOf (Model.done m3 len)
 
-  g3 : Gave m3 ps [] 32 (retold m2 X q)
+  abbrev g3 : Gave m3 ps [] 32 (retold m2 X q)
   g3 = deliver-all b2 p hp t2 .gave
 
   d3 : Same ps (g3 .lists) m3 m4
@@ -108,6 +111,62 @@ module _ {m : List ℕ} {ps : List ℕ} {L : Lists} {W : View} (b : Base m ps L 
 
   pub put-sent : Sent m m4 (sending (p, x) q)
   put-sent = record { told = put-told; stands = put-stands }
+
+  -- ---- by pages: q is the one that is new
+  kept2 : Posts ps K m1 m2
+  kept2 = posts (calm-only (b1 .facts .sep) m1 m2 q (aside-hand b1 q (in-hand b1)) o)
+
+  -- what is written on q stays there
+  still-q : (j : ℕ) → note ≤ j → j < pageSize → word m4 q j ≡ word m2 q j
+  still-q j u v =
+      let c = q-free (g3 .base .facts .sep) p q1 q (omega arith) (omega arith) hp new-q in
+      texts-same (g3 .base) (posts d3) p q1 q hp (omega arith) (omega arith) new-q .texts j u v ∙ delivered-texts b2 p hp t2 .at q (c .0) (c .1) j u v
+    where
+      new-q : 1 ≤ count q (g3 .lists (place p q1))
+      new-q = rw (deliver-all b2 p hp t2 .here) (count-mid q (K (place p q1)) [])
+
+  module _ (e : Mailed) (wr : e .wrote ≡ q) (new : (y : ℕ) → Origin m m4 e y q) where
+    from : (y w z : ℕ) → 1 ≤ count y ps → q1 ≤ w → w ≤ q2 → 1 ≤ count z (queue m4 (place y w)) → Origin m m4 e y z
+    from y w z h u v i =
+        let a4 = posts-waited (g3 .base) (posts d3) y w z h u v i in
+        go a4 (delivered-from b2 p hp t2 y (a4 .0 .head) z h (a4 .0 .low) (a4 .0 .high) (a4 .0 .here))
+      where
+        out : (v : ℕ) → q1 ≤ v → v ≤ q2 → 1 ≤ count z (queue m1 (place y v)) → z ≢ q
+        out v l k c n =
+            let j = rw (mail-queue b1 y v h l k) at c in
+            omega (arith, ap (λ (i : ℕ). count i (K (place y v))) n, hand-free b1 q (in-hand b1) (place y v) (in-q ps y v l k h))
+
+        go : (a : Waited m3 m4 y z × (word m4 z Map.size ≡ word m3 z Map.size)) → (1 ≤ count z (queue m2 (place y (a .0 .head)))) ⊎ (z ≡ q) → Origin m m4 e y z
+        go a (inr f) = rw f (new y)
+        go a (inl f) =
+            let c = q-free (b2 .facts .sep) y (a .0 .head) z (a .0 .low) (a .0 .high) h (rw (mail-queue b2 y (a .0 .head) h (a .0 .low) (a .0 .high)) at f) in
+            let a2 = posts-waited b1 kept2 y (a .0 .head) z h (a .0 .low) (a .0 .high) f in
+            let a1 = posts-waited b (posts s1) y (a2 .0 .head) z h (a2 .0 .low) (a2 .0 .high) (a2 .0 .here) in
+            let not : z ≢ q = λ k. absurd (out (a2 .0 .head) (a2 .0 .low) (a2 .0 .high) (a2 .0 .here) k) in
+            let t3 = delivered-texts b2 p hp t2 in
+            unchanged (record {
+              head = a1 .0 .head;
+              low = a1 .0 .low;
+              high = a1 .0 .high;
+              here = a1 .0 .here;
+              note = a .0 .note ∙ t3 .at z (c .0) (c .1) note (omega arith) (omega arith) ∙ a2 .0 .note ∙ a1 .0 .note;
+            }) (a .1 ∙ t3 .at z (c .0) (c .1) Map.size (omega arith) (omega arith) ∙ a2 .1 ∙ a1 .1)
+            (λ k. not (k ∙ wr)) (λ g r k s. rw (procs4, ← listed b) k)
+
+    stood : Stood m4 q p x
+    stood = record {
+      before = queue m2 (place p q1);
+      last = queue-same (g3 .base) (posts d3) p q1 hp (omega arith) (omega arith)
+          ∙ sym (mail-queue (g3 .base) p q1 hp (omega arith) (omega arith)) ∙ delivered-pages b2 p hp t2;
+      is = mail-same m2 m4 q (hand-page b1 q (in-hand b1) .1) (letter .long) still-q;
+    }
+
+    pub put-traced : Each (λ (y : ℕ × ℕ). About m (e .wrote) (y .0) (y .1)) (e .about) → e .puts ≡ (p, x) ∷ [] → Traced m m4 e
+    put-traced ab pu = record {
+      pages = λ y w z h i u v j. from y w z (rw (listed b) at h) u v j;
+      about = ab;
+      written = rw (pu, wr) ((λ n. stood), tt);
+    }
 
 -- ---- what is written
 module _ {m : List ℕ} {ps : List ℕ} {L : Lists} {W : View} {hs : List ℕ} {g q : ℕ} (b : Base m ps L W (q ∷ hs) g) where
@@ -205,6 +264,50 @@ module _ {m : List ℕ} (w : WellFormed m) (d : running m ≢ 0) where
             rw (page1 n, z) (message-sent f (wrapped a 1) (getD m a 0) (pageOf m n) len f1 f2 l2 (omega arith)
             (named-in b n (eqb-false (pageOf m n) 0 z)) c)
 
+    -- ---- by pages
+    alive : 1 ≤ count (running m) (processors m)
+    alive = rw (listed b) hr
+
+    notice-traced : (n f len : ℕ) → 1 ≤ n → n ≤ 15 → 1 ≤ f → f ≤ 7
+        → Traced m (memoryOf (Model.done (deliver (makeNotice m1 q n f) (running m1) q) len)) (sending (running m, noticeFrom n f) q)
+    notice-traced n f len n1 n2 f1 f2 =
+        let o = notice-only (t .base) n f in
+        let l = notice-letter (t .base) n f n1 n2 f1 f2 in
+        put-traced b s1 (t .base) o (running m1) in1 l len (sending (running m, noticeFrom n f) q) refl
+        (λ y. notified (still-q b s1 (t .base) o (running m1) in1 l len Map.size (omega arith) (omega arith) ∙ notice-words (t .base) n f .1))
+        (own refl refl alive, tt) (rw (run1, notice-mail (t .base) n f f2))
+
+    message-traced : (f a l p len : ℕ) → 1 ≤ f → f ≤ 7 → l ≤ longest → a < memorySize → 1 ≤ count p (lists m processorList) → clear l a ≡ true
+        → Traced m (memoryOf (Model.done (deliver (writeMessage m1 q f a l) p q) len))
+        (sending (p, record { notice = false; sender = name m (running m); flag = f; size = l; text = words m a l }) q)
+    message-traced f a l p len f1 f2 l2 la hp c =
+        let x : Letter = record { notice = false; sender = name m (running m); flag = f; size = l; text = words m a l } in
+        let o = message-only (t .base) f a l l2 in
+        let lt = message-letter (t .base) f a l l2 f1 f2 named in
+        let op : (i : ℕ) → i < l → Open (wrapped a i) = λ i h. clear-open (wrapped a i) (clear-at l a c i h) in
+        let tx : words m1 a l ≡ words m a l = words-moved m m1 a a l la la (λ i h. takes-word b r hr q m1 e (wrapped a i) (op i h)) in
+        let lb : word m1 (running m1) label ≡ word m (running m) label =
+        label1 (running m1) in1 ∙ ap (λ (z : ℕ). word m z label) run1 in
+        let wm = written-mail (t .base) f a l f2 l2 la (λ i h. op i h .below) in
+        let sq = still-q b s1 (t .base) o p hp lt len in
+        let mw = message-words (t .base) f a l l2 in
+        let is : upper (word m1 (running m1) label % 16 * 16 + f) ≡ word m1 (running m1) label % 16 = omega arith in
+        put-traced b s1 (t .base) o p hp lt len (sending (p, x) q) refl
+        (λ y. sent refl (rw (sq Map.size (omega arith) (omega arith), mw .1) l2) (rw (sq note (omega arith) (omega arith), mw .0, is, lb)) alive
+        (rw (procs4 b s1 (t .base) o p hp lt len) hr))
+        tt (rw (wm, lb, tx))
+
+    posted-traced : (n f a len : ℕ) → 1 ≤ n → n ≤ 15 → 1 ≤ f → f ≤ 7 → getD m a 0 ≤ longest → clear (getD m a 0) (wrapped a 1) ≡ true
+        → Traced m (memoryOf (Model.done (posted m1 q n f a (getD m a 0)) len)) (sending (posting m n f a) q)
+    unfolding Operate.posted posting
+    posted-traced n f a len n1 n2 f1 f2 l2 c = go (eqb (pageOf m n) 0) refl
+      where
+        go : (x : Bool) → eqb (pageOf m n) 0 ≡ x → Traced m (memoryOf (Model.done (posted m1 q n f a (getD m a 0)) len)) (sending (posting m n f a) q)
+        go true z = rw (page1 n, z) (notice-traced n f len n1 n2 f1 f2)
+        go false z =
+            rw (page1 n, z) (message-traced f (wrapped a 1) (getD m a 0) (pageOf m n) len f1 f2 l2 (omega arith)
+            (named-in b n (eqb-false (pageOf m n) 0 z)) c)
+
   to-sent : (n f a len : ℕ) → 1 ≤ n → n ≤ 15 → 1 ≤ f → f ≤ 7 → getD m a 0 ≤ longest → clear (getD m a 0) (wrapped a 1) ≡ true
       → Sent m (memoryOf (Model.sent m n f a (getD m a 0) len)) (cond (hasPage (takePage m (running m))) (sending (posting m n f a) (pageTaken (takePage m (running m)))) nothing)
   unfolding pageTaken
@@ -221,3 +324,23 @@ module _ {m : List ℕ} (w : WellFormed m) (d : running m ≢ 0) where
   pub sme-sent : (n f a len : ℕ) → n < 16 → f < 8 → Sent m (memoryOf (Model.sme m n f a len)) (smeMail m n f a)
   sme-sent n f a len hn hf = sme-both m Ends (λ f i j. fault-sent w d f) n f a len (λ g.
       to-sent n f a len (g .name) (omega arith) (g .flag) (omega arith) (g .length) (g .text))
+
+  to-traced : (n f a len : ℕ) → 1 ≤ n → n ≤ 15 → 1 ≤ f → f ≤ 7 → getD m a 0 ≤ longest → clear (getD m a 0) (wrapped a 1) ≡ true
+      → Traced m (memoryOf (Model.sent m n f a (getD m a 0) len))
+      (cond (hasPage (takePage m (running m))) (sending (posting m n f a) (pageTaken (takePage m (running m)))) nothing)
+  unfolding pageTaken
+  to-traced n f a len n1 n2 f1 f2 l2 c = go (take-page r hr b)
+    where
+      go : Takes m r (lists m processorList) (lists m) (view m) [] 32
+          → Traced m (memoryOf (Model.sent m n f a (getD m a 0) len))
+          (cond (hasPage (takePage m (running m))) (sending (posting m n f a) (pageTaken (takePage m (running m)))) nothing)
+      go (gets q m1 e z t k) =
+          sent-both m (λ o e. Traced m (memoryOf o) e) e n f a _ len _ (λ y. absurd (z y)) (λ y.
+          let i : pageTaken (takePage m (running m)) ≡ q = rw e in
+          rw i (posted-traced q m1 e t k n f a len n1 n2 f1 f2 l2 c))
+      go (lacks e f3 g3) =
+          sent-both m (λ o e. Traced m (memoryOf o) e) e n f a _ len _ (λ y. calm-traced b (page-waits w d f3 g3)) (λ y. absurd (y refl))
+
+  pub sme-traced : (n f a len : ℕ) → n < 16 → f < 8 → Traced m (memoryOf (Model.sme m n f a len)) (smeMail m n f a)
+  sme-traced n f a len hn hf = sme-both m (λ o e. Traced m (memoryOf o) e) (λ f i j. calm-traced b (calm-fault b d f)) n f a len (λ g.
+      to-traced n f a len (g .name) (omega arith) (g .flag) (omega arith) (g .length) (g .text))

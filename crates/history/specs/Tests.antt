@@ -25,7 +25,9 @@ use Rattle.history.specs.Order.{only, Fails}
 use Rattle.history.specs.Letter.{mailOf, key, asked, asked-page, waitingFor, Same, posts, label-same, waits-same, procs-same}
 use Rattle.history.specs.Put.{nothing}
 use Rattle.history.specs.Told.{Told, of-none, told-same, calm-done, calm-jumps, calm-waits, runs-in}
-use Rattle.history.specs.Moving.{moved, move-lists, moved-away, moved-order, moved-first}
+use Rattle.history.specs.Calm.{calm-refl}
+use Rattle.history.specs.Traced.{Still, Traced, still-on, same-still, still-traced, calm-traced}
+use Rattle.history.specs.Moving.{moved, move-lists, moved-away, moved-order, moved-first, moved-still}
 
 -- ---- the first match of a list
 pub record Found (m : List ℕ) (n f q : ℕ) (zs : List ℕ) : Type 0 where
@@ -75,15 +77,19 @@ told-order {m} b b1 m2 s f =
 
 -- ---- TME: every tested message goes to the end of Q2, the first of Q1 first: what waits stays, word for word
 abbrev Waiting : List ℕ → List ℕ → View → List ℕ → Type 0
-Waiting m ps W x = (K : Lists) × Base x ps K W [] noOne × ((y : ℕ) → 1 ≤ count y ps → waitingFor x y ≡ waitingFor m y)
+Waiting m ps W x = (K : Lists) × Base x ps K W [] noOne × ((y : ℕ) → 1 ≤ count y ps → waitingFor x y ≡ waitingFor m y) × Still m x
 
 test-keeps : {m : List ℕ} {ps : List ℕ} {L : Lists} {W : View} (p n f : ℕ) → 1 ≤ count p ps → Base m ps L W [] noOne
     → Tried (Waiting m ps W) (testQ1 controlPages m p n f)
 test-keeps {m} {ps} {L} {W} p n f h b = test-kept (Waiting m ps W) p (λ x t d.
     let q = word x p q1 in
     let r = first-mail (t .1) p h d in
-    (moved (t .1) p q [] (r .0) h (r .1), move-lists (t .1) p q [] (r .0) h (r .1), λ y i. moved-first (t .1) p q (r .0) h (r .1) y i ∙ t .2 y i)) 20 m n f
-    (L, b, λ y i. refl)
+    (
+      moved (t .1) p q [] (r .0) h (r .1),
+      move-lists (t .1) p q [] (r .0) h (r .1),
+      λ y i. moved-first (t .1) p q (r .0) h (r .1) y i ∙ t .2 y i,
+      still-on (t .3) (moved-still (t .1) p q [] (r .0) h (r .1)),
+    )) 20 m n f (L, b, (λ y i. refl), same-still b (calm-refl m))
 
 module _ {m : List ℕ} (w : WellFormed m) (d : running m ≢ 0) where
   open Busy (busy w d) using (base as b, runs as hr, ready)
@@ -123,3 +129,28 @@ module _ {m : List ℕ} (w : WellFormed m) (d : running m ≢ 0) where
       (told-order b c (memoryOf (Model.jumps x a)) (calm-jumps (c .facts .sep) x (runs-in c) a) (λ p h k l. ap (only (key k l)) (t .kept .2 p h)))
       (told-order b c (memoryOf (Model.done x len)) (calm-done (c .facts .sep) x (runs-in c) len) (λ p h k l. ap (only (key k l)) (t .kept .2 p h)))
       (told-same b (memoryOf (Model.jumps m a)) (calm-jumps (b .facts .sep) m (runs-in b) a))
+
+  -- ---- by pages
+  pub wnm-traced : (n f len : ℕ) → f < 8 → Traced m (memoryOf (Model.wnm m n f len)) nothing
+  unfolding Mail.matches
+  wnm-traced n f len hf =
+      wnm-each m (λ o. Traced m (memoryOf o) nothing) n f len
+      (λ z. calm-traced b
+      (calm-waits b (place r ownSemaphore) (pair n f) d (own-sem (b .facts .sep) r hr) (omega (arith, ready)) (wnm-fit w d n f hf z)))
+      (λ z.
+      let q = Model.inQ1 m n f in
+      let t : Found m n f q (queue m (place r q1)) = found m n f (queue m (place r q1)) z in
+      let i = sym (mail-queue b r q1 hr (omega arith) (omega arith)) ∙ t .is in
+      let b1 = move-lists b r q (t .before) (t .behind) hr i in
+      let m1 = move m r q in
+      still-traced (still-on (moved-still b r q (t .before) (t .behind) hr i) (same-still b1 (calm-done (b1 .facts .sep) m1 (runs-in b1) len))) nothing refl refl)
+
+  pub tme-traced : (n f a len : ℕ) → Traced m (memoryOf (Model.tme m n f a len)) nothing
+  tme-traced n f a len =
+      let t = test-keeps r n f hr b in
+      let c = t .kept .1 in
+      let x = t .memory in
+      tme-each m (λ o. Traced m (memoryOf o) nothing) n f a len (t .is)
+      (still-traced (still-on (t .kept .3) (same-still c (calm-jumps (c .facts .sep) x (runs-in c) a))) nothing refl refl)
+      (still-traced (still-on (t .kept .3) (same-still c (calm-done (c .facts .sep) x (runs-in c) len))) nothing refl refl)
+      (calm-traced b (calm-jumps (b .facts .sep) m (runs-in b) a))

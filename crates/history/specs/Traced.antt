@@ -5,28 +5,33 @@ use mathlib.Core.Path.{_≡_, refl, sym, ap, _∙_}
 use mathlib.Core.Logic.{_≢_, _⊎_, inl, inr}
 use mathlib.Core.Bool.{Bool, true, false}
 use mathlib.Core.List.{List, [], _∷_, _++_}
-use Prim.Native.Nat.{ℕ, zero, suc, _≤_}
+use Prim.Native.Nat.{ℕ, zero, suc, _≤_, _<_}
 use native.Mathlib.Omega.{arith}
 use lib.ListN.{getD}
 use lib.Dec.{eqb}
 use borrow.Author.Tests.{eqb-false}
 use Rattle.model.specs.Map as Map
-use Rattle.model.specs.Map.{controlPages, isUnmarked, link, longest, markAdded, note, notice, place, q1, q2, size}
+use Rattle.model.specs.Map.{controlPages, isUnmarked, link, longest, markAdded, note, notice, pageSize, place, q1, q2, size}
 use Rattle.model.specs.Queue as Queue
 use Rattle.model.specs.Bytes.{word, name, processors, queue, running, sender}
 use Rattle.model.specs.Lists.{count, Lists}
 use Rattle.laws.specs.Count.{hit-or, hit-other}
 use Rattle.laws.specs.Chain.{walk}
 use Rattle.laws.specs.Inv.{Base, View}
+use Rattle.laws.specs.Places.{q-free}
 use Rattle.laws.specs.Mails.{mail-queue}
 use Rattle.laws.specs.Who.{listed}
-use Rattle.history.specs.Letter.{Letter, mailOf, Same, Posts, posts, queue-same, texts-same, procs-same}
+use Rattle.history.specs.Letter.{Letter, mailOf, Same, Posts, posts, queue-same, texts-same, procs-same, Texted}
 use Rattle.history.specs.Put.{Mailed, nothing}
 
 -- of each of a list
 abbrev pub Each : {A : Type 0} → (A → Type 0) → List A → Type 0
 Each P [] = Unit {0}
 Each P (x ∷ xs) = P x × Each P xs
+
+pub each-all : {A : Type 0} {P : A → Type 0} → ((x : A) → P x) → (xs : List A) → Each P xs
+each-all h [] = tt
+each-all h (x ∷ xs) = (h x, each-all h xs)
 
 pub each-append : {A : Type 0} (P : A → Type 0) (xs ys : List A) → Each P xs → Each P ys → Each P (xs ++ ys)
 each-append P [] ys h k = k
@@ -82,13 +87,18 @@ pub data About (m : List ℕ) (wrote to page : ℕ) : Type 0 where
   back : page ≢ wrote → (p w : ℕ) → 1 ≤ count p (processors m) → q1 ≤ w → w ≤ q2 → 1 ≤ count page (queue m (place p w))
       → isUnmarked (word m page size) ≡ true → 1 ≤ count to (processors m) → name m to ≡ sender m page → About m wrote to page
 
+-- page q stands at the end of Q1 of p, with letter x on it
+pub record Stood (m : List ℕ) (q p : ℕ) (x : Letter) : Type 0 where
+  pub before : List ℕ
+  pub last : queue m (place p q1) ≡ before ++ q ∷ []
+  pub is : mailOf m q ≡ x
+
 pub record Traced (m m′ : List ℕ) (e : Mailed) : Type 0 where
   pub pages : (p w x : ℕ) → 1 ≤ count p (processors m) → 1 ≤ count p (processors m′) → q1 ≤ w → w ≤ q2 → 1 ≤ count x (queue m′ (place p w))
       → Origin m m′ e p x
   pub about : Each (λ (y : ℕ × ℕ). About m (e .wrote) (y .0) (y .1)) (e .about)
   -- what the one that runs wrote stands on that page, at the end of Q1
-  pub written : (p : ℕ) (x : Letter) → e .wrote ≢ 0 → e .puts ≡ (p, x) ∷ []
-      → (zs : List ℕ) × (queue m′ (place p q1) ≡ zs ++ e .wrote ∷ []) × (mailOf m′ (e .wrote) ≡ x)
+  pub written : Each (λ (y : ℕ × Letter). e .wrote ≢ 0 → Stood m′ (e .wrote) (y .0) (y .1)) (e .puts)
 
 -- ---- nobody is born or gone, and every message that waits waited before, for the same one, on the same page, and is as it was
 pub record Still (m m′ : List ℕ) : Type 0 where
@@ -115,7 +125,7 @@ still-traced {m} {m′} s e z n = record {
       let a = s .waited p w x h u v j in
       unchanged a (s .sizes p w x h u v j) (λ d. some-page m′ (place p w) x j (d ∙ z)) (λ f r k d. rw (s .alive) k);
   about = rw n tt;
-  written = λ p x d f. absurd (d z);
+  written = each-all (λ y d. absurd (d z)) (e .puts);
 }
 
 -- ---- a step that leaves the words of Q1 and Q2, and of the processor list, alone
@@ -140,3 +150,33 @@ same-still b s = record {
   waited = λ p w x h u v i. posts-waited b (posts s) p w x (rw (listed b) at h) u v i .0;
   sizes = λ p w x h u v i. posts-waited b (posts s) p w x (rw (listed b) at h) u v i .1;
 }
+
+pub calm-traced : {m : List ℕ} {ps : List ℕ} {L : Lists} {W : View} {hs : List ℕ} {g : ℕ} → Base m ps L W hs g → {m′ : List ℕ} → Same ps L m m′
+    → Traced m m′ nothing
+calm-traced b s = still-traced (same-still b s) nothing refl refl
+
+-- ---- a step that leaves all texts, and after which each list holds only what was in Q1 or Q2 of the same one
+pub texted-still : {m m1 : List ℕ} {ps : List ℕ} {L K : Lists} {W X : View} {hs ks : List ℕ} {g k : ℕ} → Base m ps L W hs g → Base m1 ps K X ks k → Texted ps m m1
+    → ((p w x : ℕ) → 1 ≤ count p ps → q1 ≤ w → w ≤ q2 → 1 ≤ count x (K (place p w)) → (v : ℕ) × (q1 ≤ v) × (v ≤ q2) × (1 ≤ count x (L (place p v))))
+    → Still m m1
+texted-still {m} {m1} {ps} {K = K} b c t f = record {
+  alive = listed c ∙ sym (listed b);
+  waited = λ p w x h u v i.
+      let j = rw (listed b) at h in
+      let o = f p w x j u v (inside p w x j u v i) in
+      record {
+        head = o .0;
+        low = o .1;
+        high = o .2;
+        here = rw (mail-queue b p (o .0) j (o .1) (o .2)) (o .3);
+        note = stays p w x j u v i Map.note (omega arith) (omega arith);
+      };
+  sizes = λ p w x h u v i. stays p w x (rw (listed b) at h) u v i size (omega arith) (omega arith);
+}
+  where
+    inside : (p w x : ℕ) → 1 ≤ count p ps → q1 ≤ w → w ≤ q2 → 1 ≤ count x (queue m1 (place p w)) → 1 ≤ count x (K (place p w))
+    inside p w x h u v i = rw (mail-queue c p w h u v) at i
+
+    stays : (p w x : ℕ) → 1 ≤ count p ps → q1 ≤ w → w ≤ q2 → 1 ≤ count x (queue m1 (place p w)) → (j : ℕ) → Map.note ≤ j → j < pageSize
+        → word m1 x j ≡ word m x j
+    stays p w x h u v i j l k = let q = q-free (c .facts .sep) p w x u v h (inside p w x h u v i) in t .at x (q .0) (q .1) j l k
