@@ -37,5 +37,6 @@ pub mod Others
 -- The run, and what follows
 pub mod Begin
 pub mod Lives
+pub mod Senders
 pub mod Said
 pub mod Example

@@ -156,29 +156,35 @@ call-lawful k (set r) e = passing-lawful (set-passes k r)
 call-lawful k read e = passing-lawful (read-passes k)
 call-lawful k judge-it e = passing-lawful (judge-passes k)
 
-start-kept : (m : List ℕ) (line d : ℕ) → length m ≡ memorySize → startable line d ≡ true → Kept (memoryOf (fresh m line d)) noneYet
-start-kept m line d l e p i s f = rw (fresh-empty m line d l e p i)
+-- ---- what a fresh start has, and each call and change by the host keeps, every run has
+module _ (P : List ℕ → Past → Type 0)
+    (begins : (m : List ℕ) (line d : ℕ) → length m ≡ memorySize → startable line d ≡ true → P (memoryOf (fresh m line d)) noneYet)
+    (keeps : (m m′ : List ℕ) (e : Mailed) → Sound m → Lawful m m′ e → (h : Past) → P m h → P m′ (grown m m′ e h)) where
+  restart-has : {m : List ℕ} → Sound m → (a : Act) → restarts a ≡ true → P (after a m) noneYet
+  unfolding Calls.after restarts
+  restart-has {m} k (fresh-start line d) e = begins m line d (k .size) e
+  restart-has k instruct e = let z : _≡_ {A = ℕ} 0 1 = cc in absurd (omega arith)
+  restart-has k (signal n c) e = let z : _≡_ {A = ℕ} 0 1 = cc in absurd (omega arith)
+  restart-has k (signals l) e = let z : _≡_ {A = ℕ} 0 1 = cc in absurd (omega arith)
+  restart-has k (set r) e = let z : _≡_ {A = ℕ} 0 1 = cc in absurd (omega arith)
+  restart-has k read e = let z : _≡_ {A = ℕ} 0 1 = cc in absurd (omega arith)
+  restart-has k judge-it e = let z : _≡_ {A = ℕ} 0 1 = cc in absurd (omega arith)
 
-restart-kept : {m : List ℕ} → Sound m → (a : Act) → restarts a ≡ true → Kept (after a m) noneYet
-unfolding Calls.after restarts
-restart-kept {m} k (fresh-start line d) e = start-kept m line d (k .size) e
-restart-kept k instruct e = let z : _≡_ {A = ℕ} 0 1 = cc in absurd (omega arith)
-restart-kept k (signal n c) e = let z : _≡_ {A = ℕ} 0 1 = cc in absurd (omega arith)
-restart-kept k (signals l) e = let z : _≡_ {A = ℕ} 0 1 = cc in absurd (omega arith)
-restart-kept k (set r) e = let z : _≡_ {A = ℕ} 0 1 = cc in absurd (omega arith)
-restart-kept k read e = let z : _≡_ {A = ℕ} 0 1 = cc in absurd (omega arith)
-restart-kept k judge-it e = let z : _≡_ {A = ℕ} 0 1 = cc in absurd (omega arith)
+  later-has : {m : List ℕ} → Sound m → (h : Past) → P m h → (a : Act) → P (after a m) (later a m h)
+  unfolding later
+  later-has {m} k h q a = go (restarts a) refl
+    where
+      go : (c : Bool) → restarts a ≡ c → P (after a m) (later a m h)
+      go true e = rw e (restart-has k a e)
+      go false e = rw e (keeps m (after a m) (mailBy a m) k (call-lawful k a e) h q)
 
-later-kept : {m : List ℕ} → Sound m → (h : Past) → Kept m h → (a : Act) → Kept (after a m) (later a m h)
-unfolding later
-later-kept {m} k h q a = go (restarts a) refl
-  where
-    go : (c : Bool) → restarts a ≡ c → Kept (after a m) (later a m h)
-    go true e = rw e (restart-kept k a e)
-    go false e = rw e (grown-kept (call-lawful k a e .told) h q)
+  pub run-has : (m : List ℕ) (h : Past) → Run m h → P m h
+  run-has _ _ (start m line d l s e) = begins m line d l e
+  run-has _ _ (call m h a r) = later-has (reached-sound m (run-reached m h r)) h (run-has m h r) a
+  run-has _ _ (host m m′ h k r) =
+      let s = reached-sound m (run-reached m h r) in keeps m m′ nothing s (passing-lawful (host-passes s k)) h (run-has m h r)
 
+-- ---- the order of mail
 pub nothing-lost : (m : List ℕ) (h : Past) → Run m h → (p : ℕ) → 1 ≤ count p (processors m) → (s f : ℕ)
     → only (key s f) (h .read p ++ waitingFor m p) ≡ only (key s f) (h .put p)
-nothing-lost _ _ (start m line d l s e) = start-kept m line d l e
-nothing-lost _ _ (call m h a r) = later-kept (reached-sound m (run-reached m h r)) h (nothing-lost m h r) a
-nothing-lost _ _ (host m m′ h k r) = grown-kept (host-passes (reached-sound m (run-reached m h r)) k .told) h (nothing-lost m h r)
+nothing-lost = run-has Kept (λ m line d l e p i s f. rw (fresh-empty m line d l e p i)) (λ m m′ e k t h q. grown-kept (t .told) h q)
