@@ -4,11 +4,11 @@ use mathlib.Core.Path.{_≡_, refl, sym, ap, _∙_}
 use mathlib.Core.Logic.{_≢_, _⊎_, inl, inr}
 use mathlib.Core.Bool.{Bool, true, false}
 use mathlib.Core.List.{List, [], _∷_, _++_, append-nil, append-assoc}
-use Prim.Native.Nat.{ℕ, _%_, _≤_, _<_}
+use Prim.Native.Nat.{ℕ, suc, _%_, _≤_, _<_}
 use native.Mathlib.Omega.{arith}
 use lib.ListN.{length, getD, set}
 use lib.Dec.{eqb}
-use borrow.Author.Tests.{eqb-true, eqb-false, leb-true, lt-ltb, ltb-true}
+use borrow.Author.Tests.{eqb-true, eqb-false, eq-eqb, ne-eqb, leb-true, lt-ltb, ltb-true}
 use Rattle.model.specs.Map.{controlPages, isStopped, isUnmarked, lower, mark, notice}
 use Rattle.model.specs.Map.{grantFor, label, note, place, processorList, q1, q2, runningPage, size, state}
 use Rattle.model.specs.Bytes.{name, running, word}
@@ -36,12 +36,13 @@ use Rattle.laws.specs.Marking.Fate.{marks, stays}
 use Rattle.laws.specs.Simple.{first-in, named-in}
 use Rattle.laws.specs.Who.{label-at, listed, Busy, busy}
 use Rattle.laws.specs.Delete.{Queue, Drained, drain, facts-whole}
+use Rattle.history.specs.Order.{only-yes}
 use Rattle.history.specs.Letter.{Letter, waitingFor, Same, posts, label-same, waits-same, procs-same, held, held-same}
 use Rattle.history.specs.Ways.{dep-both}
-use Rattle.history.specs.Put.{Log, Mailed, nothing, of, returning, returnsTo, notices, noticesAbout, depMail}
+use Rattle.history.specs.Put.{Log, Mailed, nothing, noticeFrom, of, onlyNotices, returning, returnsTo, notices, noticesAbout, depMail}
 use Rattle.history.specs.Calm.{calm-low}
-use Rattle.history.specs.Told.{of-none, calm-done, calm-fault, runs-in, Sent}
-use Rattle.history.specs.Traced.{Each, each-all, each-append, Waited, Origin, About, Traced, some-page, posts-waited, calm-traced}
+use Rattle.history.specs.Told.{of-none, of-yes, of-no, calm-done, calm-fault, runs-in, Sent}
+use Rattle.history.specs.Traced.{Each, each-all, none-counted, each-append, Waited, Origin, About, Traced, some-page, posts-waited, calm-traced}
 use Rattle.history.specs.Traced.Origin.{unchanged, newly-marked, notified}
 use Rattle.history.specs.Traced.About.{back}
 use Rattle.history.specs.Quiet.{fault-sent}
@@ -182,6 +183,36 @@ about-append m p (x ∷ xs) ys = go (eqb (returnsTo m p x) 0) refl (about-append
         → noticesAbout m p (x ∷ xs ++ ys) ≡ noticesAbout m p (x ∷ xs) ++ noticesAbout m p ys
     go true e ih = rw (e, noticesAbout, ih)
     go false e ih = rw (e, noticesAbout, ih)
+
+-- of each it is said what it is about
+about-counted : (m : List ℕ) (p : ℕ) (qs : List ℕ) (y : ℕ) → length (of y (noticesAbout m p qs)) ≡ length (onlyNotices (of y (notices m p qs)))
+unfolding noticesAbout notices
+about-counted m p [] y = none-counted y
+about-counted m p (q ∷ qs) y = go (eqb (returnsTo m p q) 0) refl (hit-or y (returnsTo m p q)) (about-counted m p qs y)
+  where
+    go : (c : Bool) → eqb (returnsTo m p q) 0 ≡ c → (y ≡ returnsTo m p q) ⊎ (y ≢ returnsTo m p q)
+        → length (of y (noticesAbout m p qs)) ≡ length (onlyNotices (of y (notices m p qs)))
+        → length (of y (noticesAbout m p (q ∷ qs))) ≡ length (onlyNotices (of y (notices m p (q ∷ qs))))
+    go true e d ih = rw (e, noticesAbout, notices) ih
+    go false e (inl d) ih =
+        let f = eq-eqb y (returnsTo m p q) d in
+        rw (
+          e,
+          noticesAbout,
+          notices,
+          of-yes y (returnsTo m p q, q) (noticesAbout m p qs) f,
+          of-yes y (returnsTo m p q, noticeFrom (name m p) (lower (word m q note))) (notices m p qs) f,
+          only-yes (λ (z : Letter). z .notice) (noticeFrom (name m p) (lower (word m q note))) (of y (notices m p qs)) refl,
+        ) (ap suc ih)
+    go false e (inr d) ih =
+        let f = ne-eqb y (returnsTo m p q) d in
+        rw (
+          e,
+          noticesAbout,
+          notices,
+          of-no y (returnsTo m p q, q) (noticesAbout m p qs) f,
+          of-no y (returnsTo m p q, noticeFrom (name m p) (lower (word m q note))) (notices m p qs) f,
+        ) ih
 
 -- ---- the instruction
 module _ {m : List ℕ} (w : WellFormed m) (d : running m ≢ 0) where
@@ -338,6 +369,7 @@ module _ {m : List ℕ} (w : WellFormed m) (d : running m ≢ 0) where
             rw (about-append m p (queue m (place p q2)) (queue m (place p q1))) (each-append (λ (y : ℕ × ℕ). About m 0 (y .0) (y .1))
             (noticesAbout m p (queue m (place p q2))) (noticesAbout m p (queue m (place p q1)))
             (backs q2 (omega arith) (omega arith) (queue m (place p q2)) (λ z c. c)) (backs q1 (omega arith) (omega arith) (queue m (place p q1)) (λ z c. c)));
+        counted = about-counted m p (queue m (place p q2) ++ queue m (place p q1));
         written = each-all (λ y o. absurd (o refl)) letters;
       }
 

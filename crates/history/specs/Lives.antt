@@ -144,7 +144,7 @@ pub record Lawful (m m′ : List ℕ) (e : Mailed) : Type 0 where
   pub traced : Traced m m′ e
 
 pub passing-lawful : {m m′ : List ℕ} → Passing m m′ → Lawful m m′ nothing
-passing-lawful t = record { told = t .told; traced = still-traced (t .still) nothing refl refl }
+passing-lawful t = record { told = t .told; traced = still-traced (t .still) nothing refl refl refl }
 
 pub call-lawful : {m : List ℕ} → Sound m → (a : Act) → restarts a ≡ false → Lawful m (after a m) (mailBy a m)
 unfolding Calls.after mailBy restarts

@@ -15,6 +15,7 @@ use Rattle.model.specs.Page.Taken.{took}
 use Rattle.model.specs.Instruction.{exiCode, firstWord, lengthFor, shapeFor, builtIn}
 use Rattle.model.specs.Bytes.{at, queue, running, name, pageOf, takePage, inQ2, lengthOf, sender, flag, unmarked, stopped, kind, isForeign, argumentFault}
 use Rattle.model.specs.Bytes.{pointed, direct, indexed, codeAt, finding, lr}
+use Rattle.history.specs.Order.{only}
 use Rattle.history.specs.Letter.{Letter, words, mailOf}
 
 -- messages, each with the page of a processor
@@ -44,6 +45,10 @@ sending x q = record { puts = x ∷ []; reads = []; target = 0; wrote = q; about
 unfoldable pub of : {A : Type 0} → ℕ → List (ℕ × A) → List A
 of p [] = []
 of p (x ∷ xs) = elim (eqb p (x .0)) [ true ↦ x .1 ∷ of p xs | false ↦ of p xs ]
+
+-- of what was put, the notices
+abbrev pub onlyNotices : List Letter → List Letter
+onlyNotices = only (λ (x : Letter). x .notice)
 
 -- a notice from the name n with flag f
 abbrev pub noticeFrom : ℕ → ℕ → Letter

@@ -179,4 +179,4 @@ module _ {m : List ℕ} (w : WellFormed m) (d : running m ≢ 0) where
       let q6 = mail-queue b r q2 hr (omega arith) (omega arith) in
       still-traced (received-still n f (Model.inQ2 m n f) a len
       (record { before = t .before; behind = t .behind; is = sym q6 ∙ t .is; match = t .match; none = t .none }) (g .target))
-      (reading r (mailOf m (Model.inQ2 m n f)) a) refl refl)
+      (reading r (mailOf m (Model.inQ2 m n f)) a) refl refl refl)

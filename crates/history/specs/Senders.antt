@@ -6,14 +6,14 @@ use mathlib.Core.Bool.{Bool, true, false, cond, _&&_}
 use mathlib.Core.List.{List, [], _∷_, _++_, map}
 use Prim.Native.Nat.{ℕ, suc, _≤_}
 use native.Mathlib.Omega.{arith}
-use lib.ListN.{length, length-append}
+use lib.ListN.{length, length-append, length-map}
 use lib.Dec.{eqb}
-use borrow.Author.Tests.{eqb-true, eq-eqb, ne-eqb, le-leb, ltb-true, ltb-false}
+use borrow.Author.Tests.{eqb-true, eqb-false, eq-eqb, ne-eqb, le-leb, ltb-true, ltb-false}
 use Rattle.model.specs.Map as Map
 use Rattle.model.specs.Map.{isUnmarked, lower, mark, markAdded, memorySize, notice, place, processorList, q1, q2, size, upper}
 use Rattle.model.specs.Fresh.{startable}
 use Rattle.model.specs.Answer.{memoryOf}
-use Rattle.model.specs.Bytes.{fresh, lists, name, processors, queue, running, sender, word}
+use Rattle.model.specs.Bytes.{fresh, instruction, isNotice, lists, name, processors, queue, running, sender, unmarked, word}
 use Rattle.model.specs.Lists.{count}
 use Rattle.laws.specs.Count.{count-append, hit-or, zero-or}
 use Rattle.laws.specs.Inv.{Base, noOne, view}
@@ -24,15 +24,15 @@ use Rattle.laws.specs.Calls as Calls
 use Rattle.laws.specs.Calls.{Act, Sound, after, reached-sound, well}
 use Rattle.history.specs.Order.{only, only-nil, only-yes, only-no, only-append}
 use Rattle.history.specs.Letter.{Letter, mailOf, waitingFor}
-use Rattle.history.specs.Put.{Mailed, of}
+use Rattle.history.specs.Put.{Mailed, mailed, of, onlyNotices}
 use Rattle.history.specs.Told.{of-none, of-append}
-use Rattle.history.specs.Traced.{About, Each, Origin, Waited, each-append}
+use Rattle.history.specs.Traced.{About, Each, Origin, each-append, each-as}
 use Rattle.history.specs.Traced.About.{own, back}
 use Rattle.history.specs.Traced.Origin.{unchanged, newly-marked, sent, notified}
 use Rattle.history.specs.Begin.{fresh-empty}
-use Rattle.history.specs.Others.{host-passes}
+use Rattle.history.specs.Whole.{instruction-told, instruction-traced}
 use Rattle.history.specs.Lives.{Lawful, Life, Living, Past, Run, call-lawful, grown, later, life, lives, mailBy, noneYet, passing-lawful, restarts}
-use Rattle.history.specs.Lives.{run-has, sentBy}
+use Rattle.history.specs.Lives.{run-has, run-reached, sentBy}
 
 
 -- ---- a processor that lives, has the name of the sender of message x, and is the life that sent it
@@ -121,6 +121,14 @@ module _ (m m′ : List ℕ) (e : Mailed) (h : Past) where
   noticed-on : (p : ℕ) → Living m p → Living m′ p → grown m m′ e h .noticed p ≡ h .noticed p ++ map (sentBy m e h) (of p (e .about))
   unfolding grown lives
   noticed-on p i j = rw (le-leb 1 (count p (processors m)) i, le-leb 1 (count p (processors m′)) j)
+
+  put-on : (p : ℕ) → Living m p → Living m′ p → grown m m′ e h .put p ≡ h .put p ++ of p (e .puts)
+  unfolding grown lives
+  put-on p i j = rw (le-leb 1 (count p (processors m)) i, le-leb 1 (count p (processors m′)) j)
+
+  put-new : (p : ℕ) → count p (processors m) ≡ 0 → grown m m′ e h .put p ≡ []
+  unfolding grown lives
+  put-new p i = rw i
 
   noticed-new : (p : ℕ) → count p (processors m) ≡ 0 → grown m m′ e h .noticed p ≡ []
   unfolding grown lives
@@ -236,3 +244,49 @@ senders-start m line d l e = record {
 
 pub senders : (m : List ℕ) (h : Past) → Run m h → Senders m h
 senders = run-has Senders senders-start (λ m m′ e k t h q. senders-on t (one-each k) h q)
+
+-- ---- what follows, at any point of any run
+module _ (m : List ℕ) (h : Past) (r : Run m h) where
+  pub living-sender : (p w x : ℕ) → Living m p → WaitsAt m p w x → unmarked m x ≡ true → SentBy m h x
+  living-sender p w x i c u = let l = ltb-true (word m x size) mark u in senders m h r .mail p w x i c (omega arith) .unmarked u
+
+  pub gone-sender : (p w x : ℕ) → Living m p → WaitsAt m p w x → unmarked m x ≡ false → isNotice m x ≡ false → (q : ℕ) → Living m q → h .by x ≢ life h q
+  gone-sender p w x i c u n = senders m h r .mail p w x i c (eqb-false (word m x size) notice n) .marked u
+
+  pub own-notices : (p : ℕ) → Living m p → Own h p
+  own-notices = senders m h r .own
+
+  -- what an instruction puts now
+  pub notice-to-sender : Each (λ (y : ℕ × ℕ). sentBy m (mailed m) h (y .1) ≡ life h (y .0)) (mailed m .about)
+  notice-to-sender =
+      let k = reached-sound m (run-reached m h r) in
+      let t : Lawful m (memoryOf (instruction m)) (mailed m) = record { told = instruction-told k; traced = instruction-traced k } in
+      each-as (λ y a. about-own t (one-each k) h (senders m h r) (y .0) (y .1) a) (mailed m .about) (instruction-traced k .about)
+
+  -- a life that begins now is none that was
+  pub new-life : (p : ℕ) → Living m p → h .since p ≤ h .calls
+  new-life = senders m h r .began
+
+-- ---- of each notice that was put it is known what it is about
+pub notices-counted : (m : List ℕ) (h : Past) → Run m h → (p : ℕ) → Living m p → length (h .noticed p) ≡ length (onlyNotices (h .put p))
+notices-counted =
+    run-has (λ m h. (p : ℕ) → Living m p → length (h .noticed p) ≡ length (onlyNotices (h .put p)))
+    (λ m line d l e p i. rw (only-nil (λ (x : Letter). x .notice)))
+    (λ m m′ e k t h q p i. go m m′ e h p i (t .traced .counted p) (q p) (zero-or (count p (processors m))))
+  where
+    go : (m m′ : List ℕ) (e : Mailed) (h : Past) (p : ℕ) → Living m′ p → length (of p (e .about)) ≡ length (onlyNotices (of p (e .puts)))
+        → (Living m p → length (h .noticed p) ≡ length (onlyNotices (h .put p))) → (count p (processors m) ≡ 0) ⊎ (1 ≤ count p (processors m))
+        → length (grown m m′ e h .noticed p) ≡ length (onlyNotices (grown m m′ e h .put p))
+    go m m′ e h p i c q (inl z) =
+        rw (noticed-new m m′ e h p z, put-new m m′ e h p z, only-nil (λ (x : Letter). x .notice))
+    go m m′ e h p i c q (inr j) =
+        rw (
+          noticed-on m m′ e h p j i,
+          put-on m m′ e h p j i,
+          only-append (λ (x : Letter). x .notice) (h .put p) (of p (e .puts)),
+          length-append,
+          length-append,
+          length-map (of p (e .about)) (sentBy m e h),
+          c,
+          q j,
+        )

@@ -6,7 +6,7 @@ use mathlib.Core.Bool.{Bool, true, false, cond}
 use mathlib.Core.List.{List, [], _∷_, _++_, append-nil}
 use Prim.Native.Nat.{ℕ, _+_, _*_, _/_, _%_, _≤_, _<_}
 use native.Mathlib.Omega.{arith}
-use lib.ListN.{getD}
+use lib.ListN.{length, getD}
 use lib.Dec.{eqb}
 use borrow.Author.Tests.{eqb-false, ne-eqb}
 use Rattle.model.specs.Map as Map
@@ -37,11 +37,11 @@ use Rattle.laws.specs.Post.{deliver-all, deliver-frame, retold-letter, two, not
 use Rattle.laws.specs.Who.{listed, label-at, Busy, busy, running-same, label-in}
 use Rattle.laws.specs.Mails.{clear-at, mail-queue}
 use Rattle.laws.specs.Simple.{named-in, Open, clear-open, named-same}
-use Rattle.history.specs.Order.{only}
+use Rattle.history.specs.Order.{only, only-nil, only-yes, only-no}
 use Rattle.history.specs.Letter.{Letter, mailOf, words, key, waitingFor, Same, posts, posts-then, agrees, waits-same, procs-same, words-moved, held}
 use Rattle.history.specs.Letter.{held-same, label-same, Posts, texts-same, queue-same, mail-same}
 use Rattle.history.specs.Ways.{sme-both, sent-both}
-use Rattle.history.specs.Put.{Mailed, of, nothing, sending, noticeFrom, posting, hasPage, pageTaken, smeMail}
+use Rattle.history.specs.Put.{Mailed, of, onlyNotices, nothing, sending, noticeFrom, posting, hasPage, pageTaken, smeMail}
 use Rattle.history.specs.Calm.{calm-only}
 use Rattle.history.specs.Told.{Told, Stands, of-none, of-here, of-other, calm-done, calm-fault, runs-in, Sent, sent-same}
 use Rattle.history.specs.Traced.{Each, Waited, Origin, About, Stood, Traced, posts-waited, calm-traced}
@@ -161,10 +161,12 @@ module _ {m : List ℕ} {ps : List ℕ} {L : Lists} {W : View} (b : Base m ps L 
       is = mail-same m2 m4 q (hand-page b1 q (in-hand b1) .1) (letter .long) still-q;
     }
 
-    pub put-traced : Each (λ (y : ℕ × ℕ). About m (e .wrote) (y .0) (y .1)) (e .about) → e .puts ≡ (p, x) ∷ [] → Traced m m4 e
-    put-traced ab pu = record {
+    pub put-traced : Each (λ (y : ℕ × ℕ). About m (e .wrote) (y .0) (y .1)) (e .about) → e .puts ≡ (p, x) ∷ []
+        → ((y : ℕ) → length (of y (e .about)) ≡ length (onlyNotices (of y (e .puts)))) → Traced m m4 e
+    put-traced ab pu co = record {
       pages = λ y w z h i u v j. from y w z (rw (listed b) at h) u v j;
       about = ab;
+      counted = co;
       written = rw (pu, wr) ((λ n. stood), tt);
     }
 
@@ -203,6 +205,19 @@ module _ {m : List ℕ} {ps : List ℕ} {L : Lists} {W : View} {hs : List ℕ} {
         let e2 : (name m (running m) * 16 + f) % 16 ≡ f = omega arith in
         let e3 : lengthIn l ≡ l = omega arith in
         rw (message-words b f a l l2 .0, message-words b f a l l2 .1, ne-eqb l notice (omega arith), e1, e2, e3, written-text far)
+
+-- ---- of a notice that is sent it is said what it is about
+sending-counted : (r : ℕ) (x : Letter) (q p : ℕ) → length (of p (sending (r, x) q .about)) ≡ length (onlyNotices (of p ((r, x) ∷ [])))
+sending-counted r x q p = go (x .notice) refl (hit-or p r)
+  where
+    here : {A : Type 0} (v : A) → p ≡ r → of p ((r, v) ∷ []) ≡ v ∷ []
+    here v z = rw z (of-here r v)
+
+    go : (c : Bool) → x .notice ≡ c → (p ≡ r) ⊎ (p ≢ r) → length (of p (cond c ((r, q) ∷ []) [])) ≡ length (onlyNotices (of p ((r, x) ∷ [])))
+    go true e (inl z) = rw (here q z, here x z, only-yes (λ (y : Letter). y .notice) x [] e, only-nil (λ (y : Letter). y .notice))
+    go true e (inr d) = rw (of-other p r q d, of-other p r x d, only-nil (λ (y : Letter). y .notice))
+    go false e (inl z) = rw (of-none {A = ℕ} p, here x z, only-no (λ (y : Letter). y .notice) x [] e, only-nil (λ (y : Letter). y .notice))
+    go false e (inr d) = rw (of-none {A = ℕ} p, of-other p r x d, only-nil (λ (y : Letter). y .notice))
 
 -- ---- the instruction
 module _ {m : List ℕ} (w : WellFormed m) (d : running m ≢ 0) where
@@ -275,7 +290,7 @@ module _ {m : List ℕ} (w : WellFormed m) (d : running m ≢ 0) where
         let l = notice-letter (t .base) n f n1 n2 f1 f2 in
         put-traced b s1 (t .base) o (running m1) in1 l len (sending (running m, noticeFrom n f) q) refl
         (λ y. notified (still-q b s1 (t .base) o (running m1) in1 l len Map.size (omega arith) (omega arith) ∙ notice-words (t .base) n f .1))
-        (own refl refl alive, tt) (rw (run1, notice-mail (t .base) n f f2))
+        (own refl refl alive, tt) (rw (run1, notice-mail (t .base) n f f2)) (sending-counted (running m) (noticeFrom n f) q)
 
     message-traced : (f a l p len : ℕ) → 1 ≤ f → f ≤ 7 → l ≤ longest → a < memorySize → 1 ≤ count p (lists m processorList) → clear l a ≡ true
         → Traced m (memoryOf (Model.done (deliver (writeMessage m1 q f a l) p q) len))
@@ -295,7 +310,7 @@ module _ {m : List ℕ} (w : WellFormed m) (d : running m ≢ 0) where
         put-traced b s1 (t .base) o p hp lt len (sending (p, x) q) refl
         (λ y. sent refl (rw (sq Map.size (omega arith) (omega arith), mw .1) l2) (rw (sq note (omega arith) (omega arith), mw .0, is, lb)) alive
         (rw (procs4 b s1 (t .base) o p hp lt len) hr))
-        tt (rw (wm, lb, tx))
+        tt (rw (wm, lb, tx)) (sending-counted p x q)
 
     posted-traced : (n f a len : ℕ) → 1 ≤ n → n ≤ 15 → 1 ≤ f → f ≤ 7 → getD m a 0 ≤ longest → clear (getD m a 0) (wrapped a 1) ≡ true
         → Traced m (memoryOf (Model.done (posted m1 q n f a (getD m a 0)) len)) (sending (posting m n f a) q)

@@ -143,7 +143,7 @@ module _ {m : List ℕ} (w : WellFormed m) (d : running m ≢ 0) where
       let i = sym (mail-queue b r q1 hr (omega arith) (omega arith)) ∙ t .is in
       let b1 = move-lists b r q (t .before) (t .behind) hr i in
       let m1 = move m r q in
-      still-traced (still-on (moved-still b r q (t .before) (t .behind) hr i) (same-still b1 (calm-done (b1 .facts .sep) m1 (runs-in b1) len))) nothing refl refl)
+      still-traced (still-on (moved-still b r q (t .before) (t .behind) hr i) (same-still b1 (calm-done (b1 .facts .sep) m1 (runs-in b1) len))) nothing refl refl refl)
 
   pub tme-traced : (n f a len : ℕ) → Traced m (memoryOf (Model.tme m n f a len)) nothing
   tme-traced n f a len =
@@ -151,6 +151,6 @@ module _ {m : List ℕ} (w : WellFormed m) (d : running m ≢ 0) where
       let c = t .kept .1 in
       let x = t .memory in
       tme-each m (λ o. Traced m (memoryOf o) nothing) n f a len (t .is)
-      (still-traced (still-on (t .kept .3) (same-still c (calm-jumps (c .facts .sep) x (runs-in c) a))) nothing refl refl)
-      (still-traced (still-on (t .kept .3) (same-still c (calm-done (c .facts .sep) x (runs-in c) len))) nothing refl refl)
+      (still-traced (still-on (t .kept .3) (same-still c (calm-jumps (c .facts .sep) x (runs-in c) a))) nothing refl refl refl)
+      (still-traced (still-on (t .kept .3) (same-still c (calm-done (c .facts .sep) x (runs-in c) len))) nothing refl refl refl)
       (calm-traced b (calm-jumps (b .facts .sep) m (runs-in b) a))

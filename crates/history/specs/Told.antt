@@ -48,11 +48,11 @@ pub of-none : {A : Type 0} (p : ℕ) → of {A = A} p [] ≡ []
 unfolding of
 of-none p = refl
 
-of-yes : {A : Type 0} (p : ℕ) (x : ℕ × A) (l : List (ℕ × A)) → eqb p (x .0) ≡ true → of p (x ∷ l) ≡ x .1 ∷ of p l
+pub of-yes : {A : Type 0} (p : ℕ) (x : ℕ × A) (l : List (ℕ × A)) → eqb p (x .0) ≡ true → of p (x ∷ l) ≡ x .1 ∷ of p l
 unfolding of
 of-yes p x l e = rw (e, of)
 
-of-no : {A : Type 0} (p : ℕ) (x : ℕ × A) (l : List (ℕ × A)) → eqb p (x .0) ≡ false → of p (x ∷ l) ≡ of p l
+pub of-no : {A : Type 0} (p : ℕ) (x : ℕ × A) (l : List (ℕ × A)) → eqb p (x .0) ≡ false → of p (x ∷ l) ≡ of p l
 unfolding of
 of-no p x l e = rw (e, of)
 

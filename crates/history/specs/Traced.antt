@@ -7,7 +7,7 @@ use mathlib.Core.Bool.{Bool, true, false}
 use mathlib.Core.List.{List, [], _∷_, _++_}
 use Prim.Native.Nat.{ℕ, zero, suc, _≤_, _<_}
 use native.Mathlib.Omega.{arith}
-use lib.ListN.{getD}
+use lib.ListN.{length, getD}
 use lib.Dec.{eqb}
 use borrow.Author.Tests.{eqb-false}
 use Rattle.model.specs.Map as Map
@@ -21,8 +21,10 @@ use Rattle.laws.specs.Inv.{Base, View}
 use Rattle.laws.specs.Places.{q-free}
 use Rattle.laws.specs.Mails.{mail-queue}
 use Rattle.laws.specs.Who.{listed}
+use Rattle.history.specs.Order.{only-nil}
 use Rattle.history.specs.Letter.{Letter, mailOf, Same, Posts, posts, queue-same, texts-same, procs-same, Texted}
-use Rattle.history.specs.Put.{Mailed, nothing}
+use Rattle.history.specs.Told.{of-none}
+use Rattle.history.specs.Put.{Mailed, nothing, of, onlyNotices}
 
 -- of each of a list
 abbrev pub Each : {A : Type 0} → (A → Type 0) → List A → Type 0
@@ -32,6 +34,10 @@ Each P (x ∷ xs) = P x × Each P xs
 pub each-all : {A : Type 0} {P : A → Type 0} → ((x : A) → P x) → (xs : List A) → Each P xs
 each-all h [] = tt
 each-all h (x ∷ xs) = (h x, each-all h xs)
+
+pub each-as : {A : Type 0} {P Q : A → Type 0} → ((x : A) → P x → Q x) → (xs : List A) → Each P xs → Each Q xs
+each-as h [] k = tt
+each-as h (x ∷ xs) k = (h x (k .0), each-as h xs (k .1))
 
 pub each-append : {A : Type 0} (P : A → Type 0) (xs ys : List A) → Each P xs → Each P ys → Each P (xs ++ ys)
 each-append P [] ys h k = k
@@ -97,6 +103,8 @@ pub record Traced (m m′ : List ℕ) (e : Mailed) : Type 0 where
   pub pages : (p w x : ℕ) → 1 ≤ count p (processors m) → 1 ≤ count p (processors m′) → q1 ≤ w → w ≤ q2 → 1 ≤ count x (queue m′ (place p w))
       → Origin m m′ e p x
   pub about : Each (λ (y : ℕ × ℕ). About m (e .wrote) (y .0) (y .1)) (e .about)
+  -- of each notice it is said what it is about
+  pub counted : (p : ℕ) → length (of p (e .about)) ≡ length (onlyNotices (of p (e .puts)))
   -- what the one that runs wrote stands on that page, at the end of Q1
   pub written : Each (λ (y : ℕ × Letter). e .wrote ≢ 0 → Stood m′ (e .wrote) (y .0) (y .1)) (e .puts)
 
@@ -119,12 +127,16 @@ still-on s t = record {
 }
 
 -- such a call puts nothing
-pub still-traced : {m m′ : List ℕ} → Still m m′ → (e : Mailed) → e .wrote ≡ 0 → e .about ≡ [] → Traced m m′ e
-still-traced {m} {m′} s e z n = record {
+pub none-counted : (p : ℕ) → length (of {A = ℕ} p []) ≡ length (onlyNotices (of p []))
+none-counted p = rw (of-none {A = ℕ} p, of-none {A = Letter} p, only-nil (λ (x : Letter). x .notice))
+
+pub still-traced : {m m′ : List ℕ} → Still m m′ → (e : Mailed) → e .wrote ≡ 0 → e .about ≡ [] → e .puts ≡ [] → Traced m m′ e
+still-traced {m} {m′} s e z n i = record {
   pages = λ p w x h i u v j.
       let a = s .waited p w x h u v j in
       unchanged a (s .sizes p w x h u v j) (λ d. some-page m′ (place p w) x j (d ∙ z)) (λ f r k d. rw (s .alive) k);
   about = rw n tt;
+  counted = λ p. rw (n, i) (none-counted p);
   written = each-all (λ y d. absurd (d z)) (e .puts);
 }
 
@@ -153,7 +165,7 @@ same-still b s = record {
 
 pub calm-traced : {m : List ℕ} {ps : List ℕ} {L : Lists} {W : View} {hs : List ℕ} {g : ℕ} → Base m ps L W hs g → {m′ : List ℕ} → Same ps L m m′
     → Traced m m′ nothing
-calm-traced b s = still-traced (same-still b s) nothing refl refl
+calm-traced b s = still-traced (same-still b s) nothing refl refl refl
 
 -- ---- a step that leaves all texts, and after which each list holds only what was in Q1 or Q2 of the same one
 pub texted-still : {m m1 : List ℕ} {ps : List ℕ} {L K : Lists} {W X : View} {hs ks : List ℕ} {g k : ℕ} → Base m ps L W hs g → Base m1 ps K X ks k → Texted ps m m1
