@@ -34,7 +34,6 @@ use Rattle.history.specs.Whole.{instruction-told, instruction-traced}
 use Rattle.history.specs.Lives.{Lawful, Life, Living, Past, Run, call-lawful, grown, later, life, lives, mailBy, noneYet, passing-lawful, restarts}
 use Rattle.history.specs.Lives.{run-has, run-reached, sentBy}
 
-
 -- ---- a processor that lives, has the name of the sender of message x, and is the life that sent it
 pub record SentBy (m : List ℕ) (h : Past) (x : ℕ) : Type 0 where
   pub who : ℕ
@@ -149,8 +148,13 @@ module _ {m m′ : List ℕ} {e : Mailed} (t : Lawful m m′ e) (one : OneEach m
       let is = by-wrote m m′ e h x f in
       record {
         began = rw is (omega (arith, k .began (running m) a, calls-on m m′ e h));
-        unmarked = λ u. record { who = running m; living = b; named = ap (λ (v : ℕ). lower v) (t .told .keeps (running m) a b) ∙ sym s; is = is ∙ sym (life-on
-            m m′ e h (running m) a b) };
+        unmarked = λ u. record {
+          who = running m;
+          living = b;
+          named = ap (λ (v : ℕ). lower v) (t .told .keeps (running m) a b) ∙ sym s;
+          is = is ∙ sym (life-on
+              m m′ e h (running m) a b);
+        };
         marked = λ u r g. absurd (omega (arith, ltb-false (word m′ x size) mark u));
       }
   mail-on p w x i c n (unchanged o s d f) j =
@@ -266,6 +270,32 @@ module _ (m : List ℕ) (h : Past) (r : Run m h) where
   -- a life that begins now is none that was
   pub new-life : (p : ℕ) → Living m p → h .since p ≤ h .calls
   new-life = senders m h r .began
+
+-- ---- how the past knows lives and senders
+module _ (a : Act) (m : List ℕ) (h : Past) (e : restarts a ≡ false) where
+  -- a life that goes on is the same life; one that begins now has a number of its own
+  pub life-goes-on : (p : ℕ) → Living m p → Living (after a m) p → life (later a m h) p ≡ life h p
+  unfolding later
+  life-goes-on p i j = rw e (life-on m (after a m) (mailBy a m) h p i j)
+
+  pub life-begins : (p : ℕ) → count p (processors m) ≡ 0 → later a m h .since p ≡ suc (h .calls)
+  unfolding later
+  life-begins p i = rw e (since-new m (after a m) (mailBy a m) h p i)
+
+  -- the one that runs sends what it writes; every other page's message is of whom it was
+  pub runner-sends : (x : ℕ) → x ≡ mailBy a m .wrote → later a m h .by x ≡ life h (running m)
+  unfolding later
+  runner-sends x i = rw e (by-wrote m (after a m) (mailBy a m) h x i)
+
+  pub sender-stays : (x : ℕ) → x ≢ mailBy a m .wrote → later a m h .by x ≡ h .by x
+  unfolding later
+  sender-stays x i = rw e (by-other m (after a m) (mailBy a m) h x i)
+
+  -- who lives on was noticed of what it was noticed of before, and of what this call puts
+  pub noticed-grows : (p : ℕ) → Living m p → Living (after a m) p
+      → later a m h .noticed p ≡ h .noticed p ++ map (sentBy m (mailBy a m) h) (of p (mailBy a m .about))
+  unfolding later
+  noticed-grows p i j = rw e (noticed-on m (after a m) (mailBy a m) h p i j)
 
 -- ---- of each notice that was put it is known what it is about
 pub notices-counted : (m : List ℕ) (h : Past) → Run m h → (p : ℕ) → Living m p → length (h .noticed p) ≡ length (onlyNotices (h .put p))

@@ -108,8 +108,11 @@ module _ (xs : List ℕ) (p : ℕ) (ys : List ℕ) {m : List ℕ} {L : Lists} {W
       let j = rw (marked-queue tm (t .base) (unread-free n t) y w h l v) at c in
       let a = posts-waited b (left-posts xs p ys b) y w x (stayed xs p ys b y i) l v (rw (mail-queue (t .base) y w h l v) j) in
       let g : 1 ≤ count x (gather (t .lists) (mails (t .procs))) = of-gather (t .lists) (mails (t .procs)) (place y w) x (omega (arith, mails-at y w (t .procs) l v)) j in
-      let e : word k x size ≡ markedSize n (word u x note) (word u x size) = tm .here x (omega (arith, count-append x (gather (t .lists) (mails (t .procs)))
-      (t .q1 ++ t .q2))) in (
+      let e : word k x size ≡ markedSize n (word u x note) (word u x size) = tm .here x (omega (
+        arith,
+        count-append x (gather (t .lists) (mails (t .procs)))
+            (t .q1 ++ t .q2),
+      )) in (
         record {
           head = a .0 .head;
           low = a .0 .low;

@@ -83,8 +83,7 @@ test-keeps : {m : List ℕ} {ps : List ℕ} {L : Lists} {W : View} (p n f : ℕ)
     → Tried (Waiting m ps W) (testQ1 controlPages m p n f)
 test-keeps {m} {ps} {L} {W} p n f h b = test-kept (Waiting m ps W) p (λ x t d.
     let q = word x p q1 in
-    let r = first-mail (t .1) p h d in
-    (
+    let r = first-mail (t .1) p h d in (
       moved (t .1) p q [] (r .0) h (r .1),
       move-lists (t .1) p q [] (r .0) h (r .1),
       λ y i. moved-first (t .1) p q (r .0) h (r .1) y i ∙ t .2 y i,

@@ -1,12 +1,13 @@
 -- What the kernel promises of mail and notices, on one page. `Run m h` says that the memory m comes from a fresh start by any calls, and any changes by the
--- host between them, and that h is the past: what was put to each processor and what it has read, in its present life (history/specs/Lives.antt). What an
+-- host between them, and that h is the past: what was put to each processor and what it has read, in its present life, and which life sent the message of each
+-- page (history/specs/Lives.antt). What an
 -- instruction puts and reads is `mailed` (history/specs/Put.antt); a message as a value, mail or a notice, is a `Letter`; what waits for a processor is
 -- `waitingFor`, Q2 then Q1 (history/specs/Letter.antt). A processor is named by its page. Each statement is followed by its proof. Assumes nothing.
 use mathlib.Core.Path.{_≡_}
 use mathlib.Core.Logic.{_≢_, _⊎_}
 use mathlib.Core.Bool.{true, false}
 use mathlib.Core.List.{List, [], _∷_, _++_, map}
-use Prim.Native.Nat.{ℕ, _+_, _≤_, _<_}
+use Prim.Native.Nat.{ℕ, suc, _+_, _≤_, _<_}
 use lib.ListN.{length, getD}
 use Rattle.model.specs.Map.{place, q1, headWords}
 use Rattle.model.specs.Address.{wrapped}
@@ -14,15 +15,18 @@ use Rattle.model.specs.Instruction.{smeCode, rmeCode, depCode}
 use Rattle.model.specs.Fresh.{startable}
 use Rattle.model.specs.Answer.{memoryOf}
 use Rattle.model.specs.Lists.{count}
-use Rattle.model.specs.Bytes.{instruction, processors, queue, running, name, at}
+use Rattle.model.specs.Bytes.{instruction, processors, queue, running, name, at, unmarked, isNotice}
 use Rattle.laws.specs.Calls.{Act, Host, Reached, after, reached-sound}
 use Rattle.laws.specs.Calls.Act.{fresh-start}
 use Rattle.history.specs.Letter.{Letter, mailOf, ofSenderAndFlag, waitingFor}
-use Rattle.history.specs.Put.{nothing, of, mailed, puts, reads, codeRun}
+use Rattle.history.specs.Put.{nothing, of, mailed, puts, reads, codeRun, onlyNotices}
 use Rattle.history.specs.Went.{wentTo}
-use Rattle.history.specs.Whole.{instruction-stands, instruction-written, instruction-one}
+use Rattle.history.specs.Whole.{instruction-stands, instruction-written, instruction-one, instruction-traced}
+use Rattle.history.specs.Traced.{About, Each, Origin, Stood}
 use Rattle.history.specs.Lives as Lives
-use Rattle.history.specs.Lives.{Past, Run, Living, noneYet, grown, mailBy, restarts, later, run-reached, reached-run}
+use Rattle.history.specs.Lives.{Past, Run, Living, Life, life, sentBy, noneYet, grown, mailBy, restarts, later, run-reached, reached-run, call-lawful}
+use Rattle.history.specs.Senders as Senders
+use Rattle.history.specs.Senders.{SentBy, WaitsAt}
 use Rattle.history.specs.Said as Said
 use Rattle.history.specs.Said.{same, same-is, is-same, times}
 use Rattle.history.specs.Example.{Heard, letter, example-heard}
@@ -65,6 +69,62 @@ fresh-begins-anew = Said.fresh-begins
 pub refused-fresh-keeps-the-past : {m : List ℕ} → Reached m → (h : Past) (line d : ℕ) → startable line d ≡ false → (p : ℕ) → Living m p
     → (later (fresh-start line d) m h .put p ≡ h .put p) × (later (fresh-start line d) m h .read p ≡ h .read p)
 refused-fresh-keeps-the-past {m} r = Said.refused-keeps (reached-sound m r)
+
+-- ---- NOTICES TO A NAMESAKE (document 02, 3/13). A life is a page and the call in which it began: who is deleted and made again under its name is another
+-- life. `h .by x` is the life that sent the message of page x, `life h p` the one that p lives now. At every point of every run, of mail x that waits for a
+-- processor p that lives: where it is unmarked, the one that has its sender's name now is the very life that sent it; where it is marked, no one who lives is
+pub unmarked-mail-is-of-the-living : (m : List ℕ) (h : Past) → Run m h → (p w x : ℕ) → Living m p → WaitsAt m p w x → unmarked m x ≡ true → SentBy m h x
+unmarked-mail-is-of-the-living = Senders.living-sender
+
+pub marked-mail-is-of-the-gone : (m : List ℕ) (h : Past) → Run m h → (p w x : ℕ) → Living m p → WaitsAt m p w x → unmarked m x ≡ false
+    → isNotice m x ≡ false → (r : ℕ) → Living m r → h .by x ≢ life h r
+marked-mail-is-of-the-gone = Senders.gone-sender
+
+-- so every notice goes to the very life that sent the mail which it is about: `about` says of each notice that an instruction puts to whom it goes, and on
+-- which page that mail is
+pub each-notice-goes-to-the-sender : (m : List ℕ) (h : Past) → Run m h
+    → Each (λ (y : ℕ × ℕ). sentBy m (mailed m) h (y .1) ≡ life h (y .0)) (mailed m .about)
+each-notice-goes-to-the-sender = Senders.notice-to-sender
+
+-- and no processor ever gets a notice for mail that it did not send in this life. `noticed` has, for each notice that was put to it, the life that sent that
+-- mail: just as many as notices were put
+pub no-notice-for-anothers-mail : (m : List ℕ) (h : Past) → Run m h → (p : ℕ) → Living m p → Each (λ (l : Life). l ≡ life h p) (h .noticed p)
+no-notice-for-anothers-mail = Senders.own-notices
+
+pub of-each-notice-it-is-known : (m : List ℕ) (h : Past) → Run m h → (p : ℕ) → Living m p → length (h .noticed p) ≡ length (onlyNotices (h .put p))
+of-each-notice-it-is-known = Senders.notices-counted
+
+-- how that is known. A life that goes on is the same life; one that begins is none that was: it is numbered by its call, and all before have lower numbers
+pub a-life-goes-on : (a : Act) (m : List ℕ) (h : Past) → restarts a ≡ false → (p : ℕ) → Living m p → Living (after a m) p → life (later a m h) p ≡ life h p
+a-life-goes-on = Senders.life-goes-on
+
+pub a-life-begins : (a : Act) (m : List ℕ) (h : Past) → restarts a ≡ false → (p : ℕ) → count p (processors m) ≡ 0 → later a m h .since p ≡ suc (h .calls)
+a-life-begins = Senders.life-begins
+
+pub no-life-comes-again : (m : List ℕ) (h : Past) → Run m h → (p : ℕ) → Living m p → h .since p ≤ h .calls
+no-life-comes-again = Senders.new-life
+
+-- the one that runs is the sender of what it writes, on the page `wrote`, which then stands at the end of Q1 of the one it is put to; the sender of every other
+-- page's message stays
+pub the-runner-sends : (a : Act) (m : List ℕ) (h : Past) → restarts a ≡ false → (x : ℕ) → x ≡ mailBy a m .wrote → later a m h .by x ≡ life h (running m)
+the-runner-sends = Senders.runner-sends
+
+pub the-sender-stays : (a : Act) (m : List ℕ) (h : Past) → restarts a ≡ false → (x : ℕ) → x ≢ mailBy a m .wrote → later a m h .by x ≡ h .by x
+the-sender-stays = Senders.sender-stays
+
+pub what-it-wrote-stands : (m : List ℕ) → Reached m
+    → Each (λ (y : ℕ × Letter). mailed m .wrote ≢ 0 → Stood (memoryOf (instruction m)) (mailed m .wrote) (y .0) (y .1)) (puts m)
+what-it-wrote-stands m h = instruction-traced (reached-sound m h) .written
+
+-- and a message keeps its page: one that waits after a call waited before it for the same processor, on that page and with that sender and flag, marked now
+-- only if whoever had its sender's name is gone; or the one that ran sent it; or it is a notice
+pub a-message-keeps-its-page : (m : List ℕ) → Reached m → (a : Act) → restarts a ≡ false → (p w x : ℕ) → Living m p → Living (after a m) p → WaitsAt (after a m) p w x
+    → Origin m (after a m) (mailBy a m) p x
+a-message-keeps-its-page m r a e p w x i j c = call-lawful (reached-sound m r) a e .traced .pages p w x i j (c .0) (c .1) (c .2)
+
+-- what a notice is about: what the one that runs was to send, or unmarked mail that waits, and it goes to who has its sender's name
+pub what-a-notice-is-about : (m : List ℕ) → Reached m → Each (λ (y : ℕ × ℕ). About m (mailed m .wrote) (y .0) (y .1)) (mailed m .about)
+what-a-notice-is-about m h = instruction-traced (reached-sound m h) .about
 
 -- ---- what is put and read is what the instruction does. Only SME and DEP put, only RME reads, direct or by EXI: so WNM and TME only move
 pub only-4-and-12-put : (m : List ℕ) → codeRun m ≢ smeCode → codeRun m ≢ depCode → puts m ≡ []
