@@ -1,6 +1,22 @@
 /* Messages, control pages taken and given back, and the deletion of a processor. */
 #include "machine.h"
 
+/* Word 2 of a message whose sender was deleted after it sent this: 64-93. */
+bool is_marked(unsigned length)
+{
+    return length >= MARKED && length <= MARKED + LONGEST_TEXT;
+}
+
+/* "RME hands out the true length"; a notice "is read as length 0". */
+unsigned text_length(const uint8_t *m, unsigned message)
+{
+    unsigned length = m[at(message, LENGTH)];
+
+    if (length == NOTICE)
+        return 0;
+    return is_marked(length) ? length - MARKED : length;
+}
+
 /* Both are name*16+flag.  "A match on NI or flag 0 means any." */
 bool matches(unsigned wanted, unsigned from)
 {
@@ -64,16 +80,43 @@ void give_back(uint8_t *m, unsigned page)
     store(m, FREE_SEMAPHORE, m[FREE_SEMAPHORE] + 1u);
 }
 
+/* "Unmarked mail under its name counts as sent by it; marked mail isn't marked again", and "notices aren't marked". */
+static void mark_mail(uint8_t *m, unsigned header, unsigned name)
+{
+    struct queue q = queue_read(m, header, LINK);
+
+    for (unsigned i = 0; i < q.count; i++) {
+        unsigned length = m[at(q.page[i], LENGTH)];
+
+        if (m[at(q.page[i], FROM)] / 16u == name && length < MARKED)
+            store(m, at(q.page[i], LENGTH), length + MARKED);
+    }
+}
+
+/* "marks every message it sent that is still unread .., its own queues included": it is on the list no more. */
+static void mark_sent(uint8_t *m, unsigned page, unsigned name)
+{
+    struct queue list = queue_read(m, PROCESSOR_LIST, LIST_LINK);
+
+    for (unsigned i = 0; i < list.count; i++) {
+        mark_mail(m, at(list.page[i], Q1), name);
+        mark_mail(m, at(list.page[i], Q2), name);
+    }
+    mark_mail(m, at(page, Q1), name);
+    mark_mail(m, at(page, Q2), name);
+}
+
 /*
  * "a message whose sender's name exists becomes a notice from NI to it with its flag, all others
- * and all notices are given back".  The page leaves its queue before anything else is done to it.
+ * and all notices are given back", and so is marked mail: who has the name now did not send it.
+ * The page leaves its queue before anything else is done to it.
  */
 static void return_mail(uint8_t *m, unsigned header, unsigned name)
 {
     while (m[header] != 0) {
         unsigned message = m[header];
-        unsigned from = m[at(message, FROM)];
-        bool is_mail = m[at(message, LENGTH)] != NOTICE;
+        unsigned from = m[at(message, FROM)], length = m[at(message, LENGTH)];
+        bool is_mail = length != NOTICE && !is_marked(length);
         unsigned sender = is_mail ? find_processor(m, from / 16) : 0;
 
         queue_leave(m, header, LINK, message);
@@ -89,7 +132,7 @@ static void return_mail(uint8_t *m, unsigned header, unsigned name)
 
 /*
  * "In order: leave any wait queue (not woken); leave the processor list; Q2 then Q1 from the
- * front ..; then the grant; then its own page."
+ * front ..; then the grant; then its own page."  "The marking follows leaving the processor list".
  */
 void delete_processor(uint8_t *m, unsigned page)
 {
@@ -100,6 +143,7 @@ void delete_processor(uint8_t *m, unsigned page)
     if (wait != 0)
         wait_leave(m, wait, page);
     queue_leave(m, PROCESSOR_LIST, LIST_LINK, page);
+    mark_sent(m, page, name);
     return_mail(m, at(page, Q2), name);
     return_mail(m, at(page, Q1), name);
     if (grant != 0) {

@@ -210,8 +210,9 @@ static void tell_bad_messages(const uint8_t *m, struct told *told, const struct 
 {
     for (unsigned i = 0; i < messages->count; i++) {
         unsigned page = messages->page[i], from = m[at(page, FROM)], length = m[at(page, LENGTH)];
+        bool fine = length <= LONGEST_TEXT || is_marked(length) || length == NOTICE;
 
-        if (from / 16 == 0 || !between(1, from % 16, 7) || (length > LONGEST_TEXT && length != NOTICE))
+        if (from / 16 == 0 || !between(1, from % 16, 7) || !fine)
             tell_page(told, page);
     }
 }
@@ -316,7 +317,7 @@ const struct rule rules[RULES] = {
     { REFUSE_RECORDS, "the two zeros of word 12", zeros_of_word_12 },
     { REFUSE_RECORDS, "grants only to existing names", grants_to_names },
     { REFUSE_RECORDS, "page 10's other words zero", rest_of_page_10 },
-    { REFUSE_RECORDS, "senders 1-15, flags 1-7, word 2 of a message 0-29 or 128", message_records },
+    { REFUSE_RECORDS, "senders 1-15, flags 1-7, word 2 of a message 0-29, 64-93 or 128", message_records },
     { REFUSE_TABLES, "kinds 0-2, codes 0, 1 built in, 15 absent or own", codes },
     { REFUSE_TABLES, "page 9 in range", page_9_range },
     { REFUSE_TABLES, "names 1-15, faults 1-12, unused zero", page_9_entries },

@@ -51,8 +51,11 @@ enum {
 };
 enum { STOPPED = 128, WAITING = 64, STATE_ZEROS = 48, STATE_W = 15 };
 
-/* Words of a message page, after LINK. */
-enum { FROM = 1, LENGTH = 2, TEXT = 3, LONGEST_TEXT = 29, NOTICE = 128 };
+/*
+ * Words of a message page, after LINK.  LENGTH is the length of the text, 0-29; or that and MARKED, where the sender was
+ * deleted after it sent this; or NOTICE.
+ */
+enum { FROM = 1, LENGTH = 2, TEXT = 3, LONGEST_TEXT = 29, MARKED = 64, NOTICE = 128 };
 
 enum { KIND_ABSENT = 0, KIND_BUILT_IN = 1, KIND_OWN = 2 };
 
@@ -133,6 +136,8 @@ void serve(uint8_t *m, unsigned k, unsigned class_number);
 void serve_from_outside(uint8_t *m, unsigned k, unsigned class_number);
 
 /* deliver.c */
+bool is_marked(unsigned length);
+unsigned text_length(const uint8_t *m, unsigned message);
 bool matches(unsigned wanted, unsigned from);
 unsigned first_match(const uint8_t *m, unsigned header, unsigned wanted);
 void deliver(uint8_t *m, unsigned message, unsigned receiver);

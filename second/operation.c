@@ -119,7 +119,7 @@ static unsigned read_message(struct runner *r, const struct arguments *g)
 
     if (message == 0)
         return FAULT_NO_MATCH;
-    length = m[at(message, LENGTH)] == NOTICE ? 0 : m[at(message, LENGTH)];
+    length = text_length(m, message);
     if (any_protected(g->address, 3 + length))
         return FAULT_PROTECTED;
     store(m, g->address, m[at(message, FROM)] / 16u);
