@@ -26,14 +26,14 @@ static void show_messages(const uint8_t *m, const char *title, unsigned header)
     struct queue q = queue_read(m, header, LINK);
 
     for (unsigned i = 0; i < q.count; i++) {
-        unsigned page = q.page[i], length = m[at(page, LENGTH)];
+        unsigned page = q.page[i], length = text_length(m, page);
 
         printf("    %s page %u: from %u flag %u, ", title, page, m[at(page, FROM)] / 16u, m[at(page, FROM)] % 16u);
-        if (length == NOTICE) {
+        if (m[at(page, LENGTH)] == NOTICE) {
             puts("notice");
             continue;
         }
-        printf("length %u:", length);
+        printf("%slength %u:", is_marked(m[at(page, LENGTH)]) ? "its sender is gone, " : "", length);
         for (unsigned word = 0; word < length && word < LONGEST_TEXT; word++)
             printf(" %u", (unsigned)m[at(page, TEXT + word)]);
         putchar('\n');
