@@ -31,9 +31,13 @@ const struct one *some_waiter(const struct look *l, enum wait wait);  /* of any 
 const struct one *some_granted(const struct look *l);  /* NULL if there is none, and none can be made */
 unsigned some_message(const struct look *l);
 unsigned make_message(unsigned header);
+unsigned put_message(unsigned header, unsigned from, unsigned length);
 unsigned take_message(const struct look *l);  /* out of its queue; 0 if nobody has one */
 unsigned some_value(unsigned old);
 unsigned some_false_number(void);
+
+/* harmless.c */
+unsigned good_length(void);
 
 /* tear.c: these break any list or queue */
 bool cut(const struct queue *q);

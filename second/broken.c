@@ -59,12 +59,11 @@ const struct one *some_granted(const struct look *l)
     return one;
 }
 
-/* The first free page made a message in a Q2, which breaks nothing; 0 if no page is free. */
-unsigned make_message(unsigned header)
+/* The first free page made a message at the front of a queue; 0 if no page is free. */
+unsigned put_message(unsigned header, unsigned from, unsigned length)
 {
     unsigned page = world[FREE_LIST];
-    unsigned sender = from_to(1, HIGHEST_NAME), flag = from_to(1, 7), length = below(LONGEST_TEXT + 1);
-    uint8_t words[3] = { world[header], (uint8_t)(sender * 16 + flag), (uint8_t)length };
+    uint8_t words[3] = { world[header], (uint8_t)from, (uint8_t)length };
 
     if (!is_control_page(page))
         return 0;
@@ -73,6 +72,14 @@ unsigned make_message(unsigned header)
     order_break(at(page, LINK), words, 3);
     poke(header, page);
     return page;
+}
+
+/* The same with any good words; in a Q2 it breaks nothing. */
+unsigned make_message(unsigned header)
+{
+    unsigned sender = from_to(1, HIGHEST_NAME), flag = from_to(1, 7);
+
+    return put_message(header, sender * 16 + flag, good_length());
 }
 
 /* Some page of a Q1 or Q2; if none is found, one is made or not; 0 if there is none. */

@@ -179,7 +179,7 @@ static bool build_rme(struct plan *p, const struct look *l, unsigned outcome)
     }
     if (message == 0)
         return false;
-    length = world[at(message, LENGTH)] == NOTICE ? 0 : world[at(message, LENGTH)];
+    length = text_length(world, message);
     p->g.address = outcome == FAULT_PROTECTED ? place_protected(3 + length) : place(3 + length);
     return true;
 }
@@ -355,7 +355,7 @@ bool try_to(unsigned code, unsigned outcome)
     return false;
 }
 
-static bool issue_plain(struct plan *p)
+bool do_plan(struct plan *p)
 {
     p->bad_word = -1;
     p->exi = usable(14) && chance(40);
@@ -370,7 +370,7 @@ bool do_name(unsigned code, unsigned name)
 {
     struct plan p = { .code = code, .g = { .field = name, .address = some_lr() } };
 
-    return issue_plain(&p);
+    return do_plan(&p);
 }
 
 bool do_create(unsigned name, unsigned priority)
@@ -378,7 +378,7 @@ bool do_create(unsigned name, unsigned priority)
     struct plan p = { .code = 11, .g = { .field = name, .priority = priority, .w = below(16) } };
 
     p.g.address = some_lr();
-    return issue_plain(&p);
+    return do_plan(&p);
 }
 
 bool do_send(unsigned name, unsigned flag, unsigned length)
@@ -388,7 +388,7 @@ bool do_send(unsigned name, unsigned flag, unsigned length)
     if (is_idle())
         return false;
     put_text(p.g.address, length);
-    return issue_plain(&p);
+    return do_plan(&p);
 }
 
 /* WNM, RME or TME. */
@@ -397,12 +397,12 @@ bool do_message(unsigned code, unsigned name, unsigned flag)
     struct plan p = { .code = code,
                       .g = { .field = name, .flag = flag, .address = code == 7 ? some_lr() : place(32) } };
 
-    return issue_plain(&p);
+    return do_plan(&p);
 }
 
 bool do_wait(unsigned interrupt, unsigned count)
 {
     struct plan p = { .code = 3, .g = { .interrupt = interrupt, .count = count } };
 
-    return issue_plain(&p);
+    return do_plan(&p);
 }

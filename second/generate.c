@@ -64,7 +64,9 @@ static const struct {
     { scene_nobody, { 0, 4, 10, 0, 0 } },     { scene_length, { 0, 3, 2, 3, 0 } },
     { scene_lines, { 0, 2, 1, 60, 1 } },      { scene_bursts, { 42, 26, 18, 18, 20 } },
     { scene_bad_bursts, { 38, 24, 16, 20, 18 } },
-    { scene_muster, { 18, 12, 8, 7, 12 } }
+    { scene_muster, { 18, 12, 8, 7, 12 } },   { scene_lives, { 14, 9, 5, 4, 4 } },
+    { scene_heirs, { 8, 6, 4, 2, 2 } },       { scene_estate, { 8, 6, 4, 2, 2 } },
+    { scene_keepsakes, { 10, 8, 4, 3, 3 } },  { scene_forge, { 0, 8, 12, 0, 0 } }
 };
 enum { SCENES = sizeof scenes / sizeof scenes[0] };
 

@@ -67,6 +67,9 @@ struct one {
     unsigned mail;       /* of them, whose sender exists and is another */
     unsigned notices;    /* of them, notices */
     unsigned odd;        /* notices whose sender's name exists */
+    unsigned marked;     /* of them, marked */
+    unsigned alive;      /* marked ones whose sender's name exists again and is another's */
+    unsigned own;        /* unmarked mail to itself */
     unsigned grant;
 };
 struct look {
@@ -76,6 +79,13 @@ struct look {
     unsigned lr;
 };
 struct look look_at(const uint8_t *m);
+struct letter {
+    unsigned page, holder;  /* pages of the message and of who has it */
+    unsigned queue;         /* Q1 or Q2 */
+    unsigned name, flag;    /* of the sender */
+    unsigned length;        /* word 2 as it stands */
+};
+unsigned all_letters(const uint8_t *m, struct letter letters[PAGES]);
 bool is_idle(void);
 bool others_ready(void);  /* who runs is not the only one that could */
 const struct one *runner_of(const struct look *l);
@@ -93,6 +103,11 @@ enum mark {
     MARK_FAULT_FULL, MARK_SWITCH, MARK_TO_IDLE, MARK_PREEMPTED, MARK_EQUAL_STAYS, MARK_STOPPED_WOKEN,
     MARK_BROKEN_JUDGED, MARK_BROKEN_FINE, MARK_TOLD_AMONG, MARK_TOLD_FIRST, MARK_TOLD_LOWER, MARK_LOOP,
     MARK_LEADS_ON, MARK_WAIT_LOOP, MARK_WAIT_LEADS_ON, MARK_WRONG_LENGTH, MARK_NOT_UNDERSTOOD, MARK_NOT_ALLOWED,
+    MARK_MARKED, MARK_MARKED_Q1, MARK_MARKED_Q2, MARK_MARKS, MARK_MARKS_HOLDERS, MARK_MARKS_QUEUE, MARK_MARKS_FLAGS,
+    MARK_MARKS_OWN, MARK_MARKS_OWN_Q2, MARK_NOT_AGAIN, MARK_NOTICE_LEFT, MARK_DELETE_MARKED, MARK_GIVEN_ALIVE,
+    MARK_GIVEN_GONE, MARK_DELETE_MIXED, MARK_DELETE_NOBODYS, MARK_NAMESAKE, MARK_NOBODYS_MADE, MARK_TWO_LIVES,
+    MARK_THREE_LIVES, MARK_READ, MARK_READ_0, MARK_READ_1, MARK_READ_29, MARK_READ_TIGHT, MARK_READ_FAULT,
+    MARK_MOVED_WNM, MARK_MOVED_TME,
     MARKS
 };
 void mark(enum mark what);
@@ -106,6 +121,9 @@ void write_reached(void);
 /* told.c: what the judge told */
 void reach_told(const uint8_t *m, const struct answer *answer);
 void write_told(void);
+
+/* gone.c: what marks on mail reached */
+void reach_gone(const uint8_t *before, unsigned code, unsigned form, const struct answer *answer);
 
 /* struck.c: what bursts reached */
 unsigned long bursts_done(unsigned pairs);
@@ -134,6 +152,7 @@ void issue_batch(const struct plan *plans, unsigned count);
 /* build.c: plans for a wanted outcome */
 bool build(struct plan *p, unsigned code, bool exi, unsigned outcome);
 bool try_to(unsigned code, unsigned outcome);
+bool do_plan(struct plan *p);  /* direct or by EXI */
 bool do_name(unsigned code, unsigned name);
 bool do_create(unsigned name, unsigned priority);
 bool do_send(unsigned name, unsigned flag, unsigned length);
@@ -149,7 +168,7 @@ void any_burst(void);
 bool burst_for_waiters(void);
 void burst_on(unsigned number);
 
-/* scenes.c, interrupts.c, crowd.c, broken.c, harmless.c, lines.c, bursts.c: short plays of some orders each */
+/* scenes.c, interrupts.c, crowd.c, namesakes.c, broken.c, harmless.c, lines.c, bursts.c: short plays of some orders each */
 void scene_single(void);
 void scene_calls(void);
 void scene_interrupts(void);
@@ -170,10 +189,15 @@ void scene_gather(void);
 void scene_address(void);
 void scene_mailbox(void);
 void scene_halt(void);
+void scene_lives(void);
+void scene_heirs(void);
+void scene_estate(void);
+void scene_keepsakes(void);
 void scene_ruin(void);
 void scene_break(void);
 void scene_harmless_break(void);
 void scene_litter(void);
+void scene_forge(void);
 void scene_nobody(void);
 void scene_length(void);
 void scene_lines(void);

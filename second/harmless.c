@@ -1,7 +1,7 @@
 /* Words set by `break` that are not judged, or that stay well-formed: they must be carried along rightly. */
 #include <string.h>
 
-#include "generate.h"
+#include "breakers.h"
 
 static void scatter(unsigned address, unsigned count)
 {
@@ -25,6 +25,69 @@ static void fill_page_9(void)
         table[word] = (uint8_t)(name * 16 + from_to(1, 12));
     }
     order_break(FAULT_TABLE, table, PAGE_WORDS);
+}
+
+/* Any word 2 that a good message can have, often the first or last of its kind. */
+unsigned good_length(void)
+{
+    unsigned length = chance(25) ? 0 : chance(25) ? LONGEST_TEXT : below(LONGEST_TEXT + 1);
+
+    return chance(45) ? MARKED + length : chance(80) ? length : NOTICE;
+}
+
+/* What a message has in words 1 and 2, if the memory stays well-formed with it: who waits for a message may match. */
+static void retouch(unsigned page, unsigned from, unsigned length)
+{
+    uint8_t copy[WORDS], words[2] = { (uint8_t)from, (uint8_t)length };
+
+    memcpy(copy, world, sizeof copy);
+    memcpy(copy + at(page, FROM), words, sizeof words);
+    if (well_formed(copy))
+        order_break(at(page, FROM), words, 2);
+}
+
+/* A message that waits gets a mark, loses it, or has another sender, often a name that nobody has. */
+static void retouch_some(const struct look *l)
+{
+    struct letter letters[PAGES];
+    unsigned count = all_letters(world, letters);
+    const struct letter *x = &letters[below(count)];
+    unsigned sender, flag;
+
+    if (count == 0)
+        return;
+    sender = chance(40) ? x->name : chance(60) ? absent_name(l) : existing_name(l);
+    flag = chance(70) ? x->flag : from_to(1, 7);
+    retouch(x->page, sender * 16 + flag, chance(25) && x->length < MARKED ? x->length + MARKED : good_length());
+}
+
+/* Mail that calls alone lead to slowly or never: marked beside unmarked of one name, and unmarked of nobody's name. */
+void scene_forge(void)
+{
+    struct look l = look_at(world);
+    unsigned name = l.count > 0 && chance(50) ? absent_name(&l) : from_to(1, HIGHEST_NAME);
+
+    if (l.count == 0 || name == 0)
+        return;
+    for (unsigned left = from_to(1, 4); left > 0 && !full(); left--) {
+        const struct one *one = &l.one[below(l.count)];
+        unsigned header = at(one->page, one->wait == WAIT_MESSAGE || chance(50) ? Q2 : Q1);
+        unsigned sender = chance(80) ? name : existing_name(&l), flag = from_to(1, 7);
+
+        if (world[FREE_LIST] != 0 && chance(70))
+            put_message(header, sender * 16 + flag, good_length());
+        else
+            retouch_some(&l);
+    }
+    if (chance(40))
+        order_judge();
+    if (is_idle())
+        return;
+    switch (below(4)) {
+    case 0: scene_heirs(); break;
+    case 1: scene_keepsakes(); break;
+    default: scene_estate(); break;
+    }
 }
 
 /* All codes built in again, with addresses that nobody reads. */
@@ -57,7 +120,7 @@ static void set_clock(void)
 }
 
 /* Contents of a page: of a processor its registers and kept words, of others all behind the link. */
-static void scatter_page(const struct look *l)
+static void scatter_contents(const struct look *l)
 {
     unsigned page = from_to(FIRST_PAGE, LAST_PAGE);
     bool is_free = false;
@@ -102,11 +165,12 @@ void scene_harmless_break(void)
 
     if (l.count == 0)
         return;
-    switch (below(8)) {
+    switch (below(9)) {
     case 0: fill_page_9(); break;
+    case 8: retouch_some(&l); break;
     case 1: if (near_end() || chance(20)) restore_codes(); break;
     case 2: case 3: set_clock(); break;
-    case 4: case 5: scatter_page(&l); break;
+    case 4: case 5: scatter_contents(&l); break;
     default: scatter_small(&l); break;
     }
     if (chance(30))

@@ -19,14 +19,18 @@ static enum wait wait_of(const uint8_t *m, unsigned page, unsigned *interrupt)
 static void count_mail(const uint8_t *m, struct one *one, const struct queue *q)
 {
     for (unsigned i = 0; i < q->count; i++) {
-        unsigned sender = m[at(q->page[i], FROM)] / 16u;
+        unsigned sender = m[at(q->page[i], FROM)] / 16u, length = m[at(q->page[i], LENGTH)];
         bool exists = sender != one->name && find_processor(m, sender) != 0;
 
-        if (m[at(q->page[i], LENGTH)] == NOTICE) {
+        if (length == NOTICE) {
             one->notices++;
             one->odd += exists;
+        } else if (is_marked(length)) {
+            one->marked++;
+            one->alive += exists;
         } else {
             one->mail += exists;
+            one->own += sender == one->name;
         }
     }
 }
@@ -64,6 +68,25 @@ struct look look_at(const uint8_t *m)
         }
     }
     return l;
+}
+
+/* All messages that wait, by holder in the order of the processor list, those in Q1 first. */
+unsigned all_letters(const uint8_t *m, struct letter letters[PAGES])
+{
+    struct queue list = queue_read(m, PROCESSOR_LIST, LIST_LINK);
+    unsigned count = 0;
+
+    for (unsigned i = 0; i < 2 * list.count; i++) {
+        unsigned holder = list.page[i / 2], word = i % 2 == 0 ? Q1 : Q2;
+        struct queue q = queue_read(m, at(holder, word), LINK);
+
+        for (unsigned n = 0; n < q.count && count < PAGES; n++) {
+            unsigned page = q.page[n], from = m[at(page, FROM)];
+
+            letters[count++] = (struct letter){ page, holder, word, from / 16, from % 16, m[at(page, LENGTH)] };
+        }
+    }
+    return count;
 }
 
 bool is_idle(void)

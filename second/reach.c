@@ -20,7 +20,20 @@ static const char *const mark_names[MARKS] = {
     "told before a later number", "told before a later number with a lower address",
     "30 with a list that comes back on itself", "30 with a false number that leads to a control page",
     "31 with a wait queue that comes back on itself", "31 with a false number that leads to a control page",
-    "calls with a wrong length", "lines not understood", "orders not allowed"
+    "calls with a wrong length", "lines not understood", "orders not allowed",
+    "messages marked", "messages marked in a Q1", "messages marked in a Q2", "deletions that mark",
+    "deletions that mark mail of several holders", "deletions that mark several messages of one queue",
+    "deletions that mark mail of several flags", "deletions that mark mail to itself",
+    "deletions that mark mail to itself in its Q2", "marked messages of the deleted one's name not marked again",
+    "notices under the deleted one's name left unmarked", "deletions with marked mail",
+    "marked messages given back with a namesake alive", "marked messages given back with nobody of the name",
+    "deletions with marked and unmarked mail of one that exists",
+    "deletions with unmarked mail of a name that nobody has", "processors made under a name whose marked mail waits",
+    "processors made under a name whose unmarked mail waits", "mail of two lives of one name waits",
+    "mail of three or more lives of one name waits", "marked mail read", "marked mail of length 0 read",
+    "marked mail of length 1 read", "marked mail of length 29 read",
+    "marked mail read to a place too short for word 2 as its length", "marked mail not read, its target protected",
+    "marked messages moved by WNM", "marked messages moved by TME"
 };
 static const char *const wait_names[WAIT_KINDS] = {
     "interrupt 1-15", "interrupt 16-47", "interrupt 48-50", "interrupt 51-54", "page by SME", "page by CRP", "message"
@@ -230,6 +243,7 @@ void reach_step(const uint8_t *before, const struct answer *answer)
         return;
     }
     outcomes[code][form][answer->kind == ANSWER_FAULT ? answer->number : 0]++;
+    reach_gone(before, code, form, answer);
     if (answer->kind == ANSWER_WAITS)
         reach_wait(code, new);
     if (answer->kind != ANSWER_DONE)

@@ -102,12 +102,27 @@ static bool spoil_flag(const struct look *l)
 
 static bool spoil_length(const struct look *l)
 {
-    static const uint8_t lengths[] = { 29, 30, 64, 127, 128, 129, 200, 255 };
+    static const uint8_t lengths[] = { 29, 30, 30, 31, 62, 63, 63, 127, 128, 129, 200, 255 };
     unsigned page = some_message(l);
 
     if (page == 0)
         return false;
     poke(at(page, LENGTH), chance(20) ? from_to(30, 255) : lengths[below(sizeof lengths)]);
+    return true;
+}
+
+/* Word 2 around 64-93, and a notice that is marked. */
+static bool spoil_mark(const struct look *l)
+{
+    static const uint8_t lengths[] = { 63, 64, 93, 94, 94, 95, 96, 126, 127, 192, 192, 193, 221, 222 };
+    unsigned page = some_message(l), old, length = lengths[below(sizeof lengths)];
+
+    if (page == 0)
+        return false;
+    old = world[at(page, LENGTH)];
+    if (chance(30))
+        length = old < MARKED || old == NOTICE ? old + MARKED : old + 2 * MARKED;  /* marked once more, or too often */
+    poke(at(page, LENGTH), length);
     return true;
 }
 
@@ -289,6 +304,7 @@ const struct way spoils[] = {
     { REFUSE_RECORDS, "a sender 0", spoil_sender, WAIT_NONE },
     { REFUSE_RECORDS, "the flag of a message", spoil_flag, WAIT_NONE },
     { REFUSE_RECORDS, "the length of a message", spoil_length, WAIT_NONE },
+    { REFUSE_RECORDS, "the mark of a message", spoil_mark, WAIT_NONE },
     { REFUSE_TABLES, "the kind of a code", spoil_kind, WAIT_NONE },
     { REFUSE_TABLES, "codes 0, 1 and 15", spoil_lasting_code, WAIT_NONE },
     { REFUSE_TABLES, "page 9 out of range", spoil_page_9_range, WAIT_NONE },

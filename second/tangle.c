@@ -268,7 +268,7 @@ static bool tangle_wait_mail(const struct look *l)
     words[0] = world[at(one->page, Q1)];
     words[1] = (uint8_t)(wanted / 16 != 0 ? wanted / 16 * 16 : from_to(1, 15) * 16);
     words[1] = (uint8_t)(words[1] + (wanted % 16 != 0 ? wanted % 16 : from_to(1, chance(80) ? 7 : 8)));
-    words[2] = (uint8_t)(chance(70) ? below(31) : NOTICE);
+    words[2] = (uint8_t)(chance(15) ? LONGEST_TEXT + 1 : good_length());
     order_break(at(page, LINK), words, 3);
     poke(at(one->page, Q1), page);
     return true;

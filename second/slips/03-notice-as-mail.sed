@@ -1,3 +1,3 @@
 # file: deliver.c
 # says: DEP returns a notice as if it were mail
-s/bool is_mail = .*;/bool is_mail = true;/
+s/bool is_mail = length != NOTICE && /bool is_mail = /

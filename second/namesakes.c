@@ -1,0 +1,350 @@
+/*
+ * Plays of namesakes: one sends mail, is deleted while it waits and made again under the same name, once or several
+ * times; who holds the mail moves it, reads it or is deleted in turn.
+ */
+#include "generate.h"
+
+static unsigned runner_name(void)
+{
+    return is_idle() ? 0 : name_of(world, world[RUNNING_PAGE]);
+}
+
+static bool built_in(unsigned code)
+{
+    return code_kind(world, code) == KIND_BUILT_IN;
+}
+
+/* Who would run if the runner did not: the first of the highest others that are ready; 0 if there is none. */
+static unsigned next_name(const struct look *l)
+{
+    const struct one *next = NULL;
+
+    for (unsigned i = 0; i < l->count; i++) {
+        const struct one *one = &l->one[i];
+
+        if (i != l->running && !one->stopped && one->wait == WAIT_NONE && (next == NULL || one->priority > next->priority))
+            next = one;
+    }
+    return next != NULL ? next->name : 0;
+}
+
+static unsigned telling_length(void)
+{
+    return chance(25) ? 0 : chance(30) ? 1 : chance(40) ? LONGEST_TEXT : below(LONGEST_TEXT + 1);
+}
+
+/* Where a word of that value stands already, with room behind it: a send from there saves an order; 0 if nowhere. */
+static unsigned old_text(unsigned length)
+{
+    unsigned from = below(7000), lr = get_lr(world, world[RUNNING_PAGE]);
+
+    for (unsigned i = 0; i < 7000; i++) {
+        unsigned address = TABLES_END + (from + i) % 7000;
+
+        if (world[address] == length && (address + length < lr || address >= lr + LONGEST_PUT))
+            return address;
+    }
+    return 0;
+}
+
+static struct plan plan_for(unsigned code, unsigned name)
+{
+    return (struct plan){ .code = code, .bad_word = -1, .g = { .field = name } };
+}
+
+/* Some letter of those that fit; NULL if none does. */
+typedef bool fitting(const struct letter *x);
+static const struct letter *some_letter(const struct letter *letters, unsigned count, fitting *fits)
+{
+    for (unsigned i = 0, from = below(count); i < count; i++)
+        if (fits(&letters[(from + i) % count]))
+            return &letters[(from + i) % count];
+    return NULL;
+}
+
+static bool is_of_namesake(const struct letter *x)
+{
+    return is_marked(x->length) && x->name == runner_name() && x->holder != world[RUNNING_PAGE];
+}
+
+/*
+ * Holders: one that has mail of an earlier one of the sender's name; the next to run, who can move what it gets; the
+ * sender itself; anybody.
+ */
+static unsigned some_holder(const struct look *l)
+{
+    struct letter letters[PAGES];
+    const struct letter *x = some_letter(letters, all_letters(world, letters), is_of_namesake);
+    unsigned next = next_name(l), choice = below(100);
+
+    if (choice < 40 && x != NULL)
+        return name_of(world, x->holder);
+    if (choice < 60 && next != 0)
+        return next;
+    return choice < 75 ? runner_of(l)->name : existing_name(l);
+}
+
+/* The runner sends several messages from texts that stand somewhere, in one put. */
+static void send_batch(const struct look *l, unsigned count)
+{
+    struct plan batch[4];
+
+    for (unsigned i = 0; i < count; i++) {
+        batch[i] = plan_for(4, some_holder(l));
+        batch[i].g.flag = from_to(1, 7);
+        batch[i].g.address = old_text(telling_length());
+        if (batch[i].g.address == 0)
+            batch[i].g.address = old_text(0);
+        if (batch[i].g.address == 0)
+            return;
+    }
+    issue_batch(batch, count);
+}
+
+/* The runner sends some mail, as far as pages go, and may move what it sent to itself. */
+static void send_mail(void)
+{
+    struct look l = look_at(world);
+    unsigned left = from_to(1, 4), name = runner_of(&l)->name;
+
+    if (left > l.free)
+        left = l.free;
+    if (!built_in(4) || left == 0)
+        return;
+    if (chance(60)) {
+        send_batch(&l, left);
+    } else {
+        for (; left > 0 && runner_name() == name; left--) {
+            unsigned to = some_holder(&l), flag = from_to(1, 7);
+
+            do_send(to, flag, telling_length());
+        }
+    }
+    if (runner_name() == name && first_match(world, at(world[RUNNING_PAGE], Q1), name * 16) != 0 && chance(60))
+        do_message(chance(60) ? 5 : 7, name, 0);
+}
+
+/* The runner moves mail under that name to its Q2. */
+static void take_in(unsigned name)
+{
+    unsigned page = world[RUNNING_PAGE], message = first_match(world, at(page, Q1), name * 16);
+    unsigned code = chance(50) ? 5 : 7, wanted = chance(50) ? name : 0;
+
+    if (message != 0)
+        do_message(code, wanted, chance(50) ? 0 : world[at(message, FROM)] % 16u);
+}
+
+/* The name is made again, above the runner if it can be, and started. */
+static void make_again(unsigned name)
+{
+    struct look l = look_at(world);
+    unsigned own = runner_of(&l)->priority;
+    struct plan batch[2] = { plan_for(11, name), plan_for(8, name) };
+
+    if (l.free == 0 || find_one(&l, name) != NULL || !built_in(11) || !built_in(8))
+        return;
+    batch[0].g.priority = own < 15 ? from_to(own + 1, 15) : 15;
+    batch[0].g.w = below(16);
+    batch[0].g.address = from_to(TABLES_END, 7400);
+    issue_batch(batch, 2);
+}
+
+/* Those before it step aside until the one of that name runs. */
+static bool let_run(unsigned name)
+{
+    for (unsigned tries = 0; tries < 3 && !is_idle() && runner_name() != name; tries++) {
+        unsigned page = find_processor(world, name);
+
+        if (page == 0 || !is_ready(world, page))
+            return false;
+        if (chance(50))
+            do_name(9, runner_name());
+        else
+            do_wait(from_to(16, 50), 1);
+    }
+    return runner_name() == name;
+}
+
+/* STP where it is needed, and DEP. */
+static void bury(unsigned name)
+{
+    struct plan batch[2] = { plan_for(9, name), plan_for(12, name) };
+    unsigned page = find_processor(world, name);
+
+    if (page == 0 || page == world[RUNNING_PAGE] || !built_in(9) || !built_in(12))
+        return;
+    if ((world[at(page, STATE)] & STOPPED) != 0)
+        do_name(12, name);
+    else if (chance(50))
+        issue_batch(batch, 2);
+    else if (do_name(9, name) && !is_idle())
+        do_name(12, name);
+}
+
+/* A life: the runner sends, stops itself, and who runs then deletes it; false if it came to nothing. */
+static bool live_and_die(unsigned name)
+{
+    send_mail();
+    if (runner_name() != name || !others_ready())
+        return false;
+    do_name(9, name);
+    if (is_idle() || runner_name() == name)
+        return false;
+    if (chance(50))
+        take_in(name);
+    if (is_idle() || runner_name() == name)
+        return false;
+    bury(name);
+    return find_processor(world, name) == 0;
+}
+
+/* One name lives and dies up to four times; then its mail is read, or who has it is deleted. */
+void scene_lives(void)
+{
+    unsigned name = runner_name();
+
+    for (unsigned left = from_to(1, 4); left > 0 && others_ready() && world[FREE_LIST] != 0 && !full(); left--) {
+        if (!live_and_die(name) || is_idle())
+            break;
+        if (left > 1 || chance(60))
+            make_again(name);
+        if (is_idle() || (left > 1 && !let_run(name)))
+            break;
+    }
+    if (!is_idle() && runner_name() == name && chance(70))
+        send_mail();
+    if (!is_idle() && chance(50))
+        scene_keepsakes();
+    if (!is_idle() && chance(70))
+        scene_estate();
+}
+
+static bool is_nobodys(const struct letter *x)
+{
+    return find_processor(world, x->name) == 0;
+}
+
+static bool is_marked_elsewhere(const struct letter *x)
+{
+    return is_marked(x->length) && x->holder != world[RUNNING_PAGE];
+}
+
+/* Marked mail, or unmarked mail of nobody's name. */
+static bool is_left_elsewhere(const struct letter *x)
+{
+    return x->length != NOTICE && x->holder != world[RUNNING_PAGE] && (is_marked(x->length) || is_nobodys(x));
+}
+
+/*
+ * A name that stands on waiting mail or notices and that nobody has: it is made again, and often deleted at once or
+ * after it sent something.
+ */
+void scene_heirs(void)
+{
+    struct letter letters[PAGES];
+    unsigned count = all_letters(world, letters), name;
+    const struct letter *x = some_letter(letters, count, is_nobodys);
+    struct plan batch[3];
+
+    if (is_idle() || x == NULL || world[FREE_LIST] == 0 || !built_in(11) || !built_in(12))
+        return;
+    name = x->name;
+    if (chance(40)) {
+        make_again(name);
+        if (!is_idle() && let_run(name))
+            live_and_die(name);
+        return;
+    }
+    batch[0] = plan_for(11, name);
+    batch[0].g.priority = from_to(1, 15);
+    batch[0].g.address = from_to(TABLES_END, 7400);
+    batch[1] = plan_for(12, name);
+    batch[2] = batch[0];
+    issue_batch(batch, from_to(1, 3));
+}
+
+/* One that holds mail whose sender is gone is deleted, with a namesake of the sender alive or not. */
+void scene_estate(void)
+{
+    struct letter letters[PAGES];
+    unsigned count = all_letters(world, letters);
+    const struct letter *x = some_letter(letters, count, is_left_elsewhere);
+
+    if (is_idle() || x == NULL)
+        return;
+    if (find_processor(world, x->name) == 0 && world[FREE_LIST] != 0 && chance(60))
+        do_create(x->name, from_to(1, 15));
+    if (!is_idle())
+        bury(name_of(world, x->holder));
+}
+
+/* So many unprotected words that a longer target would reach protected ones. */
+static unsigned tight_place(unsigned count)
+{
+    unsigned end = chance(60) ? at(FIRST_PAGE, 0) : TABLES;
+
+    return end - count - (chance(50) ? 0 : below(MARKED));
+}
+
+/* The runner's marked mail comes to its Q2 and is read, to places that just have room for it, or one word too few. */
+static void read_one(void)
+{
+    struct queue q = queue_read(world, at(world[RUNNING_PAGE], Q2), LINK);
+    struct plan p = plan_for(6, 0);
+    unsigned from, length, message = 0;
+
+    for (unsigned i = 0; i < q.count && message == 0; i++)
+        if (is_marked(world[at(q.page[i], LENGTH)]))
+            message = q.page[i];
+    if (message == 0)
+        return;
+    from = world[at(message, FROM)];
+    p.g.field = chance(60) ? from / 16 : 0;
+    p.g.flag = chance(60) ? from % 16 : 0;
+    length = text_length(world, first_match(world, q.header, p.g.field * 16 + p.g.flag));
+    p.g.address = chance(80) ? tight_place(3 + length) : place(3 + length);
+    if (others_ready() && chance(15))
+        p.g.address = chance(50) ? place_protected(3 + length) : at(FIRST_PAGE, 0) - 2 - length;
+    do_plan(&p);
+}
+
+static bool is_marked_of_runner(const struct letter *x)
+{
+    return is_marked(x->length) && x->holder == world[RUNNING_PAGE];
+}
+
+/* One that holds marked mail and doesn't run is started and let run. */
+static void call_holder(const struct letter *x)
+{
+    unsigned name = name_of(world, x->holder);
+
+    if ((world[at(x->holder, STATE)] & WAITING) != 0)
+        return;
+    if ((world[at(x->holder, STATE)] & STOPPED) != 0)
+        do_name(8, name);
+    if (!is_idle() && others_ready())
+        let_run(name);
+}
+
+/* Marked mail is moved and read. */
+void scene_keepsakes(void)
+{
+    struct letter letters[PAGES];
+    unsigned count = all_letters(world, letters);
+    const struct letter *x = some_letter(letters, count, is_marked_elsewhere);
+
+    if (is_idle())
+        return;
+    if (some_letter(letters, count, is_marked_of_runner) == NULL && x != NULL)
+        call_holder(x);
+    for (unsigned left = from_to(1, 5); left > 0 && !is_idle() && !full(); left--) {
+        count = all_letters(world, letters);
+        x = some_letter(letters, count, is_marked_of_runner);
+        if (x == NULL)
+            return;
+        if (x->queue == Q1)
+            take_in(x->name);
+        else
+            read_one();
+    }
+}
