@@ -64,7 +64,7 @@ static void starve(void)
             do_name(9, runner_of(&l)->name);
         else if (chance(30))
             fault_before_wait();
-        else if (name != 0 && chance(40))
+        else if (name != 0 && chance(50))
             do_create(name, from_to(1, 15));
         else
             send_some(name != 0 && chance(25) ? name : existing_name(&l), 6);
@@ -133,6 +133,10 @@ static unsigned long worth(const struct one *one)
         sum += 400 / (1 + marked(MARK_DELETE_NOTICE));
     if (one->odd > 0)
         sum += 900 / (1 + marked(MARK_DELETE_ODD));
+    if (one->marked > 0)
+        sum += 400 / (1 + marked(MARK_DELETE_MARKED));
+    if (one->alive > 0)
+        sum += 400 / (1 + marked(MARK_GIVEN_ALIVE));
     if (one->grant != 0)
         sum += 900 / (1 + marked(MARK_DELETE_GRANT));
     if (one->wait == WAIT_INTERRUPT)

@@ -53,20 +53,20 @@ static const struct {
     { scene_single, { 76, 54, 34, 30, 20 } }, { scene_calls, { 8, 6, 4, 10, 5 } },
     { scene_interrupts, { 14, 10, 6, 6, 8 } }, { scene_codes, { 6, 5, 2, 4, 3 } },
     { scene_edges, { 40, 25, 4, 8, 8 } },     { scene_context, { 8, 6, 2, 3, 4 } },
-    { scene_revive, { 6, 5, 5, 3, 3 } },      { scene_faults, { 14, 8, 3, 2, 2 } },
+    { scene_revive, { 6, 5, 5, 3, 3 } },      { scene_faults, { 16, 9, 3, 2, 2 } },
     { scene_clock, { 3, 5, 2, 1, 34 } },      { scene_gather, { 6, 5, 5, 2, 12 } },
-    { scene_grow, { 3, 2, 3, 2, 4 } },        { scene_hunger, { 9, 7, 8, 3, 3 } },
+    { scene_grow, { 3, 2, 3, 2, 4 } },        { scene_hunger, { 9, 9, 16, 3, 3 } },
     { scene_relieve, { 5, 4, 3, 2, 2 } },     { scene_reap, { 7, 5, 3, 2, 2 } },
     { scene_notice, { 5, 4, 2, 2, 1 } },      { scene_messages, { 7, 5, 8, 3, 3 } },
     { scene_mailbox, { 24, 16, 6, 6, 6 } },   { scene_address, { 7, 5, 1, 3, 3 } },
     { scene_halt, { 5, 4, 3, 2, 3 } },        { scene_ruin, { 16, 12, 2, 4, 4 } },
-    { scene_break, { 0, 135, 600, 0, 0 } },   { scene_harmless_break, { 0, 20, 20, 0, 0 } },
+    { scene_break, { 0, 150, 660, 0, 0 } },   { scene_harmless_break, { 0, 20, 20, 0, 0 } },
     { scene_nobody, { 0, 4, 10, 0, 0 } },     { scene_length, { 0, 3, 2, 3, 0 } },
     { scene_lines, { 0, 2, 1, 60, 1 } },      { scene_bursts, { 42, 26, 18, 18, 20 } },
     { scene_bad_bursts, { 38, 24, 16, 20, 18 } },
-    { scene_muster, { 18, 12, 8, 7, 12 } },   { scene_lives, { 14, 9, 5, 4, 4 } },
-    { scene_heirs, { 8, 6, 4, 2, 2 } },       { scene_estate, { 8, 6, 4, 2, 2 } },
-    { scene_keepsakes, { 10, 8, 4, 3, 3 } },  { scene_forge, { 0, 8, 12, 0, 0 } }
+    { scene_muster, { 21, 14, 9, 8, 12 } },   { scene_lives, { 15, 9, 4, 4, 4 } },
+    { scene_heirs, { 10, 6, 2, 2, 2 } },      { scene_estate, { 9, 6, 2, 2, 2 } },
+    { scene_keepsakes, { 12, 9, 2, 3, 3 } },  { scene_forge, { 0, 17, 12, 0, 0 } }
 };
 enum { SCENES = sizeof scenes / sizeof scenes[0] };
 

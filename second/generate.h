@@ -69,7 +69,6 @@ struct one {
     unsigned odd;        /* notices whose sender's name exists */
     unsigned marked;     /* of them, marked */
     unsigned alive;      /* marked ones whose sender's name exists again and is another's */
-    unsigned own;        /* unmarked mail to itself */
     unsigned grant;
 };
 struct look {
@@ -168,7 +167,7 @@ void any_burst(void);
 bool burst_for_waiters(void);
 void burst_on(unsigned number);
 
-/* scenes.c, interrupts.c, crowd.c, namesakes.c, broken.c, harmless.c, lines.c, bursts.c: short plays of some orders each */
+/* scenes.c, interrupts.c, crowd.c, namesakes.c, broken.c, harmless.c, lines.c, bursts.c: plays of some orders each */
 void scene_single(void);
 void scene_calls(void);
 void scene_interrupts(void);

@@ -30,7 +30,7 @@ static void fill_page_9(void)
 /* Any word 2 that a good message can have, often the first or last of its kind. */
 unsigned good_length(void)
 {
-    unsigned length = chance(25) ? 0 : chance(25) ? LONGEST_TEXT : below(LONGEST_TEXT + 1);
+    unsigned length = chance(25) ? 0 : chance(25) ? LONGEST_TEXT : chance(20) ? 1 : below(LONGEST_TEXT + 1);
 
     return chance(45) ? MARKED + length : chance(80) ? length : NOTICE;
 }
@@ -83,7 +83,7 @@ void scene_forge(void)
         order_judge();
     if (is_idle())
         return;
-    switch (below(4)) {
+    switch (below(5)) {
     case 0: scene_heirs(); break;
     case 1: scene_keepsakes(); break;
     default: scene_estate(); break;

@@ -30,7 +30,6 @@ static void count_mail(const uint8_t *m, struct one *one, const struct queue *q)
             one->alive += exists;
         } else {
             one->mail += exists;
-            one->own += sender == one->name;
         }
     }
 }

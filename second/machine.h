@@ -52,8 +52,8 @@ enum {
 enum { STOPPED = 128, WAITING = 64, STATE_ZEROS = 48, STATE_W = 15 };
 
 /*
- * Words of a message page, after LINK.  LENGTH is the length of the text, 0-29; or that and MARKED, where the sender was
- * deleted after it sent this; or NOTICE.
+ * Words of a message page, after LINK.  LENGTH is the length of the text, 0-29; or that and MARKED, where
+ * the sender was deleted after it sent this; or NOTICE.
  */
 enum { FROM = 1, LENGTH = 2, TEXT = 3, LONGEST_TEXT = 29, MARKED = 64, NOTICE = 128 };
 

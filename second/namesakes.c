@@ -22,7 +22,9 @@ static unsigned next_name(const struct look *l)
     for (unsigned i = 0; i < l->count; i++) {
         const struct one *one = &l->one[i];
 
-        if (i != l->running && !one->stopped && one->wait == WAIT_NONE && (next == NULL || one->priority > next->priority))
+        if (i == l->running || one->stopped || one->wait != WAIT_NONE)
+            continue;
+        if (next == NULL || one->priority > next->priority)
             next = one;
     }
     return next != NULL ? next->name : 0;
@@ -77,11 +79,11 @@ static unsigned some_holder(const struct look *l)
     const struct letter *x = some_letter(letters, all_letters(world, letters), is_of_namesake);
     unsigned next = next_name(l), choice = below(100);
 
-    if (choice < 40 && x != NULL)
+    if (choice < 50 && x != NULL)
         return name_of(world, x->holder);
-    if (choice < 60 && next != 0)
+    if (choice < 65 && next != 0)
         return next;
-    return choice < 75 ? runner_of(l)->name : existing_name(l);
+    return choice < 78 ? runner_of(l)->name : existing_name(l);
 }
 
 /* The runner sends several messages from texts that stand somewhere, in one put. */
@@ -160,7 +162,7 @@ static bool let_run(unsigned name)
         if (chance(50))
             do_name(9, runner_name());
         else
-            do_wait(from_to(16, 50), 1);
+            do_wait(chance(40) ? from_to(48, 50) : from_to(16, 47), 1);
     }
     return runner_name() == name;
 }
@@ -211,11 +213,11 @@ void scene_lives(void)
         if (is_idle() || (left > 1 && !let_run(name)))
             break;
     }
-    if (!is_idle() && runner_name() == name && chance(70))
+    if (!is_idle() && runner_name() == name && chance(80))
         send_mail();
-    if (!is_idle() && chance(50))
+    if (!is_idle() && chance(40))
         scene_keepsakes();
-    if (!is_idle() && chance(70))
+    else if (!is_idle())
         scene_estate();
 }
 
@@ -224,15 +226,32 @@ static bool is_nobodys(const struct letter *x)
     return find_processor(world, x->name) == 0;
 }
 
+static bool is_nobodys_notice(const struct letter *x)
+{
+    return x->length == NOTICE && is_nobodys(x);
+}
+
 static bool is_marked_elsewhere(const struct letter *x)
 {
     return is_marked(x->length) && x->holder != world[RUNNING_PAGE];
 }
 
-/* Marked mail, or unmarked mail of nobody's name. */
-static bool is_left_elsewhere(const struct letter *x)
+/* Unmarked mail of nobody's name: calls alone never leave any. */
+static bool is_unowned_elsewhere(const struct letter *x)
 {
-    return x->length != NOTICE && x->holder != world[RUNNING_PAGE] && (is_marked(x->length) || is_nobodys(x));
+    return x->length < MARKED && is_nobodys(x) && x->holder != world[RUNNING_PAGE];
+}
+
+/* Marked mail beside unmarked mail of the same name, which somebody has. */
+static bool is_mixed_elsewhere(const struct letter *x)
+{
+    struct letter letters[PAGES];
+    unsigned count = all_letters(world, letters);
+
+    for (unsigned i = 0; i < count && is_marked_elsewhere(x) && !is_nobodys(x); i++)
+        if (letters[i].holder == x->holder && letters[i].name == x->name && letters[i].length < MARKED)
+            return true;
+    return false;
 }
 
 /*
@@ -243,9 +262,11 @@ void scene_heirs(void)
 {
     struct letter letters[PAGES];
     unsigned count = all_letters(world, letters), name;
-    const struct letter *x = some_letter(letters, count, is_nobodys);
+    const struct letter *x = chance(40) ? some_letter(letters, count, is_nobodys_notice) : NULL;
     struct plan batch[3];
 
+    if (x == NULL)
+        x = some_letter(letters, count, is_nobodys);
     if (is_idle() || x == NULL || world[FREE_LIST] == 0 || !built_in(11) || !built_in(12))
         return;
     name = x->name;
@@ -268,11 +289,15 @@ void scene_estate(void)
 {
     struct letter letters[PAGES];
     unsigned count = all_letters(world, letters);
-    const struct letter *x = some_letter(letters, count, is_left_elsewhere);
+    const struct letter *x = chance(70) ? some_letter(letters, count, is_unowned_elsewhere) : NULL;
 
+    if (x == NULL && chance(80))
+        x = some_letter(letters, count, is_mixed_elsewhere);
+    if (x == NULL)
+        x = some_letter(letters, count, is_marked_elsewhere);
     if (is_idle() || x == NULL)
         return;
-    if (find_processor(world, x->name) == 0 && world[FREE_LIST] != 0 && chance(60))
+    if (find_processor(world, x->name) == 0 && world[FREE_LIST] != 0 && chance(is_marked(x->length) ? 60 : 30))
         do_create(x->name, from_to(1, 15));
     if (!is_idle())
         bury(name_of(world, x->holder));
@@ -303,7 +328,7 @@ static void read_one(void)
     p.g.flag = chance(60) ? from % 16 : 0;
     length = text_length(world, first_match(world, q.header, p.g.field * 16 + p.g.flag));
     p.g.address = chance(80) ? tight_place(3 + length) : place(3 + length);
-    if (others_ready() && chance(15))
+    if (others_ready() && chance(25))
         p.g.address = chance(50) ? place_protected(3 + length) : at(FIRST_PAGE, 0) - 2 - length;
     do_plan(&p);
 }

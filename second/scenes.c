@@ -199,6 +199,8 @@ static unsigned edge_code(void)
         code = pick_code(KIND_ABSENT, 2);
     else if (chance(35))
         code = pick_code(KIND_OWN, 2);
+    else if (chance(12))
+        code = 11;  /* the longest */
     return code < CODES ? code : below(CODES);
 }
 

@@ -102,7 +102,7 @@ static bool spoil_flag(const struct look *l)
 
 static bool spoil_length(const struct look *l)
 {
-    static const uint8_t lengths[] = { 29, 30, 30, 31, 62, 63, 63, 127, 128, 129, 200, 255 };
+    static const uint8_t lengths[] = { 29, 30, 30, 30, 31, 63, 63, 127, 128, 129, 200, 255 };
     unsigned page = some_message(l);
 
     if (page == 0)
@@ -114,13 +114,13 @@ static bool spoil_length(const struct look *l)
 /* Word 2 around 64-93, and a notice that is marked. */
 static bool spoil_mark(const struct look *l)
 {
-    static const uint8_t lengths[] = { 63, 64, 93, 94, 94, 95, 96, 126, 127, 192, 192, 193, 221, 222 };
+    static const uint8_t lengths[] = { 63, 64, 93, 94, 94, 94, 94, 95, 127, 192, 192, 221, 222 };
     unsigned page = some_message(l), old, length = lengths[below(sizeof lengths)];
 
     if (page == 0)
         return false;
     old = world[at(page, LENGTH)];
-    if (chance(30))
+    if (chance(20))
         length = old < MARKED || old == NOTICE ? old + MARKED : old + 2 * MARKED;  /* marked once more, or too often */
     poke(at(page, LENGTH), length);
     return true;

@@ -1,0 +1,3 @@
+# file: deliver.c
+# says: DEP adds 64 to marked mail again
+s/name && length < MARKED)/name \&\& length < NOTICE)/
