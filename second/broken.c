@@ -228,7 +228,7 @@ static unsigned pick_number(unsigned lowest)
 {
     for (;;) {
         unsigned choice = below(100);
-        unsigned number = choice < 23 ? REFUSE_USES : choice < 55 ? REFUSE_WAITS : choice < 76 ? REFUSE_RECORDS
+        unsigned number = choice < 22 ? REFUSE_USES : choice < 54 ? REFUSE_WAITS : choice < 76 ? REFUSE_RECORDS
                         : choice < 86 ? REFUSE_TABLES : REFUSE_RUNNING;
 
         if (number >= lowest)
@@ -248,7 +248,7 @@ static unsigned pick_first(const struct look *l, unsigned lowest)
         return first_other + ANYTHING;
     if (l->page_waiters > 0 && chance(25))
         return pick_way(l, REFUSE_WAITS);  /* what only a hungry machine can break */
-    if (l->running == l->count && chance(16))
+    if (l->running == l->count && chance(20))
         return pick_way(l, REFUSE_RUNNING);  /* and an idle one */
     return pick_way(l, pick_number(lowest));
 }

@@ -354,6 +354,16 @@ static void meanwhile(const unsigned *lines)
         scene_bad_bursts();
 }
 
+/* One that waits for an interrupt is stopped; a burst wakes it all the same. */
+static void stop_waiter(void)
+{
+    struct look l = look_at(world);
+    const struct one *one = &l.one[below(l.count)];
+
+    if (one->wait == WAIT_INTERRUPT && !one->stopped)
+        do_name(9, one->name);
+}
+
 /*
  * Several go to wait for a few interrupts, often until nobody is left to run, and a burst
  * comes for them: from idle the first one woken runs, and who comes later takes over only if higher.
@@ -374,6 +384,8 @@ void scene_muster(void)
             break;
         if (!do_wait(line, chance(60) ? 1 : from_to(2, 4)))
             break;
+        if (!is_idle() && chance(12))
+            stop_waiter();
     }
     meanwhile(lines);
     burst_for_waiters();

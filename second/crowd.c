@@ -77,7 +77,7 @@ void scene_hunger(void)
         scene_grow();
     flood();
     starve();
-    for (unsigned left = may_break() ? from_to(0, 4) : 0; left > 0; left--)
+    for (unsigned left = may_break() ? from_to(1, 5) : 0; left > 0; left--)
         scene_break();
     if (may_break() && chance(50))
         scene_litter();

@@ -52,7 +52,7 @@ static const struct {
 } scenes[] = {
     { scene_single, { 76, 54, 34, 30, 20 } }, { scene_calls, { 8, 6, 4, 10, 5 } },
     { scene_interrupts, { 14, 10, 6, 6, 8 } }, { scene_codes, { 6, 5, 2, 4, 3 } },
-    { scene_edges, { 40, 25, 4, 8, 8 } },     { scene_context, { 8, 6, 2, 3, 4 } },
+    { scene_edges, { 46, 29, 4, 9, 8 } },     { scene_context, { 8, 6, 2, 3, 4 } },
     { scene_revive, { 6, 5, 5, 3, 3 } },      { scene_faults, { 16, 9, 3, 2, 2 } },
     { scene_clock, { 3, 5, 2, 1, 34 } },      { scene_gather, { 6, 5, 5, 2, 12 } },
     { scene_grow, { 3, 2, 3, 2, 4 } },        { scene_hunger, { 9, 9, 16, 3, 3 } },
@@ -66,7 +66,7 @@ static const struct {
     { scene_bad_bursts, { 38, 24, 16, 20, 18 } },
     { scene_muster, { 21, 14, 9, 8, 12 } },   { scene_lives, { 15, 9, 4, 4, 4 } },
     { scene_heirs, { 10, 6, 2, 2, 2 } },      { scene_estate, { 9, 6, 2, 2, 2 } },
-    { scene_keepsakes, { 12, 9, 2, 3, 3 } },  { scene_forge, { 0, 17, 12, 0, 0 } }
+    { scene_keepsakes, { 12, 9, 2, 3, 3 } },  { scene_forge, { 0, 20, 14, 0, 0 } }
 };
 enum { SCENES = sizeof scenes / sizeof scenes[0] };
 

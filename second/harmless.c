@@ -65,7 +65,7 @@ static void retouch_some(const struct look *l)
 void scene_forge(void)
 {
     struct look l = look_at(world);
-    unsigned name = l.count > 0 && chance(50) ? absent_name(&l) : from_to(1, HIGHEST_NAME);
+    unsigned name = l.count > 0 && chance(70) ? absent_name(&l) : from_to(1, HIGHEST_NAME);
 
     if (l.count == 0 || name == 0)
         return;
@@ -83,9 +83,9 @@ void scene_forge(void)
         order_judge();
     if (is_idle())
         return;
-    switch (below(5)) {
-    case 0: scene_heirs(); break;
-    case 1: scene_keepsakes(); break;
+    switch (below(6)) {
+    case 0: case 1: scene_heirs(); break;
+    case 2: scene_keepsakes(); break;
     default: scene_estate(); break;
     }
 }

@@ -237,9 +237,14 @@ static bool is_marked_elsewhere(const struct letter *x)
 }
 
 /* Unmarked mail of nobody's name: calls alone never leave any. */
+static bool is_unowned(const struct letter *x)
+{
+    return x->length < MARKED && is_nobodys(x);
+}
+
 static bool is_unowned_elsewhere(const struct letter *x)
 {
-    return x->length < MARKED && is_nobodys(x) && x->holder != world[RUNNING_PAGE];
+    return is_unowned(x) && x->holder != world[RUNNING_PAGE];
 }
 
 /* Marked mail beside unmarked mail of the same name, which somebody has. */
@@ -262,9 +267,11 @@ void scene_heirs(void)
 {
     struct letter letters[PAGES];
     unsigned count = all_letters(world, letters), name;
-    const struct letter *x = chance(40) ? some_letter(letters, count, is_nobodys_notice) : NULL;
+    const struct letter *x = may_break() && chance(70) ? some_letter(letters, count, is_unowned) : NULL;
     struct plan batch[3];
 
+    if (x == NULL && chance(40))
+        x = some_letter(letters, count, is_nobodys_notice);
     if (x == NULL)
         x = some_letter(letters, count, is_nobodys);
     if (is_idle() || x == NULL || world[FREE_LIST] == 0 || !built_in(11) || !built_in(12))
@@ -297,7 +304,7 @@ void scene_estate(void)
         x = some_letter(letters, count, is_marked_elsewhere);
     if (is_idle() || x == NULL)
         return;
-    if (find_processor(world, x->name) == 0 && world[FREE_LIST] != 0 && chance(is_marked(x->length) ? 60 : 30))
+    if (find_processor(world, x->name) == 0 && world[FREE_LIST] != 0 && chance(is_marked(x->length) ? 60 : 20))
         do_create(x->name, from_to(1, 15));
     if (!is_idle())
         bury(name_of(world, x->holder));

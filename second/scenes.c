@@ -195,7 +195,7 @@ static unsigned edge_code(void)
 {
     unsigned code = below(CODES);
 
-    if (chance(30))
+    if (chance(34))
         code = pick_code(KIND_ABSENT, 2);
     else if (chance(35))
         code = pick_code(KIND_OWN, 2);

@@ -111,18 +111,27 @@ static bool spoil_length(const struct look *l)
     return true;
 }
 
-/* Word 2 around 64-93, and a notice that is marked. */
+/* Word 2 around 64-93. */
 static bool spoil_mark(const struct look *l)
 {
-    static const uint8_t lengths[] = { 63, 64, 93, 94, 94, 94, 94, 95, 127, 192, 192, 221, 222 };
-    unsigned page = some_message(l), old, length = lengths[below(sizeof lengths)];
+    static const uint8_t lengths[] = { 63, 64, 93, 94, 94, 94, 94, 94, 95, 127 };
+    unsigned page = some_message(l);
 
     if (page == 0)
         return false;
-    old = world[at(page, LENGTH)];
-    if (chance(20))
-        length = old < MARKED || old == NOTICE ? old + MARKED : old + 2 * MARKED;  /* marked once more, or too often */
-    poke(at(page, LENGTH), length);
+    poke(at(page, LENGTH), lengths[below(sizeof lengths)]);
+    return true;
+}
+
+/* A notice that is marked, and mail that is marked once more. */
+static bool spoil_marked_again(const struct look *l)
+{
+    static const uint8_t lengths[] = { 192, 192, 129, 157, 193, 221 };
+    unsigned page = some_message(l), length = page == 0 ? 0 : world[at(page, LENGTH)];
+
+    if (page == 0)
+        return false;
+    poke(at(page, LENGTH), length >= MARKED && chance(60) ? length + MARKED : lengths[below(sizeof lengths)]);
     return true;
 }
 
@@ -305,6 +314,7 @@ const struct way spoils[] = {
     { REFUSE_RECORDS, "the flag of a message", spoil_flag, WAIT_NONE },
     { REFUSE_RECORDS, "the length of a message", spoil_length, WAIT_NONE },
     { REFUSE_RECORDS, "the mark of a message", spoil_mark, WAIT_NONE },
+    { REFUSE_RECORDS, "a message marked too often", spoil_marked_again, WAIT_NONE },
     { REFUSE_TABLES, "the kind of a code", spoil_kind, WAIT_NONE },
     { REFUSE_TABLES, "codes 0, 1 and 15", spoil_lasting_code, WAIT_NONE },
     { REFUSE_TABLES, "page 9 out of range", spoil_page_9_range, WAIT_NONE },
