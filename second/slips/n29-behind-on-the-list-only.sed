@@ -4,4 +4,8 @@
 N
 s/\(.*\)\n\(.*\)/\2\n\1/
 }
-s/^    for (unsigned i = 0; i < list.count; i++) {/    unsigned first = 0;\n\n    while (first < list.count \&\& list.page[first] != page)\n        first++;\n    for (unsigned i = first; i < list.count; i++) {/
+s/^    for (unsigned i = 0; i < list.count; i++) {/    unsigned first = 0;\
+\
+    while (first < list.count \&\& list.page[first] != page)\
+        first++;\
+    for (unsigned i = first; i < list.count; i++) {/
