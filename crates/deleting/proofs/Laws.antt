@@ -1,51 +1,88 @@
 -- A law for each way through deleting.
-use Prim.Native.Nat.{ℕ, zero, suc, _-_}
+use Prim.Native.Nat.{ℕ, zero, suc, _+_, _-_, _≤_, _<_}
 use mathlib.Core.Path.{_≡_, refl}
-use borrow.Author.Tests.{eq-eqb, ne-eqb}
+use mathlib.Core.Bool.{Bool, true, false}
+use lib.Dec.{eqb}
+use borrow.Author.Tests.{lt-ltb, le-ltb, eq-eqb, ne-eqb}
 use native.Mathlib.Numerals.{sub-one}
 use native.Mathlib.Omega.{arith}
-use Rattle.model.specs.Map.{upper, link, listLink, processorList, note, size, notice, grantFor}
+use Rattle.model.specs.Map.{place, upper, link, listLink, processorList, note, size, mark, grantFor}
 use Rattle.model.specs.Delete as Delete
-use Rattle.model.specs.Bytes.{Memory, word, at, write, name, leaveWait, unlisted, mailReturned, delete, leave, pageOf, giveBack}
-use Rattle.model.specs.Bytes.{noticed, returned, emptied, grantReturned}
+use Rattle.model.specs.Bytes.{Memory, word, store, at, write, name, leaveWait, unlisted, mailSettled, delete, leave, pageOf, giveBack}
+use Rattle.model.specs.Bytes.{sender, marked, markedFrom, mailMarked, allMarked, noticed, returned, emptied, grantReturned}
 
 pub unlisted-is : (m m₁ m₂ : Memory) (p : ℕ) → m₁ ≡ leaveWait m p → m₂ ≡ leave m₁ processorList listLink p → m₂ ≡ unlisted m p
 unfolding Delete.unlisted
 unlisted-is m m₁ m₂ p e₁ e₂ = rw (← e₁) e₂
 
-pub delete-is : (m m₁ m₂ m₃ m₄ : Memory) (p n : ℕ) → n ≡ name m p → m₁ ≡ unlisted m p → m₂ ≡ mailReturned m₁ n p → m₃ ≡ grantReturned m₂ n → m₄ ≡ giveBack m₃ p
+pub delete-is : (m m₁ m₂ m₃ m₄ : Memory) (p n : ℕ) → n ≡ name m p → m₁ ≡ unlisted m p → m₂ ≡ mailSettled m₁ n p → m₃ ≡ grantReturned m₂ n → m₄ ≡ giveBack m₃ p
     → m₄ ≡ delete m p
 unfolding Delete.delete
 delete-is m m₁ m₂ m₃ m₄ p n en e₁ e₂ e₃ e₄ = rw (← en, ← e₁, ← e₂, ← e₃) e₄
 
+module _ (m : Memory) (n q l : ℕ) (el : l ≡ word m q size) where
+  pub marked-not : mark ≤ l → m ≡ marked m n q
+  unfolding Delete.marked Delete.sentBy
+  marked-not h = rw (← el, le-ltb l mark h)
+
+  module _ (b : Bool) (h : l < mark) (eb : b ≡ eqb (sender m q) n) where
+    pub marked-other : b ≡ false → m ≡ marked m n q
+    unfolding Delete.marked Delete.sentBy
+    marked-other z = rw (← el, lt-ltb l mark h, ← eb, z)
+
+    pub marked-is : (m₁ : Memory) → b ≡ true → m₁ ≡ store m q size (l + mark) → m₁ ≡ marked m n q
+    unfolding Delete.marked Delete.sentBy
+    marked-is m₁ z e₁ = rw (← el, lt-ltb l mark h, ← eb, z) e₁
+
 module _ (m m₁ : Memory) (n q l : ℕ) (el : l ≡ word m q size) where
-  pub returned-notice : l ≡ notice → m₁ ≡ giveBack m q → m₁ ≡ returned m n q
+  pub returned-marked : mark ≤ l → m₁ ≡ giveBack m q → m₁ ≡ returned m n q
   unfolding Delete.returned
-  returned-notice z e₁ = rw (← el, eq-eqb l notice z) e₁
+  returned-marked h e₁ = rw (← el, le-ltb l mark h) e₁
 
-  pub returned-none : (w p : ℕ) → (l ≡ notice → ⊥) → w ≡ word m q note → p ≡ pageOf m (upper w) → p ≡ 0 → m₁ ≡ giveBack m q → m₁ ≡ returned m n q
-  unfolding Delete.returned
-  returned-none w p z ew ep y e₁ = rw (← el, ne-eqb l notice z, ← ew, ← ep, eq-eqb p 0 y) e₁
+  module _ (w p : ℕ) (h : l < mark) (ew : w ≡ word m q note) (ep : p ≡ pageOf m (upper w)) where
+    pub returned-none : p ≡ 0 → m₁ ≡ giveBack m q → m₁ ≡ returned m n q
+    unfolding Delete.returned
+    returned-none z e₁ = rw (← el, lt-ltb l mark h, ← ew, ← ep, eq-eqb p 0 z) e₁
 
-  pub returned-sender : (w p : ℕ) → (l ≡ notice → ⊥) → w ≡ word m q note → p ≡ pageOf m (upper w) → (p ≡ 0 → ⊥) → m₁ ≡ noticed m n q p → m₁ ≡ returned m n q
-  unfolding Delete.returned
-  returned-sender w p z ew ep y e₁ = rw (← el, ne-eqb l notice z, ← ew, ← ep, ne-eqb p 0 y) e₁
+    pub returned-sender : (p ≡ 0 → ⊥) → m₁ ≡ noticed m n q p → m₁ ≡ returned m n q
+    unfolding Delete.returned
+    returned-sender z e₁ = rw (← el, lt-ltb l mark h, ← ew, ← ep, ne-eqb p 0 z) e₁
 
-pub emptied-none : (i : ℕ) (m : Memory) (n h : ℕ) → i ≡ 0 → m ≡ emptied i m n h
+-- A walk from the cell at a: with the page q that hangs there it does g, and goes on from the cell next.
+pub record Walk (f : ℕ → Memory → ℕ → ℕ → Memory) (g : Memory → ℕ → ℕ → ℕ → Memory) (next : ℕ → ℕ → ℕ) : Type 0 where
+  pub ends : (m : Memory) (n a : ℕ) → f zero m n a ≡ m
+  pub goes : (i : ℕ) (m : Memory) (n a : ℕ)
+      → f (suc i) m n a ≡ elim (eqb (at m a) 0) [ true ↦ m | false ↦ f i (g m n a (at m a)) n (next a (at m a)) ]
+
+module _ {f : ℕ → Memory → ℕ → ℕ → Memory} {g : Memory → ℕ → ℕ → ℕ → Memory} {next : ℕ → ℕ → ℕ} (w : Walk f g next) where
+  pub walk-none : (i : ℕ) (m : Memory) (n a : ℕ) → i ≡ 0 → m ≡ f i m n a
+  walk-none zero m n a e = rw (w .ends m n a)
+  walk-none (suc i) m n a e = absurd (omega arith)
+
+  pub walk-end : (i : ℕ) (m : Memory) (n a q : ℕ) → q ≡ at m a → q ≡ 0 → m ≡ f i m n a
+  walk-end zero m n a q eq z = rw (w .ends m n a)
+  walk-end (suc i) m n a q eq z = rw (w .goes i m n a, ← eq, eq-eqb q 0 z)
+
+  pub walk-on : (i : ℕ) (m m₁ m₂ : Memory) (n a q b : ℕ) → (i ≡ 0 → ⊥) → q ≡ at m a → (q ≡ 0 → ⊥) → m₁ ≡ g m n a q → b ≡ next a q → m₂ ≡ f (i - 1) m₁ n b
+      → m₂ ≡ f i m n a
+  walk-on zero m m₁ m₂ n a q b o eq z e₁ eb e₂ = absurd (o refl)
+  walk-on (suc i) m m₁ m₂ n a q b o eq z e₁ eb e₂ = rw (w .goes i m n a, ← eq, ne-eqb q 0 z, ← eq, ← e₁, ← eb) (simp sub-one at e₂)
+
+pub marks-messages : Walk markedFrom (λ m n a q. marked m n q) (λ a q. place q link)
+unfolding Delete.markedFrom
+marks-messages = record { ends = λ m n a. refl; goes = λ i m n a. refl }
+
+pub marks-processors : Walk allMarked (λ m n a p. mailMarked m n p) (λ a p. place p listLink)
+unfolding Delete.allMarked
+marks-processors = record { ends = λ m n a. refl; goes = λ i m n a. refl }
+
+pub empties : Walk emptied (λ m n h q. returned (leave m h link q) n q) (λ h q. h)
 unfolding Delete.emptied
-emptied-none zero m n h e = refl
-emptied-none (suc i) m n h e = absurd (omega arith)
-
-pub emptied-end : (i : ℕ) (m : Memory) (n h q : ℕ) → q ≡ at m h → q ≡ 0 → m ≡ emptied i m n h
-unfolding Delete.emptied
-emptied-end zero m n h q eq z = refl
-emptied-end (suc i) m n h q eq z = rw (← eq, eq-eqb q 0 z, Delete.emptied)
+empties = record { ends = λ m n h. refl; goes = λ i m n h. refl }
 
 pub emptied-on : (i : ℕ) (m m₁ m₂ m₃ : Memory) (n h q : ℕ) → (i ≡ 0 → ⊥) → q ≡ at m h → (q ≡ 0 → ⊥) → m₁ ≡ leave m h link q → m₂ ≡ returned m₁ n q
     → m₃ ≡ emptied (i - 1) m₂ n h → m₃ ≡ emptied i m n h
-unfolding Delete.emptied
-emptied-on zero m m₁ m₂ m₃ n h q o eq z e₁ e₂ e₃ = absurd (o refl)
-emptied-on (suc i) m m₁ m₂ m₃ n h q o eq z e₁ e₂ e₃ = rw (← eq, ne-eqb q 0 z, Delete.emptied, ← eq, ← e₁, ← e₂) (simp sub-one at e₃)
+emptied-on i m m₁ m₂ m₃ n h q o eq z e₁ e₂ e₃ = walk-on empties i m m₂ m₃ n h q h o eq z (rw (← e₁) e₂) refl e₃
 
 -- w is the name n made wide
 module _ (m : Memory) (n w q : ℕ) (ew : w ≡ n) (eq : q ≡ at m (grantFor w)) where
@@ -60,12 +97,12 @@ module _ (m : Memory) (n w q : ℕ) (ew : w ≡ n) (eq : q ≡ at m (grantFor w)
 pub ruleset deletions = (
   unlisted-is,
   delete-is,
-  returned-notice,
+  marked-not,
+  marked-other,
+  marked-is,
+  returned-marked,
   returned-none,
   returned-sender,
-  emptied-none,
-  emptied-end,
-  emptied-on,
   grant-none,
   grant-back,
 )

@@ -16,6 +16,7 @@ use words::write;
 ghost use mathlib.Core.Path.{_≡_};
 ghost use Prim.Native.Nat.{_<_};
 ghost use lib.ListN.{length};
+ghost use lib.Dec.{eqb};
 ghost use Rattle.model.specs.Bytes as Model;
 
 // The processor of the page leaves any wait queue, not woken, and the processor list.
@@ -27,6 +28,15 @@ fn unlist(m: &mut [u8], page: ControlPage)
     leave(m, map::PROCESSOR_LIST, map::LIST_LINK, page);
 }
 
+// Whether the message has that name as its sender.
+fn is_from(m: &[u8], name: Name, message: ControlPage) -> bool
+    requires { ⌜ length (now m) ≡ 8192 ⌝ }
+    ensures { λ r. ⌜ r ≡ eqb (Model.sender (now (m .entry)) (message .0)) (name .0) ⌝ }
+{
+    let note = message.word(m, map::NOTE);
+    note / map::FIELD == name.0
+}
+
 // The message is marked, if it is unmarked mail with that name as its sender.
 fn mark(m: &mut [u8], name: Name, message: ControlPage)
     requires { ⌜ length (now m) ≡ 8192 ⌝ }
@@ -34,8 +44,7 @@ fn mark(m: &mut [u8], name: Name, message: ControlPage)
 {
     let size = message.word(m, map::SIZE);
     if size < map::MARK {
-        let note = message.word(m, map::NOTE);
-        if note / map::FIELD == name.0 {
+        if is_from(m, name, message) {
             message.store(m, map::SIZE, size + map::MARK);
         }
     }

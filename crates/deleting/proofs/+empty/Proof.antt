@@ -1,5 +1,5 @@
 use borrow.Author.Needs.{needs}
-use Rattle.deleting.proofs.Laws.{deletions}
+use Rattle.deleting.proofs.Laws.{empties, walk-none, walk-end, emptied-on}
 use Prim.Native.Nat.{ℕ, _<_, _+_}
 use borrow.Fn.PlainCycle.{Measures, is, falls, and}
 use Rattle.deleting.proofs.empty.Reads as own
@@ -28,13 +28,13 @@ pub +empty-spec : {M : Type 1} → statement M
 )
     (and 1 kinds.ps (is 1 kinds.ps μ t) own.Pre)
     own.Post
-    (λ c. search (needs, deletions))
+    (λ c. search (needs, walk-none empties))
     (λ c κs. search needs)
     (λ c. search needs)
-    (λ c. search (needs, deletions))
+    (λ c. search (needs, walk-end empties))
     (λ c κs. search needs)
     (λ c κs. search needs)
     (λ c. search needs)
     (λ c κs. search needs)
     (λ c. search needs)
-    (λ c. search (needs, deletions))
+    (λ c. search (needs, emptied-on))
