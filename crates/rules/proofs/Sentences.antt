@@ -7,7 +7,7 @@ use mathlib.Core.List.{List}
 use native.Mathlib.Omega.{arith}
 use lib.ListN.{length}
 use lib.Dec.{eqb, leb}
-use Rattle.model.specs.Map.{place, entryAfter, firstUnused, freeList, grantFor, label, listLink, processorList, runningLabel}
+use Rattle.model.specs.Map.{place, entryAfter, firstUnused, freeList, grantFor, label, lengthIn, listLink, longest, notice, processorList, runningLabel, size}
 use Rattle.model.specs.Store.{bytes}
 use Rattle.model.specs.Rule.{each, among, holds}
 use Rattle.model.specs.Lists as Lists
@@ -71,14 +71,10 @@ module _ (m : Memory) (k i g : ℕ) (ei : i ≡ k) (eg : g ≡ length (lists m (
   grant-some n xs h en ex = let e : g ≡ length (lists m (grantFor k)) = rw ei at eg in rw (← e, ← ex, ← en) (unless-no g 0 _ (eqb n 1) h (same-is n 1))
 
 -- ---- messages
-module _ (m : Memory) (q w : ℕ) (ew : w ≡ word m q 2) where
-  pub sized-notice : w ≡ 128 → true ≡ holds (Judge.sized bytes m q)
-  unfolding Judge.sized
-  sized-notice h = rw (← ew) (unless-yes w 128 _ h)
-
-  pub sized-text : (w ≡ 128 → ⊥) → leb w 29 ≡ holds (Judge.sized bytes m q)
-  unfolding Judge.sized
-  sized-text h = rw (← ew) (unless-no w 128 _ (leb w 29) h (most-is w 29))
+pub sized-is : (m : Memory) (q w : ℕ) (r : Bool) → w ≡ word m q size → r ≡ (leb w notice && leb (lengthIn w) longest) → r ≡ holds (Judge.sized bytes m q)
+unfolding Judge.sized
+sized-is m q w r ew er =
+    rw (← ew) (both-is _ _ (leb w notice) (leb (lengthIn w) longest) r er (most-is w notice) (most-is (lengthIn w) longest))
 
 pub message-is : (m : Memory) (q w : ℕ) (b c d e r : Bool) → w ≡ word m q 1 → b ≡ holds (among (w / 16) 1 15) → c ≡ holds (among (w % 16) 1 7)
     → d ≡ holds (Judge.sized bytes m q) → e ≡ (c && d) → r ≡ (b && e) → r ≡ holds (Judge.message bytes m q)
@@ -130,8 +126,7 @@ pub ruleset sentences = (
   page-wait-is,
   grant-none,
   grant-some,
-  sized-notice,
-  sized-text,
+  sized-is,
   message-is,
   higher-ready,
   higher-not,
