@@ -6,10 +6,11 @@ use lib.Dec.{eqb}
 use borrow.Author.Tests.{lt-ltb, le-ltb, eq-eqb, ne-eqb}
 use native.Mathlib.Numerals.{sub-one}
 use native.Mathlib.Omega.{arith}
-use Rattle.model.specs.Map.{place, upper, link, listLink, processorList, note, size, mark, grantFor}
+use Rattle.model.specs.Map.{place, upper, link, listLink, processorList, controlPages, q1, q2, note, size, mark, grantFor}
 use Rattle.model.specs.Delete as Delete
-use Rattle.model.specs.Bytes.{Memory, word, store, at, write, name, leaveWait, unlisted, mailSettled, delete, leave, pageOf, giveBack}
-use Rattle.model.specs.Bytes.{sender, marked, markedFrom, mailMarked, allMarked, noticed, returned, emptied, grantReturned}
+use Rattle.model.specs.Bytes.{Memory, word, store, at, write, name, leaveWait, unlisted, leave, pageOf, giveBack, sender}
+use Rattle.model.specs.Bytes.{marked, markedFrom, mailMarked, allMarked, sentMarked, noticed, returned, emptied, mailReturned, mailSettled}
+use Rattle.model.specs.Bytes.{grantReturned, delete}
 
 pub unlisted-is : (m m₁ m₂ : Memory) (p : ℕ) → m₁ ≡ leaveWait m p → m₂ ≡ leave m₁ processorList listLink p → m₂ ≡ unlisted m p
 unfolding Delete.unlisted
@@ -19,6 +20,9 @@ pub delete-is : (m m₁ m₂ m₃ m₄ : Memory) (p n : ℕ) → n ≡ name m p 
     → m₄ ≡ delete m p
 unfolding Delete.delete
 delete-is m m₁ m₂ m₃ m₄ p n en e₁ e₂ e₃ e₄ = rw (← en, ← e₁, ← e₂, ← e₃) e₄
+
+pub from-is : (m : Memory) (n q w : ℕ) → w ≡ word m q note → eqb (upper w) n ≡ eqb (sender m q) n
+from-is m n q w ew = rw (← ew)
 
 module _ (m : Memory) (n q l : ℕ) (el : l ≡ word m q size) where
   pub marked-not : mark ≤ l → m ≡ marked m n q
@@ -33,6 +37,20 @@ module _ (m : Memory) (n q l : ℕ) (el : l ≡ word m q size) where
     pub marked-is : (m₁ : Memory) → b ≡ true → m₁ ≡ store m q size (l + mark) → m₁ ≡ marked m n q
     unfolding Delete.marked Delete.sentBy
     marked-is m₁ z e₁ = rw (← el, lt-ltb l mark h, ← eb, z) e₁
+
+module _ (m m₁ m₂ : Memory) (n p : ℕ) where
+  pub mail-marked : (a b : ℕ) → a ≡ place p q1 → m₁ ≡ markedFrom controlPages m n a → b ≡ place p q2 → m₂ ≡ markedFrom controlPages m₁ n b
+      → m₂ ≡ mailMarked m n p
+  unfolding Delete.mailMarked
+  mail-marked a b ea e₁ eb e₂ = rw (← ea, ← e₁, ← eb) e₂
+
+  pub sent-marked : m₁ ≡ allMarked controlPages m n processorList → m₂ ≡ mailMarked m₁ n p → m₂ ≡ sentMarked m n p
+  unfolding Delete.sentMarked
+  sent-marked e₁ e₂ = rw (← e₁) e₂
+
+  pub mail-settled : m₁ ≡ sentMarked m n p → m₂ ≡ mailReturned m₁ n p → m₂ ≡ mailSettled m n p
+  unfolding Delete.mailSettled
+  mail-settled e₁ e₂ = rw (← e₁) e₂
 
 module _ (m m₁ : Memory) (n q l : ℕ) (el : l ≡ word m q size) where
   pub returned-marked : mark ≤ l → m₁ ≡ giveBack m q → m₁ ≡ returned m n q
@@ -97,9 +115,13 @@ module _ (m : Memory) (n w q : ℕ) (ew : w ≡ n) (eq : q ≡ at m (grantFor w)
 pub ruleset deletions = (
   unlisted-is,
   delete-is,
+  from-is,
   marked-not,
   marked-other,
   marked-is,
+  mail-marked,
+  sent-marked,
+  mail-settled,
   returned-marked,
   returned-none,
   returned-sender,

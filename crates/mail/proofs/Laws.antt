@@ -5,12 +5,14 @@ use mathlib.Core.Bool.{Bool, true, false}
 use borrow.Author.Tests.{eq-eqb, ne-eqb}
 use native.Mathlib.Numerals.{sub-one}
 use native.Mathlib.Omega.{arith}
-use Rattle.model.specs.Map.{place, pair, upper, lower, text, reason, ownSemaphore, ownQueue, q1, note, size}
+use Rattle.model.specs.Map.{place, pair, upper, lower, lengthIn, text, reason, ownSemaphore, ownQueue, q1, note, size}
+use Rattle.model.specs.Address.{wrapped}
 use Rattle.model.specs.Mail as Mail
 use Rattle.model.specs.Mail.{Tested, asks, fits}
 use Rattle.model.specs.Mail.Tested.{tested}
-use Rattle.model.specs.Bytes.{Memory, word, store, copy, running, name, wake}
+use Rattle.model.specs.Bytes.{Memory, word, store, write, copy, running, name, wake}
 use Rattle.model.specs.Bytes.{matches, awaits, heard, move, testQ1, writeMessage}
+use Rattle.mail.specs.Head.{headOut}
 
 pub fits-asks : (n f w : ℕ) (b c : Bool) → b ≡ asks n (upper w) → b ≡ true → c ≡ asks f (lower w) → c ≡ fits n f w
 unfolding Mail.fits
@@ -67,4 +69,21 @@ pub write-is : (m m₁ m₂ m₃ : Memory) (q f a l p n b : ℕ) → p ≡ runni
 unfolding Mail.writeMessage
 write-is m m₁ m₂ m₃ q f a l p n b ep en e₁ e₂ eb e₃ = rw (← ep, ← en, ← e₁, ← e₂, ← eb) e₃
 
-pub ruleset mails = (fits-asks, fits-not, awaits-none, awaits-is, heard-wakes, heard-not, tests-none, tests-end, tests-here, tests-on, write-is)
+pub head-is : (m m₁ m₂ m₃ : Memory) (q a w l b c : ℕ) → w ≡ word m q note → l ≡ word m q size → m₁ ≡ write m a (upper w) → b ≡ wrapped a 1
+    → m₂ ≡ write m₁ b (lower w) → c ≡ wrapped a 2 → m₃ ≡ write m₂ c (lengthIn l) → m₃ ≡ headOut m q a
+head-is m m₁ m₂ m₃ q a w l b c ew el e₁ eb e₂ ec e₃ = rw (← ew, ← el, ← e₁, ← eb, ← e₂, ← ec) e₃
+
+pub ruleset mails = (
+  fits-asks,
+  fits-not,
+  awaits-none,
+  awaits-is,
+  heard-wakes,
+  heard-not,
+  tests-none,
+  tests-end,
+  tests-here,
+  tests-on,
+  write-is,
+  head-is,
+)

@@ -1,9 +1,7 @@
 use borrow.Author.Needs.{needs}
+use Rattle.mail.proofs.Laws.{mails}
 use Rattle.mail.proofs.copy_head.Statement.{statement}
 use Rattle.mail.proofs.copy_head.Tie as tie
-
-returns : tie.Need-returns
-returns c = cc
 
 pub copy-head-spec : {M : Type 1} → statement M
 copy-head-spec = tie.close (tie.spec
@@ -15,4 +13,4 @@ copy-head-spec = tie.close (tie.spec
     (λ c κs. search needs)
     (λ c κs. search needs)
     (λ c. search needs)
-    returns)
+    (λ c. search (needs, mails)))
