@@ -28,7 +28,7 @@ use Rattle.laws.specs.Inv.{Base, Facts, Mem, Message, View}
 use Rattle.laws.specs.Frames.{other, holds-kept, fixed-same, seat-same}
 use Rattle.laws.specs.Views.{withWords}
 use Rattle.laws.specs.Met.{gather-of}
-use Rattle.laws.specs.Words.{from-end, from-next, all-end, all-next}
+use Rattle.laws.specs.Words.{marks-messages, marks-processors, meets-next, meets-none}
 use Rattle.laws.specs.Changes.{hand-page, hand-out}
 use Rattle.laws.specs.Leave.{Bag, tot-short}
 
@@ -149,12 +149,12 @@ one-marked m n q l u = go (cond (isUnmarked (word m q size)) (eqb (upper (word m
 
 -- ---- the messages of a queue
 from-marked : (xs : List ℕ) (i : ℕ) (m : List ℕ) (n a : ℕ) → length m ≡ memorySize → length xs ≤ i → Chain m link a xs → Marked n xs m (markedFrom i m n a)
-from-marked [] i m n a l k c = rw (from-end i m n a c) (none-marked n m)
+from-marked [] i m n a l k c = rw (meets-none marks-messages i m n a c) (none-marked n m)
 from-marked (x ∷ xs) zero m n a l k c = absurd (omega arith)
 from-marked (x ∷ xs) (suc i) m n a l k c =
     let t = one-marked m n x l (omega (arith, c .1)) in
     let d = marked-chain t link (place x link) xs (omega arith) (omega arith) (λ y. omega arith) (c .2) in
-    rw (from-next i m n a x (c .0) (omega (arith, c .1)))
+    rw (meets-next marks-messages i m n a x (c .0) (omega (arith, c .1)))
     (then-marked t (from-marked xs i (marked m n x) n (place x link) (t .size ∙ l) (omega arith) d))
 
 -- ---- Q1 and Q2 of a processor
@@ -183,7 +183,7 @@ hung-on t p xs ys c = record {
 module _ (L : Lists) where
   all-marked : (ps : List ℕ) (i : ℕ) (m : List ℕ) (n a : ℕ) → length m ≡ memorySize → length ps ≤ i → Chain m listLink a ps
       → ((p : ℕ) → 1 ≤ count p ps → Hung m p (L (place p q1)) (L (place p q2))) → Marked n (gather L (mails ps)) m (allMarked i m n a)
-  all-marked [] i m n a l k c h = rw (all-end i m n a c) (none-marked n m)
+  all-marked [] i m n a l k c h = rw (meets-none marks-processors i m n a c) (none-marked n m)
   all-marked (p ∷ ps) zero m n a l k c h = absurd (omega arith)
   all-marked (p ∷ ps) (suc i) m n a l k c h =
       let xs = L (place p q1) in
@@ -192,7 +192,7 @@ module _ (L : Lists) where
       let d = marked-chain t listLink (place p listLink) ps (omega arith) (omega arith) (λ y. omega arith) (c .2) in
       let u = all-marked ps i (mailMarked m n p) n (place p listLink) (t .size ∙ l) (omega arith) d
       (λ y j. hung-on t y (L (place y q1)) (L (place y q2)) (h y (omega arith))) in
-      rw (all-next i m n a p (c .0) (omega (arith, c .1)), ← append-assoc xs ys (gather L (mails ps))) (then-marked t u)
+      rw (meets-next marks-processors i m n a p (c .0) (omega (arith, c .1)), ← append-assoc xs ys (gather L (mails ps))) (then-marked t u)
 
 -- ---- lists, uses and sentences stay; of the words only sizes change, of pages that are no processor's
 module _ {n : ℕ} {xs : List ℕ} {m m1 : List ℕ} (t : Marked n xs m m1) {ps : List ℕ} {L : Lists} {W : View} {hs : List ℕ} {g : ℕ} (b : Base m ps L W hs g)

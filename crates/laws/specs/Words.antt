@@ -257,51 +257,47 @@ small-marked {m} s n q = go (isUnmarked (word m q size)) refl
         rw e (either Small (eqb (upper (word m q note)) n) (small-set (place q size) (markAdded (word m q size)) (omega arith) s) s)
     go false e = rw e s
 
-pub from-end : (i : ℕ) (m : List ℕ) (n a : ℕ) → getD m a 0 ≡ 0 → Model.markedFrom i m n a ≡ m
-unfolding Delete.markedFrom
-from-end zero m n a e = refl
-from-end (suc i) m n a e = rw (eq-eqb (getD m a 0) 0 e, Delete.markedFrom)
+-- a walk that does g, for the name n, with every page that it meets along links in word k
+pub record Meets (f : ℕ → List ℕ → ℕ → ℕ → List ℕ) (g : List ℕ → ℕ → ℕ → List ℕ) (k : ℕ) : Type 0 where
+  pub ends : (m : List ℕ) (n a : ℕ) → f zero m n a ≡ m
+  pub goes : (i : ℕ) (m : List ℕ) (n a : ℕ)
+      → f (suc i) m n a ≡ elim (eqb (getD m a 0) 0) [ true ↦ m | false ↦ f i (g m n (getD m a 0)) n (place (getD m a 0) k) ]
 
-pub from-next : (i : ℕ) (m : List ℕ) (n a x : ℕ) → getD m a 0 ≡ x → x ≢ 0 → Model.markedFrom (suc i) m n a ≡ Model.markedFrom i (Model.marked m n x) n (place x link)
-unfolding Delete.markedFrom
-from-next i m n a x e d = let z : getD m a 0 ≢ 0 = λ f. d (sym e ∙ f) in rw (ne-eqb (getD m a 0) 0 z, Delete.markedFrom, e)
+module _ {f : ℕ → List ℕ → ℕ → ℕ → List ℕ} {g : List ℕ → ℕ → ℕ → List ℕ} {k : ℕ} (w : Meets f g k) where
+  pub meets-none : (i : ℕ) (m : List ℕ) (n a : ℕ) → getD m a 0 ≡ 0 → f i m n a ≡ m
+  meets-none zero m n a e = w .ends m n a
+  meets-none (suc i) m n a e = rw (w .goes i m n a, eq-eqb (getD m a 0) 0 e)
 
-small-marks : (i : ℕ) {m : List ℕ} (n a : ℕ) → Small m → Small (Model.markedFrom i m n a)
-unfolding Delete.markedFrom
-small-marks zero n a s = s
-small-marks (suc i) {m} n a s = go (hit-or (getD m a 0) 0) (λ x. small-marks i n (place x link) (small-marked s n x))
-  where
-    go : (getD m a 0 ≡ 0) ⊎ (getD m a 0 ≢ 0) → ((x : ℕ) → Small (Model.markedFrom i (Model.marked m n x) n (place x link)))
-        → Small (Model.markedFrom (suc i) m n a)
-    go (inl e) ih = rw (from-end (suc i) m n a e) s
-    go (inr d) ih = rw (from-next i m n a (getD m a 0) refl d) (ih (getD m a 0))
+  pub meets-next : (i : ℕ) (m : List ℕ) (n a x : ℕ) → getD m a 0 ≡ x → x ≢ 0 → f (suc i) m n a ≡ f i (g m n x) n (place x k)
+  meets-next i m n a x e d = let z : getD m a 0 ≢ 0 = λ h. d (sym e ∙ h) in rw (w .goes i m n a, ne-eqb (getD m a 0) 0 z, e)
 
-small-mail : {m : List ℕ} (n p : ℕ) → Small m → Small (Model.mailMarked m n p)
+  small-meets : ((m : List ℕ) (n q : ℕ) → Small m → Small (g m n q)) → (i : ℕ) (m : List ℕ) (n a : ℕ) → Small m → Small (f i m n a)
+  small-meets h zero m n a s = rw (w .ends m n a) s
+  small-meets h (suc i) m n a s = go (hit-or (getD m a 0) 0) (λ x. small-meets h i (g m n x) n (place x k) (h m n x s))
+    where
+      go : (getD m a 0 ≡ 0) ⊎ (getD m a 0 ≢ 0) → ((x : ℕ) → Small (f i (g m n x) n (place x k))) → Small (f (suc i) m n a)
+      go (inl e) ih = rw (meets-none (suc i) m n a e) s
+      go (inr d) ih = rw (meets-next i m n a (getD m a 0) refl d) (ih (getD m a 0))
+
+pub marks-messages : Meets Model.markedFrom Model.marked link
+unfolding Delete.markedFrom
+marks-messages = record { ends = λ m n a. refl; goes = λ i m n a. refl }
+
+pub marks-processors : Meets Model.allMarked Model.mailMarked listLink
+unfolding Delete.allMarked
+marks-processors = record { ends = λ m n a. refl; goes = λ i m n a. refl }
+
+small-marks : (m : List ℕ) (n a : ℕ) → Small m → Small (Model.markedFrom controlPages m n a)
+small-marks = small-meets marks-messages (λ m n q s. small-marked s n q) controlPages
+
+small-mail : (m : List ℕ) (n p : ℕ) → Small m → Small (Model.mailMarked m n p)
 unfolding Delete.mailMarked
-small-mail n p s = small-marks controlPages n (place p q2) (small-marks controlPages n (place p q1) s)
-
-pub all-end : (i : ℕ) (m : List ℕ) (n a : ℕ) → getD m a 0 ≡ 0 → Model.allMarked i m n a ≡ m
-unfolding Delete.allMarked
-all-end zero m n a e = refl
-all-end (suc i) m n a e = rw (eq-eqb (getD m a 0) 0 e, Delete.allMarked)
-
-pub all-next : (i : ℕ) (m : List ℕ) (n a p : ℕ) → getD m a 0 ≡ p → p ≢ 0 → Model.allMarked (suc i) m n a ≡ Model.allMarked i (Model.mailMarked m n p) n (place p listLink)
-unfolding Delete.allMarked
-all-next i m n a p e d = let z : getD m a 0 ≢ 0 = λ f. d (sym e ∙ f) in rw (ne-eqb (getD m a 0) 0 z, Delete.allMarked, e)
-
-small-all : (i : ℕ) {m : List ℕ} (n a : ℕ) → Small m → Small (Model.allMarked i m n a)
-unfolding Delete.allMarked
-small-all zero n a s = s
-small-all (suc i) {m} n a s = go (hit-or (getD m a 0) 0) (λ x. small-all i n (place x listLink) (small-mail n x s))
-  where
-    go : (getD m a 0 ≡ 0) ⊎ (getD m a 0 ≢ 0) → ((x : ℕ) → Small (Model.allMarked i (Model.mailMarked m n x) n (place x listLink)))
-        → Small (Model.allMarked (suc i) m n a)
-    go (inl e) ih = rw (all-end (suc i) m n a e) s
-    go (inr d) ih = rw (all-next i m n a (getD m a 0) refl d) (ih (getD m a 0))
+small-mail m n p s = small-marks (Model.markedFrom controlPages m n (place p q1)) n (place p q2) (small-marks m n (place p q1) s)
 
 small-sent : {m : List ℕ} → Small m → (n p : ℕ) → Small (Model.sentMarked m n p)
 unfolding Delete.sentMarked
-small-sent s n p = small-mail n p (small-all controlPages n processorList s)
+small-sent {m} s n p =
+    small-mail (Model.allMarked controlPages m n processorList) n p (small-meets marks-processors small-mail controlPages m n processorList s)
 
 small-returned : {m : List ℕ} → Small m → (n q : ℕ) → n < 16 → q < wordValues → Small (Model.returned m n q)
 unfolding Delete.returned Delete.noticed
