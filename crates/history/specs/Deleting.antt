@@ -46,17 +46,17 @@ use Rattle.history.specs.Traced.{Each, each-all, none-counted, each-appe
 use Rattle.history.specs.Traced.Origin.{unchanged, newly-marked, notified}
 use Rattle.history.specs.Traced.About.{back}
 use Rattle.history.specs.Quiet.{fault-sent}
-use Rattle.history.specs.Returning.{notices-append, Grown, grown-then, grown-same, give-grows}
+use Rattle.history.specs.Returning.{notices-append, about-append, Grown, grown-then, grown-same, give-grows}
 use Rattle.history.specs.Emptying.{Aims, aims-on, emptied-grows}
 use Rattle.history.specs.Leaving.{stayed, bag-procs, bag-q1, bag-q2}
 use Rattle.history.specs.Settling.{k, marked, marked-aims, name-is, prior-last, prior-names, prior-pages, prior-waits}
 
 -- ---- the invariant, and what was put since m
-record After (m m1 : List ℕ) (ps : List ℕ) (l : Log) (hs : List ℕ) (g : ℕ) : Type 0 where
+record After (m m1 : List ℕ) (ps : List ℕ) (l : Log) (a : List (ℕ × ℕ)) (hs : List ℕ) (g : ℕ) : Type 0 where
   lists : Lists
   view : View
   base : Base m1 ps lists view hs g
-  grown : Grown ps m m1 l
+  grown : Grown ps m m1 l a
 
 -- ---- Q2 then Q1
 module _ (m0 : List ℕ) {m : List ℕ} (p n g : ℕ) (n1 : 1 ≤ n) (n2 : n ≤ 15) (is : n ≡ name m0 p) (t : Bag m p g)
@@ -85,7 +85,7 @@ module _ (m0 : List ℕ) {m : List ℕ} (p n g : ℕ) (n1 : 1 ≤ n) (n2 : n ≤
   drained2 : Drained m m1 (t .procs) rest g (place p q2)
   drained2 = drain p q2 n (omega arith) (omega arith) n1 n2 (t .procs) rest g in-rest (t .q2) controlPages short2 queue2
 
-  grown2 : Grown (t .procs) m m1 (notices m0 p (t .q2))
+  grown2 : Grown (t .procs) m m1 (notices m0 p (t .q2)) (noticesAbout m0 p (t .q2))
   grown2 = emptied-grows m0 p q2 n (omega arith) (omega arith) n1 n2 is (t .procs) rest g in-rest (t .q2) controlPages short2 queue2 a2
 
   in1 : (y : ℕ) → 1 ≤ count y (t .q1) → 1 ≤ count y rest
@@ -114,28 +114,30 @@ module _ (m0 : List ℕ) {m : List ℕ} (p n g : ℕ) (n1 : 1 ≤ n) (n2 : n ≤
   one-p : 1 ≤ count p (p ∷ [])
   one-p = omega (arith, hit-self p)
 
-  mail-after : After m (mailReturned m n p) (t .procs) (notices m0 p (t .q2 ++ t .q1)) (p ∷ []) g
+  mail-after : After m (mailReturned m n p) (t .procs) (notices m0 p (t .q2 ++ t .q1)) (noticesAbout m0 p (t .q2 ++ t .q1)) (p ∷ []) g
   unfolding Delete.mailReturned
   mail-after =
       let d = drain p q1 n (omega arith) (omega arith) n1 n2 (t .procs) (p ∷ []) g one-p (t .q1) controlPages short1 queue1 in
       let e = emptied-grows m0 p q1 n (omega arith) (omega arith) n1 n2 is (t .procs) (p ∷ []) g one-p (t .q1) controlPages short1 queue1 aims1 in
-      record { lists = d .lists; view = d .view; base = d .base; grown = rw (notices-append m0 p (t .q2) (t .q1)) (grown-then grown2 e) }
+      record { lists = d .lists; view = d .view; base = d .base; grown = rw (notices-append m0 p (t .q2) (t .q1), about-append m0 p (t .q2) (t .q1)) (grown-then grown2 e) }
 
 -- ---- a page given back after that
-after-give : {m m1 : List ℕ} {ps : List ℕ} {l : Log} {hs : List ℕ} {g q : ℕ} → After m m1 ps l (q ∷ hs) g → After m (giveBack m1 q) ps l hs g
-after-give {l = l} t =
+after-give : {m m1 : List ℕ} {ps : List ℕ} {l : Log} {a : List (ℕ × ℕ)} {hs : List ℕ} {g q : ℕ} → After m m1 ps l a (q ∷ hs) g
+    → After m (giveBack m1 q) ps l a hs g
+after-give {l = l} {a = a} t =
     let r = give-back (t .base) in
-    record { lists = r .lists; view = r .view; base = r .base; grown = rw (append-nil l) at (grown-then (t .grown) (give-grows (t .base))) }
+    record { lists = r .lists; view = r .view; base = r .base; grown = rw (append-nil l, append-nil a) at (grown-then (t .grown) (give-grows (t .base))) }
 
 -- ---- the grant of the name that is deleted
-grant-after : {m m1 : List ℕ} {ps : List ℕ} {l : Log} {hs : List ℕ} (n : ℕ) → n < 32 → After m m1 ps l hs n → After m (grantReturned m1 n) ps l hs 32
+grant-after : {m m1 : List ℕ} {ps : List ℕ} {l : Log} {a : List (ℕ × ℕ)} {hs : List ℕ} (n : ℕ) → n < 32 → After m m1 ps l a hs n
+    → After m (grantReturned m1 n) ps l a hs 32
 unfolding Delete.grantReturned
-grant-after {m} {m1} {ps} {l} {hs} n u t = go (eqb (getD m1 (grantFor n) 0) 0) refl
+grant-after {m} {m1} {ps} {l} {a} {hs} n u t = go (eqb (getD m1 (grantFor n) 0) 0) refl
   where
     b : Base m1 ps (t .lists) (t .view) hs n
     b = t .base
 
-    go : (c : Bool) → eqb (getD m1 (grantFor n) 0) 0 ≡ c → After m (grantReturned m1 n) ps l hs 32
+    go : (c : Bool) → eqb (getD m1 (grantFor n) 0) 0 ≡ c → After m (grantReturned m1 n) ps l a hs 32
     go true e =
         let z = eqb-true (getD m1 (grantFor n) 0) 0 e in
         let k = ap length (b .mem .holds .grant n u) ∙ ap (λ (x : ℕ). length (some x)) z in
@@ -145,18 +147,19 @@ grant-after {m} {m1} {ps} {l} {hs} n u t = go (eqb (getD m1 (grantFor n) 0) 0) r
         let z = eqb-false (getD m1 (grantFor n) 0) 0 e in
         let b1 = take-grant b n x u (b .mem .holds .grant n u ∙ some-is x z) in
         let c1 : Same ps (t .lists) m1 (set m1 (grantFor n) 0) = calm-low (b .facts .sep) m1 (grantFor n) 0 (omega arith) (omega arith) in
-        let g1 : Grown ps m1 (set m1 (grantFor n) 0) [] = grown-same b (posts c1) ps (λ y h. h) (λ y h.
+        let g1 : Grown ps m1 (set m1 (grantFor n) 0) [] [] = grown-same b (posts c1) ps (λ y h. h) (λ y h.
         let pg = proc-page (b .facts .sep) y h in other m1 (grantFor n) 0 (place y label) (omega arith)) in
         rw e (after-give (record {
           lists = upd (t .lists) (grantFor n) [];
           view = t .view;
           base = record { mem = b1 .mem; facts = facts-whole (ap length (upd-same (t .lists) (grantFor n) [])) (b1 .facts); all = b1 .all };
-          grown = rw (append-nil l) at (grown-then (t .grown) g1);
+          grown = rw (append-nil l, append-nil a) at (grown-then (t .grown) g1);
         }))
 
 -- ---- "In order: ..; then its own page.": from where what it sent is marked
 delete-after : (xs : List ℕ) (p : ℕ) (ys : List ℕ) {m : List ℕ} {L : Lists} {W : View} (b : Base m (xs ++ p ∷ ys) L W [] 32) (d : W .low runningPage ≢ p)
-    → After (k xs p ys b d) (delete m p) (xs ++ ys) (notices m p (L (place p q2) ++ L (place p q1))) [] 32
+    → After (k xs p ys b d) (delete m p) (xs ++ ys) (notices m p (L (place p q2) ++ L (place p q1)))
+    (noticesAbout m p (L (place p q2) ++ L (place p q1))) [] 32
 unfolding Delete.delete Delete.mailSettled
 delete-after xs p ys {m} {L} {W} b d =
     let hp = in-P xs p ys in
@@ -169,22 +172,12 @@ delete-after xs p ys {m} {L} {W} b d =
     let a1 : Aims m p (k xs p ys b d) (t .q1) = rw e1 (marked-aims xs p ys b d q1 (omega arith) (omega arith)) in
     let a2 : Aims m p (k xs p ys b d) (t .q2) = rw e2 (marked-aims xs p ys b d q2 (omega arith) (omega arith)) in
     let x = mail-after m p n n (r .name) (omega arith) (name-is xs p ys b d) t a2 a1 in
-    let y : After (k xs p ys b d) (mailReturned (k xs p ys b d) n p) (xs ++ ys) (notices m p (L (place p q2) ++ L (place p q1))) (p ∷ []) n =
+    let y : After (k xs p ys b d) (mailReturned (k xs p ys b d) n p) (xs ++ ys) (notices m p (L (place p q2) ++ L (place p q1)))
+    (noticesAbout m p (L (place p q2) ++ L (place p q1))) (p ∷ []) n =
     rw (bag-procs xs p ys b d, e1, e2) at x in
     rw lp (after-give (grant-after n (omega arith) y))
 
--- ---- what the notices are about, Q2 then Q1
-about-append : (m : List ℕ) (p : ℕ) (xs ys : List ℕ) → noticesAbout m p (xs ++ ys) ≡ noticesAbout m p xs ++ noticesAbout m p ys
-unfolding noticesAbout
-about-append m p [] ys = refl
-about-append m p (x ∷ xs) ys = go (eqb (returnsTo m p x) 0) refl (about-append m p xs ys)
-  where
-    go : (c : Bool) → eqb (returnsTo m p x) 0 ≡ c → noticesAbout m p (xs ++ ys) ≡ noticesAbout m p xs ++ noticesAbout m p ys
-        → noticesAbout m p (x ∷ xs ++ ys) ≡ noticesAbout m p (x ∷ xs) ++ noticesAbout m p ys
-    go true e ih = rw (e, noticesAbout, ih)
-    go false e ih = rw (e, noticesAbout, ih)
-
--- of each it is said what it is about
+-- ---- of each notice it is said what it is about
 about-counted : (m : List ℕ) (p : ℕ) (qs : List ℕ) (y : ℕ) → length (of y (noticesAbout m p qs)) ≡ length (onlyNotices (of y (notices m p qs)))
 unfolding noticesAbout notices
 about-counted m p [] y = none-counted y
@@ -222,6 +215,9 @@ module _ {m : List ℕ} (w : WellFormed m) (d : running m ≢ 0) where
     abbrev letters : Log
     letters = notices m p (queue m (place p q2) ++ queue m (place p q1))
 
+    abbrev ofThem : List (ℕ × ℕ)
+    ofThem = noticesAbout m p (queue m (place p q2) ++ queue m (place p q1))
+
     -- who is left was there, and only p is gone; what waits is as it was when it was marked, and the notices
     record Left : Type 0 where
       procs : List ℕ
@@ -234,7 +230,7 @@ module _ {m : List ℕ} (w : WellFormed m) (d : running m ≢ 0) where
       names : (y : ℕ) → 1 ≤ count y procs → word prior y label ≡ word m y label
       pages : (y w x : ℕ) → 1 ≤ count y procs → q1 ≤ w → w ≤ q2 → 1 ≤ count x (queue prior (place y w))
           → Waited m prior y x × Fate (name m p) (word m x note) (word m x size) (word prior x size)
-      after : After prior (delete m p) procs letters [] 32
+      after : After prior (delete m p) procs letters ofThem [] 32
 
     left : Left
     left =
@@ -262,7 +258,7 @@ module _ {m : List ℕ} (w : WellFormed m) (d : running m ≢ 0) where
       abbrev m3 : List ℕ
       m3 = memoryOf (Model.done m2 len)
 
-      t : After (left .prior) m2 (left .procs) letters [] 32
+      t : After (left .prior) m2 (left .procs) letters ofThem [] 32
       t = left .after
 
       ended : Same (left .procs) (t .lists) m2 m3

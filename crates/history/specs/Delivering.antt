@@ -91,3 +91,8 @@ module _ {m : List ℕ} {ps : List ℕ} {L : Lists} {W : View} {hs : List ℕ} {
   delivered-pages =
       mail-queue (all .gave .base) p q1 hp (omega arith) (omega arith) ∙ all .here
       ∙ ap (λ (l : List ℕ). l ++ q ∷ []) (sym (mail-queue b p q1 hp (omega arith) (omega arith)))
+
+  pub delivered-else : (y : ℕ) → 1 ≤ count y ps → y ≢ p → queue (deliver m p q) (place y q1) ≡ queue m (place y q1)
+  delivered-else y h n =
+      mail-queue (all .gave .base) y q1 h (omega arith) (omega arith) ∙ all .others (place y q1) (omega arith) (omega arith)
+      ∙ sym (mail-queue b y q1 h (omega arith) (omega arith))

@@ -40,7 +40,6 @@ use Rattle.history.specs.Letter.{Same, Posts, queue-same, texts-same}
 use Rattle.history.specs.Letter.Ours.{mail}
 use Rattle.history.specs.Put.{returnsTo}
 use Rattle.history.specs.Calm.{calm-refl, ours-seat, ours-wait, mine-high, mine-proc}
-use Rattle.history.specs.Returning.{Grown, grown-same}
 use Rattle.history.specs.Emptying.{backTo, Aims}
 
 -- ---- out of its wait queue
@@ -124,9 +123,6 @@ module _ (xs : List ℕ) (p : ℕ) (ys : List ℕ) {m : List ℕ} {L : Lists} {W
       let c = rw (link-procs, upd-same (o .lists) processorList (xs ++ ys)) at
       (left-mem .2 .holds .rep processorList (in-procs (xs ++ ys), grant-low processorList (omega arith))) in
       walk-chain controlPages u listLink processorList (xs ++ ys) c (omega (arith, l, length-append xs (p ∷ ys), length-append xs ys))
-
-  pub left-grown : Grown (xs ++ ys) m (unlisted m p) []
-  left-grown = grown-same b left-posts (xs ++ ys) stayed (λ y h. left-names y (proc-page s y (stayed y h)))
 
   -- ---- who has a name
   own-name : (y : ℕ) → 1 ≤ count y (xs ++ ys) → name m y ≢ name m p

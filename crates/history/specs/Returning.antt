@@ -23,17 +23,42 @@ use Rattle.laws.specs.Grants.{give-frame}
 use Rattle.laws.specs.Post.{retold-letter, notice-only, notice-words, notice-letter, deliver-frame}
 use Rattle.laws.specs.Aside.{aside-hand}
 use Rattle.laws.specs.Stores.{only-word}
-use Rattle.history.specs.Letter.{Letter, mailOf, waitingFor, Posts, posts, waits-same, held, held-same, Texted}
-use Rattle.history.specs.Put.{Log, of, noticeFrom, returnsTo, notices}
+use Rattle.history.specs.Letter.{Letter, mailOf, waitingFor, Posts, posts, waits-same, held, held-same, queue-same, Texted}
+use Rattle.history.specs.Put.{Log, of, noticeFrom, returnsTo, notices, noticesAbout}
 use Rattle.history.specs.Calm.{calm-only, calm-give}
 use Rattle.history.specs.Told.{of-none, of-here, of-other, of-append}
 use Rattle.history.specs.Traced.{Waited, posts-waited}
-use Rattle.history.specs.Delivering.{delivered-last, delivered-other, delivered-here, delivered-away, delivered-texts, delivered-from, notice-mail}
+use Rattle.history.specs.Delivering.{delivered-last, delivered-other, delivered-here, delivered-away, delivered-texts, delivered-from, delivered-pages}
+use Rattle.history.specs.Delivering.{delivered-else, notice-mail}
 
 -- ---- what is put, one after the other
 -- the notice from the name n with flag f to the processor of page r, if there is one
 abbrev pub sentBack : ℕ → ℕ → ℕ → Log
 sentBack r n f = cond (eqb r 0) [] ((r, noticeFrom n f) ∷ [])
+
+-- with the page q of the message that it is about
+abbrev pub sentAbout : ℕ → ℕ → List (ℕ × ℕ)
+sentAbout r q = cond (eqb r 0) [] ((r, q) ∷ [])
+
+pub about-next : (m : List ℕ) (p q : ℕ) (qs : List ℕ) → noticesAbout m p (q ∷ qs) ≡ sentAbout (returnsTo m p q) q ++ noticesAbout m p qs
+unfolding noticesAbout
+about-next m p q qs = go (eqb (returnsTo m p q) 0) refl
+  where
+    go : (b : Bool) → eqb (returnsTo m p q) 0 ≡ b → noticesAbout m p (q ∷ qs) ≡ sentAbout (returnsTo m p q) q ++ noticesAbout m p qs
+    go true e = rw (e, noticesAbout)
+    go false e = rw (e, noticesAbout)
+
+pub about-none : (m : List ℕ) (p : ℕ) → noticesAbout m p [] ≡ []
+unfolding noticesAbout
+about-none m p = refl
+
+pub about-append : (m : List ℕ) (p : ℕ) (xs ys : List ℕ) → noticesAbout m p (xs ++ ys) ≡ noticesAbout m p xs ++ noticesAbout m p ys
+about-append m p [] ys = rw (about-none m p)
+about-append m p (x ∷ xs) ys =
+    let l = sentAbout (returnsTo m p x) x in
+    about-next m p x (xs ++ ys) ∙ ap {B = List (ℕ × ℕ)} (λ k. l ++ k) (about-append m p xs ys)
+    ∙ sym (append-assoc l (noticesAbout m p xs) (noticesAbout m p ys))
+    ∙ ap {B = List (ℕ × ℕ)} (λ k. k ++ noticesAbout m p ys) (sym (about-next m p x xs))
 
 pub notices-next : (m : List ℕ) (p q : ℕ) (qs : List ℕ)
     → notices m p (q ∷ qs) ≡ sentBack (returnsTo m p q) (name m p) (lower (word m q note)) ++ notices m p qs
@@ -56,28 +81,31 @@ notices-append m p (x ∷ xs) ys =
     notices-next m p x (xs ++ ys) ∙ ap {B = Log} (λ k. l ++ k) (notices-append m p xs ys) ∙ sym (append-assoc l (notices m p xs) (notices m p ys))
     ∙ ap {B = Log} (λ k. k ++ notices m p ys) (sym (notices-next m p x xs))
 
--- ---- from m to m1 what waits for the processors ps grows by l, at the end of Q1, and their names stay; by pages, what waits is a notice, or waited and is as
--- it was
-pub record Grown (ps : List ℕ) (m m1 : List ℕ) (l : Log) : Type 0 where
+-- ---- from m to m1 what waits for the processors ps grows by l, at the end of Q1, and their names stay; by pages, Q1 grows by those of a, and what waits is a
+-- notice, or waited and is as it was
+pub record Grown (ps : List ℕ) (m m1 : List ℕ) (l : Log) (a : List (ℕ × ℕ)) : Type 0 where
   pub waits : (y : ℕ) → 1 ≤ count y ps → waitingFor m1 y ≡ waitingFor m y ++ of y l
   pub last : (y : ℕ) → 1 ≤ count y ps → held m1 y q1 ≡ held m y q1 ++ of y l
   pub names : (y : ℕ) → 1 ≤ count y ps → word m1 y label ≡ word m y label
+  pub ends : (y : ℕ) → 1 ≤ count y ps → queue m1 (place y q1) ≡ queue m (place y q1) ++ of y a
   pub pages : (y w x : ℕ) → 1 ≤ count y ps → q1 ≤ w → w ≤ q2 → 1 ≤ count x (queue m1 (place y w))
       → (Waited m m1 y x × (word m1 x size ≡ word m x size)) ⊎ (word m1 x size ≡ notice)
 
-pub grown-refl : (ps m : List ℕ) → Grown ps m m []
+pub grown-refl : (ps m : List ℕ) → Grown ps m m [] []
 grown-refl ps m = record {
   waits = λ y h. rw (of-none y) (sym (append-nil (waitingFor m y)));
   last = λ y h. rw (of-none y) (sym (append-nil (held m y q1)));
   names = λ y h. refl;
+  ends = λ y h. rw (of-none {A = ℕ} y) (sym (append-nil (queue m (place y q1))));
   pages = λ y w x h u v i. inl (record { head = w; low = u; high = v; here = i; note = refl }, refl);
 }
 
-pub grown-then : {ps m m1 m2 : List ℕ} {l k : Log} → Grown ps m m1 l → Grown ps m1 m2 k → Grown ps m m2 (l ++ k)
-grown-then {ps = ps} {m = m} {m1 = m1} {m2 = m2} {l = l} {k = k} f g = record {
+pub grown-then : {ps m m1 m2 : List ℕ} {l k : Log} {a c : List (ℕ × ℕ)} → Grown ps m m1 l a → Grown ps m1 m2 k c → Grown ps m m2 (l ++ k) (a ++ c)
+grown-then {ps = ps} {m = m} {m1 = m1} {m2 = m2} {l = l} {k = k} {a = a} {c = c} f g = record {
   waits = λ y h. rw (g .waits y h, f .waits y h, of-append y l k) (append-assoc (waitingFor m y) (of y l) (of y k));
   last = λ y h. rw (g .last y h, f .last y h, of-append y l k) (append-assoc (held m y q1) (of y l) (of y k));
   names = λ y h. g .names y h ∙ f .names y h;
+  ends = λ y h. rw (g .ends y h, f .ends y h, of-append y a c) (append-assoc (queue m (place y q1)) (of y a) (of y c));
   pages = λ y w x h u v i. on y x h (g .pages y w x h u v i);
 }
   where
@@ -96,11 +124,14 @@ grown-then {ps = ps} {m = m} {m1 = m1} {m2 = m2} {l = l} {k = k} f g = record {
 -- for some of them
 pub grown-same : {m : List ℕ} {ps : List ℕ} {L : Lists} {W : View} {hs : List ℕ} {g : ℕ} (b : Base m ps L W hs g) {m1 : List ℕ} → Posts ps L m m1
     → (qs : List ℕ) → ((y : ℕ) → 1 ≤ count y qs → 1 ≤ count y ps)
-    → ((y : ℕ) → 1 ≤ count y qs → word m1 y label ≡ word m y label) → Grown qs m m1 []
+    → ((y : ℕ) → 1 ≤ count y qs → word m1 y label ≡ word m y label) → Grown qs m m1 [] []
 grown-same {m} b s qs i n = record {
   waits = λ y h. rw (of-none y, waits-same b s y (i y h)) (sym (append-nil (waitingFor m y)));
   last = λ y h. rw (of-none y, held-same b s y q1 (i y h) (omega arith) (omega arith)) (sym (append-nil (held m y q1)));
   names = n;
+  ends = λ y h.
+      queue-same b s y q1 (i y h) (omega arith) (omega arith) ∙ sym (mail-queue b y q1 (i y h) (omega arith) (omega arith))
+      ∙ rw (of-none {A = ℕ} y) (sym (append-nil (queue m (place y q1))));
   pages = λ y w x h u v j. inl (posts-waited b s y w x (i y h) u v j);
 }
 
@@ -123,13 +154,13 @@ module _ {m : List ℕ} {ps : List ℕ} {L : Lists} {W : View} {hs : List ℕ} {
 
 -- ---- one page
 module _ {m : List ℕ} {ps : List ℕ} {L : Lists} {W : View} {hs : List ℕ} {g q : ℕ} (b : Base m ps L W (q ∷ hs) g) where
-  pub give-grows : Grown ps m (giveBack m q) []
+  pub give-grows : Grown ps m (giveBack m q) [] []
   give-grows = grown-same b (posts (calm-give b)) ps (λ y h. h) (give-names b)
 
   notice-posts : (n f : ℕ) → Posts ps L m (makeNotice m q n f)
   notice-posts n f = posts (calm-only (b .facts .sep) m (makeNotice m q n f) q (aside-hand b q (in-hand b)) (notice-only b n f))
 
-  pub notice-grows : (n f p : ℕ) → 1 ≤ n → n ≤ 15 → 1 ≤ f → f ≤ 7 → 1 ≤ count p ps → Grown ps m (deliver (makeNotice m q n f) p q) ((p, noticeFrom n f) ∷ [])
+  pub notice-grows : (n f p : ℕ) → 1 ≤ n → n ≤ 15 → 1 ≤ f → f ≤ 7 → 1 ≤ count p ps → Grown ps m (deliver (makeNotice m q n f) p q) ((p, noticeFrom n f) ∷ []) ((p, q) ∷ [])
   notice-grows n f p n1 n2 f1 f2 hp =
       let o = notice-only b n f in
       let b2 = hand-base q (in-hand b) o b in
@@ -143,11 +174,24 @@ module _ {m : List ℕ} {ps : List ℕ} {L : Lists} {W : View} {hs : List ℕ} {
         names = λ y h.
             let d : y ≢ q = λ e. omega (arith, ap (λ (z : ℕ). count z ps) e, hand-out b q (in-hand b)) in
             deliver-names b2 y h p hp t ∙ only-word o y 7 d (omega arith);
+        ends = λ y h. at-end y h (hit-or y p);
         pages = λ y w x h u v i. from y w x h u v (delivered-from b2 p hp t y w x h u v i);
       }
     where
-      m1 : List ℕ
-      m1 = deliver (makeNotice m q n f) p q
+      b3 : (X : View) × Base (makeNotice m q n f) ps L X (q ∷ hs) g × Message (X .note q) (X .size q)
+      b3 =
+          let o = notice-only b n f in
+          (_, hand-base q (in-hand b) o b, retold-letter b o (notice-letter b n f n1 n2 f1 f2))
+
+      before : (y : ℕ) → 1 ≤ count y ps → queue (makeNotice m q n f) (place y q1) ≡ queue m (place y q1)
+      before y h =
+          queue-same b (notice-posts n f) y q1 h (omega arith) (omega arith) ∙ sym (mail-queue b y q1 h (omega arith) (omega arith))
+
+      at-end : (y : ℕ) → 1 ≤ count y ps → (y ≡ p) ⊎ (y ≢ p)
+          → queue (deliver (makeNotice m q n f) p q) (place y q1) ≡ queue m (place y q1) ++ of y ((p, q) ∷ [])
+      at-end y h (inl z) = rw (z, of-here p q, delivered-pages (b3 .1) p hp (b3 .2), before p hp)
+      at-end y h (inr d) =
+          rw (of-other y p q d, append-nil (queue m (place y q1))) (delivered-else (b3 .1) p hp (b3 .2) y h d ∙ before y h)
 
       texts : Texted ps (makeNotice m q n f) (deliver (makeNotice m q n f) p q)
       texts =
