@@ -3,10 +3,10 @@
 use mathlib.Core.Path.{_≡_, refl, sym, ap, _∙_}
 use mathlib.Core.Logic.{_≢_, _⊎_, inl, inr}
 use mathlib.Core.Bool.{Bool, true, false}
-use mathlib.Core.List.{List, [], _∷_, _++_, append-nil, append-assoc}
+use mathlib.Core.List.{List, [], _∷_, _++_, append-nil, append-assoc, map}
 use Prim.Native.Nat.{ℕ, suc, _%_, _≤_, _<_}
 use native.Mathlib.Omega.{arith}
-use lib.ListN.{length, getD, set}
+use lib.ListN.{length, length-map, getD, set, drop}
 use lib.Dec.{eqb}
 use borrow.Author.Tests.{eqb-true, eqb-false, eq-eqb, ne-eqb, leb-true, lt-ltb, ltb-true}
 use Rattle.model.specs.Map.{controlPages, isStopped, isUnmarked, lower, mark, notice}
@@ -36,13 +36,13 @@ use Rattle.laws.specs.Marking.Fate.{marks, stays}
 use Rattle.laws.specs.Simple.{first-in, named-in}
 use Rattle.laws.specs.Who.{label-at, listed, Busy, busy}
 use Rattle.laws.specs.Delete.{Queue, Drained, drain, facts-whole}
-use Rattle.history.specs.Order.{only-yes}
-use Rattle.history.specs.Letter.{Letter, waitingFor, Same, posts, label-same, waits-same, procs-same, held, held-same}
+use Rattle.history.specs.Order.{only-nil, only-yes}
+use Rattle.history.specs.Letter.{Letter, mailOf, map-append, waitingFor, Same, posts, label-same, waits-same, procs-same, queue-same, held, held-same}
 use Rattle.history.specs.Ways.{dep-both}
 use Rattle.history.specs.Put.{Log, Mailed, nothing, noticeFrom, of, onlyNotices, returning, returnsTo, notices, noticesAbout, depMail}
 use Rattle.history.specs.Calm.{calm-low}
 use Rattle.history.specs.Told.{of-none, of-yes, of-no, calm-done, calm-fault, runs-in, Sent}
-use Rattle.history.specs.Traced.{Each, each-all, none-counted, each-append, Waited, Origin, About, Traced, some-page, posts-waited, calm-traced}
+use Rattle.history.specs.Traced.{Each, each-all, each-append, Waited, Origin, About, Turned, Traced, some-page, posts-waited, calm-traced}
 use Rattle.history.specs.Traced.Origin.{unchanged, newly-marked, notified}
 use Rattle.history.specs.Traced.About.{back}
 use Rattle.history.specs.Quiet.{fault-sent}
@@ -177,35 +177,32 @@ delete-after xs p ys {m} {L} {W} b d =
     rw (bag-procs xs p ys b d, e1, e2) at x in
     rw lp (after-give (grant-after n (omega arith) y))
 
--- ---- of each notice it is said what it is about
-about-counted : (m : List ℕ) (p : ℕ) (qs : List ℕ) (y : ℕ) → length (of y (noticesAbout m p qs)) ≡ length (onlyNotices (of y (notices m p qs)))
-unfolding noticesAbout notices
-about-counted m p [] y = none-counted y
-about-counted m p (q ∷ qs) y = go (eqb (returnsTo m p q) 0) refl (hit-or y (returnsTo m p q)) (about-counted m p qs y)
+-- ---- all that a deletion puts are notices
+all-notices : (m : List ℕ) (p : ℕ) (qs : List ℕ) (y : ℕ) → onlyNotices (of y (notices m p qs)) ≡ of y (notices m p qs)
+unfolding notices
+all-notices m p [] y = rw (of-none {A = Letter} y, only-nil (λ (z : Letter). z .notice))
+all-notices m p (q ∷ qs) y = go (eqb (returnsTo m p q) 0) refl (hit-or y (returnsTo m p q)) (all-notices m p qs y)
   where
     go : (c : Bool) → eqb (returnsTo m p q) 0 ≡ c → (y ≡ returnsTo m p q) ⊎ (y ≢ returnsTo m p q)
-        → length (of y (noticesAbout m p qs)) ≡ length (onlyNotices (of y (notices m p qs)))
-        → length (of y (noticesAbout m p (q ∷ qs))) ≡ length (onlyNotices (of y (notices m p (q ∷ qs))))
-    go true e d ih = rw (e, noticesAbout, notices) ih
+        → onlyNotices (of y (notices m p qs)) ≡ of y (notices m p qs) → onlyNotices (of y (notices m p (q ∷ qs))) ≡ of y (notices m p (q ∷ qs))
+    go true e d ih = rw (e, notices) ih
     go false e (inl d) ih =
-        let f = eq-eqb y (returnsTo m p q) d in
+        let x : Letter = noticeFrom (name m p) (lower (word m q note)) in
         rw (
           e,
-          noticesAbout,
           notices,
-          of-yes y (returnsTo m p q, q) (noticesAbout m p qs) f,
-          of-yes y (returnsTo m p q, noticeFrom (name m p) (lower (word m q note))) (notices m p qs) f,
+          of-yes y (returnsTo m p q, noticeFrom (name m p) (lower (word m q note))) (notices m p qs) (eq-eqb y (returnsTo m p q) d),
           only-yes (λ (z : Letter). z .notice) (noticeFrom (name m p) (lower (word m q note))) (of y (notices m p qs)) refl,
-        ) (ap suc ih)
+        ) (ap (λ (l : List Letter). x ∷ l) ih)
     go false e (inr d) ih =
-        let f = ne-eqb y (returnsTo m p q) d in
-        rw (
-          e,
-          noticesAbout,
-          notices,
-          of-no y (returnsTo m p q, q) (noticesAbout m p qs) f,
-          of-no y (returnsTo m p q, noticeFrom (name m p) (lower (word m q note))) (notices m p qs) f,
-        ) ih
+        rw (e, notices, of-no y (returnsTo m p q, noticeFrom (name m p) (lower (word m q note))) (notices m p qs) (ne-eqb y (returnsTo m p q) d)) ih
+
+-- what follows the same number of letters
+tail-same : {A : Type 0} (xs ys us vs : List A) → length xs ≡ length us → xs ++ ys ≡ us ++ vs → ys ≡ vs
+tail-same [] ys [] vs l e = e
+tail-same [] ys (u ∷ us) vs l e = absurd (omega arith)
+tail-same (x ∷ xs) ys [] vs l e = absurd (omega arith)
+tail-same (x ∷ xs) ys (u ∷ us) vs l e = tail-same xs ys us vs (omega arith) (ap (drop 1) e)
 
 -- ---- the instruction
 module _ {m : List ℕ} (w : WellFormed m) (d : running m ≢ 0) where
@@ -358,6 +355,23 @@ module _ {m : List ℕ} (w : WellFormed m) (d : running m ≢ 0) where
               let j = i q (omega (arith, hit-self q)) in
               rw (e, noticesAbout) (back (some-page m (place p w) q j) p w (rw (listed b) h) u v j (g .0) (g .1) (g .2), ih)
 
+      -- the notices stand on the pages of the messages that came back
+      turned : (y : ℕ) → 1 ≤ count y (left .procs) → Turned m3 y (of y ofThem) (of y letters)
+      turned y i =
+          let zs = queue (left .prior) (place y q1) in
+          let q3 : queue m3 (place y q1) ≡ queue (left .prior) (place y q1) ++ of y ofThem =
+          queue-same (t .base) (posts ended) y q1 i (omega arith) (omega arith)
+          ∙ sym (mail-queue (t .base) y q1 i (omega arith) (omega arith)) ∙ t .grown .ends y i in
+          let l3 : map (mailOf m3) (queue m3 (place y q1)) ≡ held m y q1 ++ of y letters = last-is y (rw procs-are i) in
+          let s3 : map (mailOf m3) zs ++ map (mailOf m3) (of y ofThem) ≡ held m y q1 ++ of y letters =
+          sym (map-append (mailOf m3) zs (of y ofThem)) ∙ sym (ap (map (mailOf m3)) q3) ∙ l3 in
+          record {
+            before = zs;
+            last = q3;
+            are = tail-same (map (mailOf m3) zs) (map (mailOf m3) (of y ofThem)) (held m y q1) (of y letters)
+                (length-map zs (mailOf m3) ∙ sym (length-map zs (mailOf (left .prior))) ∙ ap length (left .last y i)) s3;
+          }
+
       deleted-traced : Traced m m3 mail
       deleted-traced = record {
         pages = λ y w x i j u v c. from y w x j u v c;
@@ -365,7 +379,7 @@ module _ {m : List ℕ} (w : WellFormed m) (d : running m ≢ 0) where
             rw (about-append m p (queue m (place p q2)) (queue m (place p q1))) (each-append (λ (y : ℕ × ℕ). About m 0 (y .0) (y .1))
             (noticesAbout m p (queue m (place p q2))) (noticesAbout m p (queue m (place p q1)))
             (backs q2 (omega arith) (omega arith) (queue m (place p q2)) (λ z c. c)) (backs q1 (omega arith) (omega arith) (queue m (place p q1)) (λ z c. c)));
-        counted = about-counted m p (queue m (place p q2) ++ queue m (place p q1));
+        turned = λ y i. rw (all-notices m p (queue m (place p q2) ++ queue m (place p q1)) y) (turned y (rw procs-are at i));
         written = each-all (λ y o. absurd (o refl)) letters;
       }
 

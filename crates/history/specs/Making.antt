@@ -32,7 +32,7 @@ use Rattle.history.specs.Letter.Mine.{page}
 use Rattle.history.specs.Put.{nothing}
 use Rattle.history.specs.Calm.{calm-only, mine-high, mine-hand, mine-proc}
 use Rattle.history.specs.Told.{Told, of-none, told-same, calm-done, calm-fault, runs-in}
-use Rattle.history.specs.Traced.{Traced, none-counted, some-page, posts-waited, calm-traced}
+use Rattle.history.specs.Traced.{Traced, none-turned, some-page, posts-waited, calm-traced}
 use Rattle.history.specs.Traced.Origin.{unchanged}
 use Rattle.history.specs.Quiet.{fault-sent}
 use Rattle.history.specs.Taking.{calm-takes, page-waits}
@@ -185,7 +185,7 @@ module _ {m : List ℕ} (w : WellFormed m) (d : running m ≢ 0) where
                   note = a .0 .note ∙ o .0 .note;
                 }) (a .1 ∙ o .1) (some-page m3 (place p w) x j) (λ f r k g. rw pr (more r (rw lm at k)));
             about = tt;
-            counted = none-counted;
+            turned = λ p h. none-turned m3 p;
             written = tt;
           })
 

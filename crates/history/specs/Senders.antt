@@ -26,7 +26,7 @@ use Rattle.history.specs.Order.{only, only-nil, only-yes, only-no, only-
 use Rattle.history.specs.Letter.{Letter, mailOf, waitingFor}
 use Rattle.history.specs.Put.{Mailed, mailed, of, onlyNotices}
 use Rattle.history.specs.Told.{of-none, of-append}
-use Rattle.history.specs.Traced.{About, Each, Origin, each-append, each-as}
+use Rattle.history.specs.Traced.{About, Each, Origin, Turned, each-append, each-as}
 use Rattle.history.specs.Traced.About.{own, back}
 use Rattle.history.specs.Traced.Origin.{unchanged, newly-marked, sent, notified}
 use Rattle.history.specs.Begin.{fresh-empty}
@@ -302,8 +302,12 @@ pub notices-counted : (m : List ℕ) (h : Past) → Run m h → (p : ℕ) → Li
 notices-counted =
     run-has (λ m h. (p : ℕ) → Living m p → length (h .noticed p) ≡ length (onlyNotices (h .put p)))
     (λ m line d l e p i. rw (only-nil (λ (x : Letter). x .notice)))
-    (λ m m′ e k t h q p i. go m m′ e h p i (t .traced .counted p) (q p) (zero-or (count p (processors m))))
+    (λ m m′ e k t h q p i. go m m′ e h p i (counted m′ e p (t .traced .turned p i)) (q p) (zero-or (count p (processors m))))
   where
+    counted : (m′ : List ℕ) (e : Mailed) (p : ℕ) → Turned m′ p (of p (e .about)) (onlyNotices (of p (e .puts)))
+        → length (of p (e .about)) ≡ length (onlyNotices (of p (e .puts)))
+    counted m′ e p t = sym (length-map (of p (e .about)) (mailOf m′)) ∙ ap length (t .are)
+
     go : (m m′ : List ℕ) (e : Mailed) (h : Past) (p : ℕ) → Living m′ p → length (of p (e .about)) ≡ length (onlyNotices (of p (e .puts)))
         → (Living m p → length (h .noticed p) ≡ length (onlyNotices (h .put p))) → (count p (processors m) ≡ 0) ⊎ (1 ≤ count p (processors m))
         → length (grown m m′ e h .noticed p) ≡ length (onlyNotices (grown m m′ e h .put p))

@@ -6,7 +6,7 @@ use mathlib.Core.Bool.{Bool, true, false, cond}
 use mathlib.Core.List.{List, [], _∷_, _++_, append-nil}
 use Prim.Native.Nat.{ℕ, _+_, _*_, _/_, _%_, _≤_, _<_}
 use native.Mathlib.Omega.{arith}
-use lib.ListN.{length, getD}
+use lib.ListN.{getD}
 use lib.Dec.{eqb}
 use borrow.Author.Tests.{eqb-false, ne-eqb}
 use Rattle.model.specs.Map as Map
@@ -44,7 +44,7 @@ use Rattle.history.specs.Ways.{sme-both, sent-both}
 use Rattle.history.specs.Put.{Mailed, of, onlyNotices, nothing, sending, noticeFrom, posting, hasPage, pageTaken, smeMail}
 use Rattle.history.specs.Calm.{calm-only}
 use Rattle.history.specs.Told.{Told, Stands, of-none, of-here, of-other, calm-done, calm-fault, runs-in, Sent, sent-same}
-use Rattle.history.specs.Traced.{Each, Waited, Origin, About, Stood, Traced, posts-waited, calm-traced}
+use Rattle.history.specs.Traced.{Each, Waited, Origin, About, Stood, Turned, Traced, posts-waited, turned-none, calm-traced}
 use Rattle.history.specs.Traced.Origin.{unchanged, sent, notified}
 use Rattle.history.specs.Traced.About.{own}
 use Rattle.history.specs.Quiet.{fault-sent}
@@ -161,12 +161,31 @@ module _ {m : List ℕ} {ps : List ℕ} {L : Lists} {W : View} (b : Base m ps L 
       is = mail-same m2 m4 q (hand-page b1 q (in-hand b1) .1) (letter .long) still-q;
     }
 
-    pub put-traced : Each (λ (y : ℕ × ℕ). About m (e .wrote) (y .0) (y .1)) (e .about) → e .puts ≡ (p, x) ∷ []
-        → ((y : ℕ) → length (of y (e .about)) ≡ length (onlyNotices (of y (e .puts)))) → Traced m m4 e
-    put-traced ab pu co = record {
+    -- a notice is about what was to be sent, and stands on its page
+    turned : e .about ≡ cond (x .notice) ((p, q) ∷ []) [] → e .puts ≡ (p, x) ∷ [] → (y : ℕ) → Turned m4 y (of y (e .about)) (onlyNotices (of y (e .puts)))
+    turned ab pu y = rw (ab, pu) (go (x .notice) refl (hit-or y p))
+      where
+        here : {A : Type 0} (v : A) → y ≡ p → of y ((p, v) ∷ []) ≡ v ∷ []
+        here v z = rw z (of-here p v)
+
+        go : (c : Bool) → x .notice ≡ c → (y ≡ p) ⊎ (y ≢ p) → Turned m4 y (of y (cond c ((p, q) ∷ []) [])) (onlyNotices (of y ((p, x) ∷ [])))
+        go true f (inl z) =
+            rw (here q z, here x z, only-yes (λ (l : Letter). l .notice) x [] f, only-nil (λ (l : Letter). l .notice)) (record {
+              before = stood .before;
+              last = rw z (stood .last);
+              are = rw (stood .is);
+            })
+        go true f (inr d) = rw (of-other y p q d, of-other y p x d, only-nil (λ (l : Letter). l .notice)) (turned-none m4 y)
+        go false f (inl z) =
+            rw (of-none {A = ℕ} y, here x z, only-no (λ (l : Letter). l .notice) x [] f, only-nil (λ (l : Letter). l .notice)) (turned-none m4 y)
+        go false f (inr d) = rw (of-none {A = ℕ} y, of-other y p x d, only-nil (λ (l : Letter). l .notice)) (turned-none m4 y)
+
+    pub put-traced : Each (λ (y : ℕ × ℕ). About m (e .wrote) (y .0) (y .1)) (e .about) → e .about ≡ cond (x .notice) ((p, q) ∷ []) []
+        → e .puts ≡ (p, x) ∷ [] → Traced m m4 e
+    put-traced ab al pu = record {
       pages = λ y w z h i u v j. from y w z (rw (listed b) at h) u v j;
       about = ab;
-      counted = co;
+      turned = λ y h. turned al pu y;
       written = rw (pu, wr) ((λ n. stood), tt);
     }
 
@@ -205,19 +224,6 @@ module _ {m : List ℕ} {ps : List ℕ} {L : Lists} {W : View} {hs : List ℕ} {
         let e2 : (name m (running m) * 16 + f) % 16 ≡ f = omega arith in
         let e3 : lengthIn l ≡ l = omega arith in
         rw (message-words b f a l l2 .0, message-words b f a l l2 .1, ne-eqb l notice (omega arith), e1, e2, e3, written-text far)
-
--- ---- of a notice that is sent it is said what it is about
-sending-counted : (r : ℕ) (x : Letter) (q p : ℕ) → length (of p (sending (r, x) q .about)) ≡ length (onlyNotices (of p ((r, x) ∷ [])))
-sending-counted r x q p = go (x .notice) refl (hit-or p r)
-  where
-    here : {A : Type 0} (v : A) → p ≡ r → of p ((r, v) ∷ []) ≡ v ∷ []
-    here v z = rw z (of-here r v)
-
-    go : (c : Bool) → x .notice ≡ c → (p ≡ r) ⊎ (p ≢ r) → length (of p (cond c ((r, q) ∷ []) [])) ≡ length (onlyNotices (of p ((r, x) ∷ [])))
-    go true e (inl z) = rw (here q z, here x z, only-yes (λ (y : Letter). y .notice) x [] e, only-nil (λ (y : Letter). y .notice))
-    go true e (inr d) = rw (of-other p r q d, of-other p r x d, only-nil (λ (y : Letter). y .notice))
-    go false e (inl z) = rw (of-none {A = ℕ} p, here x z, only-no (λ (y : Letter). y .notice) x [] e, only-nil (λ (y : Letter). y .notice))
-    go false e (inr d) = rw (of-none {A = ℕ} p, of-other p r x d, only-nil (λ (y : Letter). y .notice))
 
 -- ---- the instruction
 module _ {m : List ℕ} (w : WellFormed m) (d : running m ≢ 0) where
@@ -290,7 +296,7 @@ module _ {m : List ℕ} (w : WellFormed m) (d : running m ≢ 0) where
         let l = notice-letter (t .base) n f n1 n2 f1 f2 in
         put-traced b s1 (t .base) o (running m1) in1 l len (sending (running m, noticeFrom n f) q) refl
         (λ y. notified (still-q b s1 (t .base) o (running m1) in1 l len Map.size (omega arith) (omega arith) ∙ notice-words (t .base) n f .1))
-        (own refl refl alive, tt) (rw (run1, notice-mail (t .base) n f f2)) (sending-counted (running m) (noticeFrom n f) q)
+        (own refl refl alive, tt) (rw (run1, notice-mail (t .base) n f f2)) (rw (run1, notice-mail (t .base) n f f2))
 
     message-traced : (f a l p len : ℕ) → 1 ≤ f → f ≤ 7 → l ≤ longest → a < memorySize → 1 ≤ count p (lists m processorList) → clear l a ≡ true
         → Traced m (memoryOf (Model.done (deliver (writeMessage m1 q f a l) p q) len))
@@ -310,7 +316,7 @@ module _ {m : List ℕ} (w : WellFormed m) (d : running m ≢ 0) where
         put-traced b s1 (t .base) o p hp lt len (sending (p, x) q) refl
         (λ y. sent refl (rw (sq Map.size (omega arith) (omega arith), mw .1) l2) (rw (sq note (omega arith) (omega arith), mw .0, is, lb)) alive
         (rw (procs4 b s1 (t .base) o p hp lt len) hr))
-        tt (rw (wm, lb, tx)) (sending-counted p x q)
+        tt (rw wm) (rw (wm, lb, tx))
 
     posted-traced : (n f a len : ℕ) → 1 ≤ n → n ≤ 15 → 1 ≤ f → f ≤ 7 → getD m a 0 ≤ longest → clear (getD m a 0) (wrapped a 1) ≡ true
         → Traced m (memoryOf (Model.done (posted m1 q n f a (getD m a 0)) len)) (sending (posting m n f a) q)

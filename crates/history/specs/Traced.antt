@@ -4,10 +4,10 @@
 use mathlib.Core.Path.{_≡_, refl, sym, ap, _∙_}
 use mathlib.Core.Logic.{_≢_, _⊎_, inl, inr}
 use mathlib.Core.Bool.{Bool, true, false}
-use mathlib.Core.List.{List, [], _∷_, _++_}
+use mathlib.Core.List.{List, [], _∷_, _++_, append-nil, map}
 use Prim.Native.Nat.{ℕ, zero, suc, _≤_, _<_}
 use native.Mathlib.Omega.{arith}
-use lib.ListN.{length, getD}
+use lib.ListN.{getD}
 use lib.Dec.{eqb}
 use borrow.Author.Tests.{eqb-false}
 use Rattle.model.specs.Map as Map
@@ -99,12 +99,21 @@ pub record Stood (m : List ℕ) (q p : ℕ) (x : Letter) : Type 0 where
   pub last : queue m (place p q1) ≡ before ++ q ∷ []
   pub is : mailOf m q ≡ x
 
+-- the pages qs stand at the end of Q1 of p, with the letters ls on them
+pub record Turned (m : List ℕ) (p : ℕ) (qs : List ℕ) (ls : List Letter) : Type 0 where
+  pub before : List ℕ
+  pub last : queue m (place p q1) ≡ before ++ qs
+  pub are : map (mailOf m) qs ≡ ls
+
+pub turned-none : (m : List ℕ) (p : ℕ) → Turned m p [] []
+turned-none m p = record { before = queue m (place p q1); last = sym (append-nil (queue m (place p q1))); are = refl }
+
 pub record Traced (m m′ : List ℕ) (e : Mailed) : Type 0 where
   pub pages : (p w x : ℕ) → 1 ≤ count p (processors m) → 1 ≤ count p (processors m′) → q1 ≤ w → w ≤ q2 → 1 ≤ count x (queue m′ (place p w))
       → Origin m m′ e p x
   pub about : Each (λ (y : ℕ × ℕ). About m (e .wrote) (y .0) (y .1)) (e .about)
-  -- of each notice it is said what it is about
-  pub counted : (p : ℕ) → length (of p (e .about)) ≡ length (onlyNotices (of p (e .puts)))
+  -- the notices that are put stand on the pages of the messages that they are about, in that order, at the end of Q1
+  pub turned : (p : ℕ) → 1 ≤ count p (processors m′) → Turned m′ p (of p (e .about)) (onlyNotices (of p (e .puts)))
   -- what the one that runs wrote stands on that page, at the end of Q1
   pub written : Each (λ (y : ℕ × Letter). e .wrote ≢ 0 → Stood m′ (e .wrote) (y .0) (y .1)) (e .puts)
 
@@ -127,8 +136,8 @@ still-on s t = record {
 }
 
 -- such a call puts nothing
-pub none-counted : (p : ℕ) → length (of {A = ℕ} p []) ≡ length (onlyNotices (of p []))
-none-counted p = rw (of-none {A = ℕ} p, of-none {A = Letter} p, only-nil (λ (x : Letter). x .notice))
+pub none-turned : (m : List ℕ) (p : ℕ) → Turned m p (of p []) (onlyNotices (of p []))
+none-turned m p = rw (of-none {A = ℕ} p, of-none {A = Letter} p, only-nil (λ (x : Letter). x .notice)) (turned-none m p)
 
 pub still-traced : {m m′ : List ℕ} → Still m m′ → (e : Mailed) → e .wrote ≡ 0 → e .about ≡ [] → e .puts ≡ [] → Traced m m′ e
 still-traced {m} {m′} s e z n i = record {
@@ -136,7 +145,7 @@ still-traced {m} {m′} s e z n i = record {
       let a = s .waited p w x h u v j in
       unchanged a (s .sizes p w x h u v j) (λ d. some-page m′ (place p w) x j (d ∙ z)) (λ f r k d. rw (s .alive) k);
   about = rw n tt;
-  counted = λ p. rw (n, i) (none-counted p);
+  turned = λ p h. rw (n, i) (none-turned m′ p);
   written = each-all (λ y d. absurd (d z)) (e .puts);
 }
 

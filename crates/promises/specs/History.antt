@@ -22,7 +22,7 @@ use Rattle.history.specs.Letter.{Letter, mailOf, ofSenderAndFlag, waitingFor}
 use Rattle.history.specs.Put.{nothing, of, mailed, puts, reads, codeRun, onlyNotices}
 use Rattle.history.specs.Went.{wentTo}
 use Rattle.history.specs.Whole.{instruction-stands, instruction-written, instruction-one, instruction-traced}
-use Rattle.history.specs.Traced.{About, Each, Origin, Stood}
+use Rattle.history.specs.Traced.{About, Each, Origin, Stood, Turned}
 use Rattle.history.specs.Lives as Lives
 use Rattle.history.specs.Lives.{Past, Run, Living, Life, life, sentBy, noneYet, grown, mailBy, restarts, later, run-reached, reached-run, call-lawful}
 use Rattle.history.specs.Senders as Senders
@@ -125,6 +125,11 @@ a-message-keeps-its-page m r a e p w x i j c = call-lawful (reached-sound m r) a
 -- what a notice is about: what the one that runs was to send, or unmarked mail that waits, and it goes to who has its sender's name
 pub what-a-notice-is-about : (m : List ℕ) → Reached m → Each (λ (y : ℕ × ℕ). About m (mailed m .wrote) (y .0) (y .1)) (mailed m .about)
 what-a-notice-is-about m h = instruction-traced (reached-sound m h) .about
+
+-- and stands on the page of that message, at the end of Q1 of the one it goes to
+pub a-notice-stands-where-the-mail-was : (m : List ℕ) → Reached m → (p : ℕ) → Living (memoryOf (instruction m)) p
+    → Turned (memoryOf (instruction m)) p (of p (mailed m .about)) (onlyNotices (of p (puts m)))
+a-notice-stands-where-the-mail-was m h = instruction-traced (reached-sound m h) .turned
 
 -- ---- what is put and read is what the instruction does. Only SME and DEP put, only RME reads, direct or by EXI: so WNM and TME only move
 pub only-4-and-12-put : (m : List ℕ) → codeRun m ≢ smeCode → codeRun m ≢ depCode → puts m ≡ []
