@@ -4,7 +4,7 @@ use mathlib.Core.Path.{_≡_, refl, sym, ap, _∙_}
 use mathlib.Core.Logic.{_≢_, _⊎_, inl, inr}
 use mathlib.Core.Bool.{Bool, true, false}
 use mathlib.Core.List.{List, [], _∷_, _++_, append-nil, append-assoc, map}
-use Prim.Native.Nat.{ℕ, suc, _%_, _≤_, _<_}
+use Prim.Native.Nat.{ℕ, _≤_, _<_}
 use native.Mathlib.Omega.{arith}
 use lib.ListN.{length, length-map, getD, set, drop}
 use lib.Dec.{eqb}
@@ -119,7 +119,12 @@ module _ (m0 : List ℕ) {m : List ℕ} (p n g : ℕ) (n1 : 1 ≤ n) (n2 : n ≤
   mail-after =
       let d = drain p q1 n (omega arith) (omega arith) n1 n2 (t .procs) (p ∷ []) g one-p (t .q1) controlPages short1 queue1 in
       let e = emptied-grows m0 p q1 n (omega arith) (omega arith) n1 n2 is (t .procs) (p ∷ []) g one-p (t .q1) controlPages short1 queue1 aims1 in
-      record { lists = d .lists; view = d .view; base = d .base; grown = rw (notices-append m0 p (t .q2) (t .q1), about-append m0 p (t .q2) (t .q1)) (grown-then grown2 e) }
+      record {
+        lists = d .lists;
+        view = d .view;
+        base = d .base;
+        grown = rw (notices-append m0 p (t .q2) (t .q1), about-append m0 p (t .q2) (t .q1)) (grown-then grown2 e);
+      }
 
 -- ---- a page given back after that
 after-give : {m m1 : List ℕ} {ps : List ℕ} {l : Log} {a : List (ℕ × ℕ)} {hs : List ℕ} {g q : ℕ} → After m m1 ps l a (q ∷ hs) g

@@ -2,7 +2,6 @@
 -- processor's Q2 and Q1 hold, and that a step which leaves their headers and pages alone leaves them; one that leaves only the texts shows them by its
 -- lists. Assumes nothing.
 use mathlib.Core.Path.{_≡_, refl, sym, _∙_}
-use mathlib.Core.Logic.{_≢_, _⊎_, inl, inr}
 use mathlib.Core.Bool.{Bool, true, false, _&&_}
 use mathlib.Core.List.{List, [], _∷_, _++_, map}
 use Prim.Native.Nat.{ℕ, zero, suc, _+_, _*_, _%_, _≤_, _<_}
@@ -19,12 +18,12 @@ use Rattle.model.specs.Address.{wrapped}
 use Rattle.model.specs.Mail.{fits}
 use Rattle.model.specs.Bytes.{queue, processors, sender, flag, lengthOf, isNotice}
 use Rattle.model.specs.Lists.{count, Lists}
-use Rattle.laws.specs.Count.{hit-self, hit-or}
+use Rattle.laws.specs.Count.{hit-self}
 use Rattle.laws.specs.Chain.{Page, Chain, chain-move, walk-chain}
 use Rattle.laws.specs.Queues.{link-procs}
 use Rattle.laws.specs.Uses.{Head, list-short}
 use Rattle.laws.specs.Places.{in-q, in-procs, q-free, grant-low}
-use Rattle.laws.specs.Inv.{View, Base, Message}
+use Rattle.laws.specs.Inv.{View, Base}
 use Rattle.laws.specs.Mails.{mail-chain, mail-queue}
 use Rattle.history.specs.Order.{only}
 

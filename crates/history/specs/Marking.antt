@@ -1,14 +1,13 @@
 -- A deletion marks what the deleted one sent. A mark is no part of a message: kind, sender, flag, length and text stay, and so does what waits for everyone.
 -- Assumes nothing.
-use mathlib.Core.Path.{_≡_, refl, ap, _∙_}
-use mathlib.Core.Logic.{_≢_, _⊎_, inl, inr}
-use mathlib.Core.Bool.{false}
+use mathlib.Core.Path.{_≡_, refl}
+use mathlib.Core.Logic.{_⊎_, inl, inr}
 use mathlib.Core.List.{List, [], _∷_, map}
 use Prim.Native.Nat.{ℕ, _+_, _%_, _≤_, _<_}
 use native.Mathlib.Omega.{arith}
 use lib.Dec.{eqb}
 use borrow.Author.Tests.{ne-eqb}
-use Rattle.model.specs.Map.{lengthIn, longest, memorySize, note, notice, pageSize, place, q1, q2, size, text, wordValues}
+use Rattle.model.specs.Map.{lengthIn, longest, memorySize, note, notice, place, q1, q2, size, text, wordValues}
 use Rattle.model.specs.Bytes.{queue, word}
 use Rattle.model.specs.Lists.{count, Lists}
 use Rattle.laws.specs.Count.{hit-self}
@@ -18,7 +17,7 @@ use Rattle.laws.specs.Inv.{Base, View}
 use Rattle.laws.specs.Mails.{mail-queue}
 use Rattle.laws.specs.Marking.{Fate, Marked, marked-base, marked-fate, marked-word}
 use Rattle.laws.specs.Marking.Fate.{marks, stays}
-use Rattle.history.specs.Letter.{Letter, mailOf, words, words-moved, waitingFor, waits-held, held, letter-sized}
+use Rattle.history.specs.Letter.{mailOf, words, words-moved, waitingFor, waits-held, held, letter-sized}
 
 -- ---- word 2: a mark makes no notice, and leaves the length
 fate-notice : {n w v x : ℕ} → Fate n w v x → eqb x notice ≡ eqb v notice
@@ -54,7 +53,8 @@ module _ {n : ℕ} {xs : List ℕ} {m m1 : List ℕ} (t : Marked n xs m m1) wher
       rw (same-notice x, marked-word t x note (omega arith) (omega arith), same-length x, w)
 
   -- ---- what waits
-  module _ {ps : List ℕ} {L : Lists} {W : View} {hs : List ℕ} {g : ℕ} (b : Base m ps L W hs g) (free : (x : ℕ) → 1 ≤ count x xs → Page x × (count x ps ≡ 0)) where
+  module _ {ps : List ℕ} {L : Lists} {W : View} {hs : List ℕ} {g : ℕ} (b : Base m ps L W hs g)
+      (free : (x : ℕ) → 1 ≤ count x xs → Page x × (count x ps ≡ 0)) where
     pub marked-queue : (p w : ℕ) → 1 ≤ count p ps → q1 ≤ w → w ≤ q2 → queue m1 (place p w) ≡ L (place p w)
     marked-queue p w h u v = mail-queue (marked-base t b free) p w h u v
 

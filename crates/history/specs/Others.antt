@@ -1,6 +1,6 @@
 -- The other calls put and read nothing and move no message: an interrupt, a burst, setting and reading registers, the judge, a refused fresh start; nor does
 -- the host. Assumes nothing.
-use mathlib.Core.Path.{_≡_, refl, sym, ap, _∙_}
+use mathlib.Core.Path.{_≡_, refl, ap, _∙_}
 use mathlib.Core.Bool.{Bool, true, false}
 use mathlib.Core.List.{List, [], _++_, append-nil}
 use Prim.Native.Nat.{ℕ, _≤_}
@@ -9,7 +9,7 @@ use lib.ListN.{length}
 use lib.Dec.{eqb}
 use borrow.Author.Tests.{eqb-false, eq-eqb}
 use Rattle.model.specs.Map.{memorySize, pageSize, processorList}
-use Rattle.model.specs.Bytes.{running, lists, processors, fresh, interrupt, burst, readRegisters, setRegisters, judge, whoRuns, delivered, setRegistersOf}
+use Rattle.model.specs.Bytes.{running, lists, fresh, interrupt, burst, readRegisters, setRegisters, judge, whoRuns, delivered, setRegistersOf}
 use Rattle.model.specs.declared.Registers.{Registers}
 use Rattle.model.specs.Address.{guarded}
 use Rattle.model.specs.Answer as Answer

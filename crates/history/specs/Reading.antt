@@ -82,7 +82,9 @@ module _ {m : List ℕ} {ps : List ℕ} {L : Lists} {W : View} (b : Base m ps L 
 
   -- by pages
   pub left-still : Still m (giveBack m1 q)
-  left-still = still-on (texted-still b b1 left-texts (λ y w x i u v c. (w, u, v, from y w x u v i c (hit-or y p) (hit-or w q2)))) (same-still b1 (calm-give b1))
+  left-still =
+      still-on (texted-still b b1 left-texts (λ y w x i u v c. (w, u, v, from y w x u v i c (hit-or y p) (hit-or w q2))))
+      (same-still b1 (calm-give b1))
     where
       from : (y w x : ℕ) → q1 ≤ w → w ≤ q2 → 1 ≤ count y ps → 1 ≤ count x (upd L (place p q2) (xs ++ ys) (place y w)) → (y ≡ p) ⊎ (y ≢ p) → (w ≡ q2) ⊎ (w ≢ q2)
           → 1 ≤ count x (L (place y w))

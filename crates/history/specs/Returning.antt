@@ -160,7 +160,8 @@ module _ {m : List ℕ} {ps : List ℕ} {L : Lists} {W : View} {hs : List ℕ} {
   notice-posts : (n f : ℕ) → Posts ps L m (makeNotice m q n f)
   notice-posts n f = posts (calm-only (b .facts .sep) m (makeNotice m q n f) q (aside-hand b q (in-hand b)) (notice-only b n f))
 
-  pub notice-grows : (n f p : ℕ) → 1 ≤ n → n ≤ 15 → 1 ≤ f → f ≤ 7 → 1 ≤ count p ps → Grown ps m (deliver (makeNotice m q n f) p q) ((p, noticeFrom n f) ∷ []) ((p, q) ∷ [])
+  pub notice-grows : (n f p : ℕ) → 1 ≤ n → n ≤ 15 → 1 ≤ f → f ≤ 7 → 1 ≤ count p ps
+      → Grown ps m (deliver (makeNotice m q n f) p q) ((p, noticeFrom n f) ∷ []) ((p, q) ∷ [])
   notice-grows n f p n1 n2 f1 f2 hp =
       let o = notice-only b n f in
       let b2 = hand-base q (in-hand b) o b in

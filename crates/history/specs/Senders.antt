@@ -2,15 +2,14 @@
 -- notice is about mail that the very life which gets it has sent. Assumes nothing.
 use mathlib.Core.Path.{_≡_, refl, sym, ap, _∙_}
 use mathlib.Core.Logic.{_≢_, _⊎_, inl, inr}
-use mathlib.Core.Bool.{Bool, true, false, cond, _&&_}
+use mathlib.Core.Bool.{Bool, true, false}
 use mathlib.Core.List.{List, [], _∷_, _++_, map}
 use Prim.Native.Nat.{ℕ, suc, _≤_}
 use native.Mathlib.Omega.{arith}
 use lib.ListN.{length, length-append, length-map}
 use lib.Dec.{eqb}
 use borrow.Author.Tests.{eqb-true, eqb-false, eq-eqb, ne-eqb, le-leb, ltb-true, ltb-false}
-use Rattle.model.specs.Map as Map
-use Rattle.model.specs.Map.{isUnmarked, lower, mark, markAdded, memorySize, notice, place, processorList, q1, q2, size, upper}
+use Rattle.model.specs.Map.{isUnmarked, lower, mark, memorySize, notice, place, processorList, q1, q2, size, upper}
 use Rattle.model.specs.Fresh.{startable}
 use Rattle.model.specs.Answer.{memoryOf}
 use Rattle.model.specs.Bytes.{fresh, instruction, isNotice, lists, name, processors, queue, running, sender, unmarked, word}
@@ -20,18 +19,16 @@ use Rattle.laws.specs.Inv.{Base, noOne, view}
 use Rattle.laws.specs.Judged.{invariant}
 use Rattle.laws.specs.Grants.{each-two}
 use Rattle.laws.specs.Who.{listed}
-use Rattle.laws.specs.Calls as Calls
 use Rattle.laws.specs.Calls.{Act, Sound, after, reached-sound, well}
-use Rattle.history.specs.Order.{only, only-nil, only-yes, only-no, only-append}
+use Rattle.history.specs.Order.{only-nil, only-append}
 use Rattle.history.specs.Letter.{Letter, mailOf, waitingFor}
 use Rattle.history.specs.Put.{Mailed, mailed, of, onlyNotices}
-use Rattle.history.specs.Told.{of-none, of-append}
 use Rattle.history.specs.Traced.{About, Each, Origin, Turned, each-append, each-as}
 use Rattle.history.specs.Traced.About.{own, back}
 use Rattle.history.specs.Traced.Origin.{unchanged, newly-marked, sent, notified}
 use Rattle.history.specs.Begin.{fresh-empty}
 use Rattle.history.specs.Whole.{instruction-told, instruction-traced}
-use Rattle.history.specs.Lives.{Lawful, Life, Living, Past, Run, call-lawful, grown, later, life, lives, mailBy, noneYet, passing-lawful, restarts}
+use Rattle.history.specs.Lives.{Lawful, Life, Living, Past, Run, grown, later, life, lives, mailBy, noneYet, restarts}
 use Rattle.history.specs.Lives.{run-has, run-reached, sentBy}
 
 -- ---- a processor that lives, has the name of the sender of message x, and is the life that sent it
@@ -209,7 +206,8 @@ module _ {m m′ : List ℕ} {e : Mailed} (t : Lawful m m′ e) (one : OneEach m
       let q = one (b .who) to (b .living) i (b .named ∙ sym n) in
       rw (ne-eqb page (e .wrote) d) (b .is ∙ ap (λ (z : ℕ). life h z) q)
 
-  all-own : (p : ℕ) (l : List (ℕ × ℕ)) → Each (λ (y : ℕ × ℕ). About m (e .wrote) (y .0) (y .1)) l → Each (λ (x : Life). x ≡ life h p) (map (sentBy m e h) (of p l))
+  all-own : (p : ℕ) (l : List (ℕ × ℕ)) → Each (λ (y : ℕ × ℕ). About m (e .wrote) (y .0) (y .1)) l
+      → Each (λ (x : Life). x ≡ life h p) (map (sentBy m e h) (of p l))
   unfolding of
   all-own p [] a = tt
   all-own p (y ∷ l) a = go (eqb p (y .0)) refl (all-own p l (a .1))

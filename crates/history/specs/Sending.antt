@@ -33,7 +33,8 @@ use Rattle.laws.specs.Hands.{in-hand, hand-base}
 use Rattle.laws.specs.Grants.{Gave, Takes, take-page}
 use Rattle.laws.specs.Grants.Takes.{gets, lacks}
 use Rattle.laws.specs.Aside.{aside-hand}
-use Rattle.laws.specs.Post.{deliver-all, deliver-frame, retold-letter, two, notice-only, notice-words, notice-letter, message-only, message-words, message-letter}
+use Rattle.laws.specs.Post.{deliver-all, deliver-frame, retold-letter, two, notice-only, notice-words, notice-letter, message-only}
+use Rattle.laws.specs.Post.{message-words, message-letter}
 use Rattle.laws.specs.Who.{listed, label-at, Busy, busy, running-same, label-in}
 use Rattle.laws.specs.Mails.{clear-at, mail-queue}
 use Rattle.laws.specs.Simple.{named-in, Open, clear-open, named-same}
@@ -330,12 +331,14 @@ module _ {m : List ℕ} (w : WellFormed m) (d : running m ≢ 0) where
             (named-in b n (eqb-false (pageOf m n) 0 z)) c)
 
   to-sent : (n f a len : ℕ) → 1 ≤ n → n ≤ 15 → 1 ≤ f → f ≤ 7 → getD m a 0 ≤ longest → clear (getD m a 0) (wrapped a 1) ≡ true
-      → Sent m (memoryOf (Model.sent m n f a (getD m a 0) len)) (cond (hasPage (takePage m (running m))) (sending (posting m n f a) (pageTaken (takePage m (running m)))) nothing)
+      → Sent m (memoryOf (Model.sent m n f a (getD m a 0) len))
+      (cond (hasPage (takePage m (running m))) (sending (posting m n f a) (pageTaken (takePage m (running m)))) nothing)
   unfolding pageTaken
   to-sent n f a len n1 n2 f1 f2 l2 c = go (take-page r hr b)
     where
       go : Takes m r (lists m processorList) (lists m) (view m) [] 32
-          → Sent m (memoryOf (Model.sent m n f a (getD m a 0) len)) (cond (hasPage (takePage m (running m))) (sending (posting m n f a) (pageTaken (takePage m (running m)))) nothing)
+          → Sent m (memoryOf (Model.sent m n f a (getD m a 0) len))
+          (cond (hasPage (takePage m (running m))) (sending (posting m n f a) (pageTaken (takePage m (running m)))) nothing)
       go (gets q m1 e z t k) =
           sent-both m Ends e n f a _ len _ (λ y. absurd (z y)) (λ y.
           let i : pageTaken (takePage m (running m)) ≡ q = rw e in

@@ -1,14 +1,13 @@
 -- The deleted one has left the processor list, and what it sent is marked: what waits for everyone stays, each message is marked just if the deleted one sent
 -- it, and each of the deleted one's own goes back to whom the memory before says. Assumes nothing.
-use mathlib.Core.Path.{_≡_, refl, sym, ap, _∙_}
+use mathlib.Core.Path.{_≡_, sym, ap, _∙_}
 use mathlib.Core.Logic.{_≢_, _⊎_, inl, inr}
-use mathlib.Core.Bool.{true, false}
 use mathlib.Core.List.{List, [], _∷_, _++_}
 use Prim.Native.Nat.{ℕ, _≤_, _<_}
 use native.Mathlib.Omega.{arith}
 use borrow.Author.Tests.{eq-eqb, lt-ltb, le-ltb}
 use Rattle.model.specs.Map as Map
-use Rattle.model.specs.Map.{isUnmarked, lower, mark, markAdded, note, place, q1, q2, runningPage, size, upper}
+use Rattle.model.specs.Map.{lower, mark, markAdded, note, place, q1, q2, runningPage, size, upper}
 use Rattle.model.specs.Bytes.{name, queue, sentMarked, unlisted, word}
 use Rattle.model.specs.Lists.{count, Lists, mails}
 use Rattle.model.specs.Walks.{gather}
@@ -107,7 +106,8 @@ module _ (xs : List ℕ) (p : ℕ) (ys : List ℕ) {m : List ℕ} {L : Lists} {W
       let h = in-bag y i in
       let j = rw (marked-queue tm (t .base) (unread-free n t) y w h l v) at c in
       let a = posts-waited b (left-posts xs p ys b) y w x (stayed xs p ys b y i) l v (rw (mail-queue (t .base) y w h l v) j) in
-      let g : 1 ≤ count x (gather (t .lists) (mails (t .procs))) = of-gather (t .lists) (mails (t .procs)) (place y w) x (omega (arith, mails-at y w (t .procs) l v)) j in
+      let g : 1 ≤ count x (gather (t .lists) (mails (t .procs))) =
+      of-gather (t .lists) (mails (t .procs)) (place y w) x (omega (arith, mails-at y w (t .procs) l v)) j in
       let e : word k x size ≡ markedSize n (word u x note) (word u x size) = tm .here x (omega (
         arith,
         count-append x (gather (t .lists) (mails (t .procs)))

@@ -142,7 +142,8 @@ module _ {m : List ℕ} (w : WellFormed m) (d : running m ≢ 0) where
       let i = sym (mail-queue b r q1 hr (omega arith) (omega arith)) ∙ t .is in
       let b1 = move-lists b r q (t .before) (t .behind) hr i in
       let m1 = move m r q in
-      still-traced (still-on (moved-still b r q (t .before) (t .behind) hr i) (same-still b1 (calm-done (b1 .facts .sep) m1 (runs-in b1) len))) nothing refl refl refl)
+      still-traced (still-on (moved-still b r q (t .before) (t .behind) hr i) (same-still b1 (calm-done (b1 .facts .sep) m1 (runs-in b1) len)))
+      nothing refl refl refl)
 
   pub tme-traced : (n f a len : ℕ) → Traced m (memoryOf (Model.tme m n f a len)) nothing
   tme-traced n f a len =

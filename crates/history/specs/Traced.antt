@@ -1,7 +1,7 @@
 -- Which message waits on which page. After a call every message that waits for a processor waited for it before, on the same page, as it was or marked by the
 -- deletion of its sender; or it was sent by the one that ran; or it is a notice. And of each notice that is put: it is about what the one that runs sends
 -- itself, or about unmarked mail, and goes to the one that has its sender's name. Assumes nothing.
-use mathlib.Core.Path.{_≡_, refl, sym, ap, _∙_}
+use mathlib.Core.Path.{_≡_, refl, sym, _∙_}
 use mathlib.Core.Logic.{_≢_, _⊎_, inl, inr}
 use mathlib.Core.Bool.{Bool, true, false}
 use mathlib.Core.List.{List, [], _∷_, _++_, append-nil, map}
@@ -177,8 +177,8 @@ pub calm-traced : {m : List ℕ} {ps : List ℕ} {L : Lists} {W : View} {hs : Li
 calm-traced b s = still-traced (same-still b s) nothing refl refl refl
 
 -- ---- a step that leaves all texts, and after which each list holds only what was in Q1 or Q2 of the same one
-pub texted-still : {m m1 : List ℕ} {ps : List ℕ} {L K : Lists} {W X : View} {hs ks : List ℕ} {g k : ℕ} → Base m ps L W hs g → Base m1 ps K X ks k → Texted ps m m1
-    → ((p w x : ℕ) → 1 ≤ count p ps → q1 ≤ w → w ≤ q2 → 1 ≤ count x (K (place p w)) → (v : ℕ) × (q1 ≤ v) × (v ≤ q2) × (1 ≤ count x (L (place p v))))
+pub texted-still : {m m1 : List ℕ} {ps : List ℕ} {L K : Lists} {W X : View} {hs ks : List ℕ} {g k : ℕ} → Base m ps L W hs g → Base m1 ps K X ks k
+    → Texted ps m m1 → ((p w x : ℕ) → 1 ≤ count p ps → q1 ≤ w → w ≤ q2 → 1 ≤ count x (K (place p w)) → (v : ℕ) × (q1 ≤ v) × (v ≤ q2) × (1 ≤ count x (L (place p v))))
     → Still m m1
 texted-still {m} {m1} {ps} {K = K} b c t f = record {
   alive = listed c ∙ sym (listed b);

@@ -9,8 +9,8 @@ use native.Mathlib.Omega.{arith}
 use lib.ListN.{length, getD, set}
 use lib.Dec.{eqb}
 use borrow.Author.Tests.{eqb-true, eqb-false, eq-eqb, ne-eqb, leb-true}
-use Rattle.model.specs.Map.{controlPages, grantFor, isUnmarked, lastFlag, lastName, link, lower, note, notice, pageSize, place, q1, q2, runningPage, size, state}
-use Rattle.model.specs.Map.{upper}
+use Rattle.model.specs.Map.{controlPages, grantFor, isUnmarked, lastFlag, lastName, link, lower, note, pageSize, place, q1, q2, runningPage, size}
+use Rattle.model.specs.Map.{state, upper}
 use Rattle.model.specs.Bytes.{running, store, word, lists, leave, giveBack, deliver, makeNotice, pageOf, returned, emptied, mailReturned}
 use Rattle.model.specs.Bytes.{grantReturned, delete}
 use Rattle.model.specs.Delete as Delete

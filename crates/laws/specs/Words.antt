@@ -13,9 +13,9 @@ use borrow.Author.Tests.{eqb-false, eq-eqb, ne-eqb, ltb-true, ltb-false}
 use Rattle.model.specs.Map.{builtInCodes, c0, c0Interrupt, c1, c1End, c1Interrupt, c2, c2End, c2Interrupt, c3, c3End, c3Interrupt, clockLine}
 use Rattle.model.specs.Map.{codeWord, controlPages, divider, firstClassed, firstControl, firstName, firstPriority, firstUnused, freeList}
 use Rattle.model.specs.Map.{freeSemaphore, grantFor, guardedLast, headWords, headerOf, high, highLr, interruptPage, interrupts, isUnmarked, keeps, keptCount}
-use Rattle.model.specs.Map.{kernelPages, label, lastOuter, link, listLink, low, lowLr, lower, mark, markAdded, memorySize, note, notice, ownSemaphore, pageQueue}
+use Rattle.model.specs.Map.{kernelPages, label, lastOuter, link, listLink, low, lowLr, lower, mark, markAdded, memorySize, note, notice}
 use Rattle.model.specs.Map.{pageSize, pair, place, processorList, q1, q2, reason, runningLabel, runningPage, semaphoreOf, size, state, text}
-use Rattle.model.specs.Map.{threeFlags, topped, upper, waitBit, wordA, wordS, wordValues, zeroPlace}
+use Rattle.model.specs.Map.{ownSemaphore, pageQueue, threeFlags, topped, upper, waitBit, wordA, wordS, wordValues, zeroPlace}
 use Rattle.model.specs.Address.{wrapped}
 use Rattle.model.specs.Bytes.{lengthOf, name, running, word}
 use Rattle.model.specs.declared.Registers.{Registers}

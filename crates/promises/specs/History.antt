@@ -118,8 +118,8 @@ what-it-wrote-stands m h = instruction-traced (reached-sound m h) .written
 
 -- and a message keeps its page: one that waits after a call waited before it for the same processor, on that page and with that sender and flag, marked now
 -- only if whoever had its sender's name is gone; or the one that ran sent it; or it is a notice
-pub a-message-keeps-its-page : (m : List ℕ) → Reached m → (a : Act) → restarts a ≡ false → (p w x : ℕ) → Living m p → Living (after a m) p → WaitsAt (after a m) p w x
-    → Origin m (after a m) (mailBy a m) p x
+pub a-message-keeps-its-page : (m : List ℕ) → Reached m → (a : Act) → restarts a ≡ false → (p w x : ℕ) → Living m p
+    → Living (after a m) p → WaitsAt (after a m) p w x → Origin m (after a m) (mailBy a m) p x
 a-message-keeps-its-page m r a e p w x i j c = call-lawful (reached-sound m r) a e .traced .pages p w x i j (c .0) (c .1) (c .2)
 
 -- what a notice is about: what the one that runs was to send, or unmarked mail that waits, and it goes to who has its sender's name
