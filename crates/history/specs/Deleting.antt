@@ -39,13 +39,13 @@ use Rattle.laws.specs.Delete.{Queue, Drained, drain, facts-whole}
 use Rattle.history.specs.Order.{only-nil, only-yes}
 use Rattle.history.specs.Letter.{Letter, mailOf, map-append, waitingFor, Same, posts, label-same, waits-same, procs-same, queue-same, held, held-same}
 use Rattle.history.specs.Ways.{dep-both}
-use Rattle.history.specs.Put.{Log, Mailed, nothing, noticeFrom, of, onlyNotices, returning, returnsTo, notices, noticesAbout, depMail}
+use Rattle.history.specs.Put.{Log, Mailed, noticeFrom, of, onlyNotices, returning, returnsTo, notices, noticesAbout, depMail}
 use Rattle.history.specs.Calm.{calm-low}
-use Rattle.history.specs.Told.{of-none, of-yes, of-no, calm-done, calm-fault, runs-in, Sent}
-use Rattle.history.specs.Traced.{Each, each-all, each-append, Waited, Origin, About, Turned, Traced, some-page, posts-waited, calm-traced}
+use Rattle.history.specs.Told.{of-none, of-yes, of-no, calm-done, runs-in}
+use Rattle.history.specs.Traced.{Each, each-all, each-append, Waited, Origin, About, Turned, Lawful, some-page, posts-waited}
 use Rattle.history.specs.Traced.Origin.{unchanged, newly-marked, notified}
 use Rattle.history.specs.Traced.About.{back}
-use Rattle.history.specs.Quiet.{fault-sent}
+use Rattle.history.specs.Quiet.{fault-lawful}
 use Rattle.history.specs.Returning.{notices-append, about-append, Grown, grown-then, grown-same, give-grows}
 use Rattle.history.specs.Emptying.{Aims, aims-on, emptied-grows}
 use Rattle.history.specs.Leaving.{stayed, bag-procs, bag-q1, bag-q2}
@@ -280,16 +280,6 @@ module _ {m : List ℕ} (w : WellFormed m) (d : running m ≢ 0) where
           held-same (t .base) (posts ended) y q1 j (omega arith) (omega arith) ∙ t .grown .last y j
           ∙ ap (λ (l : List Letter). l ++ of y letters) (left .last y j)
 
-      deleted-sent : Sent m m3 (returning m p (queue m (place p q2) ++ queue m (place p q1)))
-      deleted-sent = record {
-        told = record {
-          at = λ y h i k f. rw (of-none y, waits-are y i);
-          keeps = λ y h i. (let j = rw procs-are at i in label-same ended y j ∙ t .grown .names y j ∙ left .names y j);
-          born = λ y h i. absurd (omega (arith, left .were y (rw procs-are at i)));
-        };
-        stands = record { at = λ y i. (held m y q1, last-is y i) };
-      }
-
       -- ---- by pages
       -- one name, one processor
       alone : (y : ℕ) → 1 ≤ count y (processors m) → name m y ≡ name m p → y ≡ p
@@ -377,15 +367,24 @@ module _ {m : List ℕ} (w : WellFormed m) (d : running m ≢ 0) where
                 (length-map zs (mailOf m3) ∙ sym (length-map zs (mailOf (left .prior))) ∙ ap length (left .last y i)) s3;
           }
 
-      deleted-traced : Traced m m3 mail
-      deleted-traced = record {
-        pages = λ y w x i j u v c. from y w x j u v c;
-        about =
-            rw (about-append m p (queue m (place p q2)) (queue m (place p q1))) (each-append (λ (y : ℕ × ℕ). About m 0 (y .0) (y .1))
-            (noticesAbout m p (queue m (place p q2))) (noticesAbout m p (queue m (place p q1)))
-            (backs q2 (omega arith) (omega arith) (queue m (place p q2)) (λ z c. c)) (backs q1 (omega arith) (omega arith) (queue m (place p q1)) (λ z c. c)));
-        turned = λ y i. rw (all-notices m p (queue m (place p q2) ++ queue m (place p q1)) y) (turned y (rw procs-are at i));
-        written = each-all (λ y o. absurd (o refl)) letters;
+      deleted-lawful : Lawful m m3 mail
+      deleted-lawful = record {
+        told = record {
+          at = λ y h i k f. rw (of-none y, waits-are y i);
+          keeps = λ y h i. (let j = rw procs-are at i in label-same ended y j ∙ t .grown .names y j ∙ left .names y j);
+          born = λ y h i. absurd (omega (arith, left .were y (rw procs-are at i)));
+        };
+        stands = record { at = λ y i. (held m y q1, last-is y i) };
+        traced = record {
+          pages = λ y w x i j u v c. from y w x j u v c;
+          about =
+              rw (about-append m p (queue m (place p q2)) (queue m (place p q1))) (each-append (λ (y : ℕ × ℕ). About m 0 (y .0) (y .1))
+              (noticesAbout m p (queue m (place p q2))) (noticesAbout m p (queue m (place p q1)))
+              (backs q2 (omega arith) (omega arith) (queue m (place p q2)) (λ z c. c))
+              (backs q1 (omega arith) (omega arith) (queue m (place p q1)) (λ z c. c)));
+          turned = λ y i. rw (all-notices m p (queue m (place p q2) ++ queue m (place p q1)) y) (turned y (rw procs-are at i));
+          written = each-all (λ y o. absurd (o refl)) letters;
+        };
       }
 
   -- "10 NI isn't stopped": the one that runs is not
@@ -395,10 +394,6 @@ module _ {m : List ℕ} (w : WellFormed m) (d : running m ≢ 0) where
       let c = ap (λ (y : ℕ). word m y state) q in
       omega (arith, ready)
 
-  pub dep-sent : (n len : ℕ) → Sent m (memoryOf (Model.named m 12 n len)) (depMail m n)
-  dep-sent n len = dep-both m (λ o e. Sent m (memoryOf o) e) (λ f i j. fault-sent w d f) n len (λ g.
-      deleted-sent (pageOf m n) (named-in b n (g .found)) (others (pageOf m n) (g .stopped)) len)
-
-  pub dep-traced : (n len : ℕ) → Traced m (memoryOf (Model.named m 12 n len)) (depMail m n)
-  dep-traced n len = dep-both m (λ o e. Traced m (memoryOf o) e) (λ f i j. calm-traced b (calm-fault b d f)) n len (λ g.
-      deleted-traced (pageOf m n) (named-in b n (g .found)) (others (pageOf m n) (g .stopped)) len)
+  pub dep-lawful : (n len : ℕ) → Lawful m (memoryOf (Model.named m 12 n len)) (depMail m n)
+  dep-lawful n len = dep-both m (λ o e. Lawful m (memoryOf o) e) (λ f i j. fault-lawful w d f) n len (λ g.
+      deleted-lawful (pageOf m n) (named-in b n (g .found)) (others (pageOf m n) (g .stopped)) len)

@@ -20,9 +20,9 @@ use Rattle.laws.specs.Calls.Act.{fresh-start, instruct, signal, signals, set, r
 use Rattle.history.specs.Order.{only, only-append}
 use Rattle.history.specs.Letter.{Letter, key, waitingFor}
 use Rattle.history.specs.Put.{Mailed, nothing, of, mailed}
-use Rattle.history.specs.Told.{Told}
-use Rattle.history.specs.Whole.{instruction-told, instruction-traced}
-use Rattle.history.specs.Traced.{Traced, still-traced}
+use Rattle.history.specs.Told.{Told, stands-none}
+use Rattle.history.specs.Whole.{instruction-lawful}
+use Rattle.history.specs.Traced.{Lawful, still-traced}
 use Rattle.history.specs.Others.{Passing, interrupt-passes, burst-passes, set-passes, read-passes, judge-passes, refused-passes, host-passes}
 use Rattle.history.specs.Begin.{fresh-empty}
 
@@ -139,17 +139,13 @@ grown-kept {m} {m′} {e} t h k p i s f = go (leb 1 (count p (processors m))) re
         rw (q, t .born p (omega arith) i)
 
 -- ---- the laws of one call
-pub record Lawful (m m′ : List ℕ) (e : Mailed) : Type 0 where
-  pub told : Told m m′ e
-  pub traced : Traced m m′ e
-
 pub passing-lawful : {m m′ : List ℕ} → Passing m m′ → Lawful m m′ nothing
-passing-lawful t = record { told = t .told; traced = still-traced (t .still) nothing refl refl refl }
+passing-lawful {m′ = m′} t = record { told = t .told; stands = stands-none m′; traced = still-traced (t .still) nothing refl refl refl }
 
 pub call-lawful : {m : List ℕ} → Sound m → (a : Act) → restarts a ≡ false → Lawful m (after a m) (mailBy a m)
 unfolding Calls.after mailBy restarts
 call-lawful k (fresh-start line d) e = passing-lawful (refused-passes k line d e)
-call-lawful k instruct e = record { told = instruction-told k; traced = instruction-traced k }
+call-lawful k instruct e = instruction-lawful k
 call-lawful k (signal n c) e = passing-lawful (interrupt-passes k n c)
 call-lawful k (signals l) e = passing-lawful (burst-passes k l)
 call-lawful k (set r) e = passing-lawful (set-passes k r)

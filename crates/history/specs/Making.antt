@@ -31,10 +31,10 @@ use Rattle.history.specs.Letter.{Same, Posts, posts, posts-on, posts-the
 use Rattle.history.specs.Letter.Mine.{page}
 use Rattle.history.specs.Put.{nothing}
 use Rattle.history.specs.Calm.{calm-only, mine-high, mine-hand, mine-proc}
-use Rattle.history.specs.Told.{Told, of-none, told-same, calm-done, calm-fault, runs-in}
-use Rattle.history.specs.Traced.{Traced, none-turned, some-page, posts-waited, calm-traced}
+use Rattle.history.specs.Told.{of-none, stands-none, calm-done, runs-in}
+use Rattle.history.specs.Traced.{Lawful, none-turned, some-page, posts-waited, lawful-same}
 use Rattle.history.specs.Traced.Origin.{unchanged}
-use Rattle.history.specs.Quiet.{fault-sent}
+use Rattle.history.specs.Quiet.{fault-lawful}
 use Rattle.history.specs.Taking.{calm-takes, page-waits}
 
 -- ---- page q in hand becomes a processor
@@ -107,17 +107,17 @@ module _ {m : List ℕ} (w : WellFormed m) (d : running m ≢ 0) where
   open Busy (busy w d) using (base as b, runs as hr)
 
   abbrev Ends : Model.Step → Type 0
-  Ends o = Told m (memoryOf o) nothing
+  Ends o = Lawful m (memoryOf o) nothing
 
   bad : Faults m Ends
-  bad = record { all = λ f i j. fault-sent w d f .told }
+  bad = record { all = λ f i j. fault-lawful w d f }
 
-  crp-page : (n r v a len : ℕ) → 1 ≤ n → n ≤ lastName → 1 ≤ r → r ≤ lastPriority → pageOf m n ≡ 0 → Told m (memoryOf (Model.crpPage m n r v a len)) nothing
+  crp-page : (n r v a len : ℕ) → 1 ≤ n → n ≤ lastName → 1 ≤ r → r ≤ lastPriority → pageOf m n ≡ 0 → Lawful m (memoryOf (Model.crpPage m n r v a len)) nothing
   crp-page n r v a len n1 n2 r1 r2 free = go (take-page (running m) hr b)
     where
-      go : Takes m (running m) (lists m processorList) (lists m) (view m) [] noOne → Told m (memoryOf (Model.crpPage m n r v a len)) nothing
+      go : Takes m (running m) (lists m processorList) (lists m) (view m) [] noOne → Lawful m (memoryOf (Model.crpPage m n r v a len)) nothing
       go (lacks e f2 g2) =
-          crp-page-each m Ends e n r v a len (λ y. told-same b (memoryOf (waitsForPage m)) (page-waits w d f2 g2)) (λ y. absurd (y refl))
+          crp-page-each m Ends e n r v a len (λ y. lawful-same b (memoryOf (waitsForPage m)) (page-waits w d f2 g2)) (λ y. absurd (y refl))
       go (gets q m1 e z t k) =
           let c = created-base (t .base) n r v a n1 n2 r1 r2 (rw k (nobody b n free)) in
           let s1 = calm-takes b (running m) hr q m1 e in
@@ -133,15 +133,36 @@ module _ {m : List ℕ} (w : WellFormed m) (d : running m ≢ 0) where
           let keep : (p : ℕ) → 1 ≤ count p (lists m processorList) → waitingFor (memoryOf (Model.done m2 len)) p ≡ waitingFor m p = λ p h.
           waits-same (c .base) (posts d2) p (rw pc (omega (arith, count-append p (lists m processorList) (q ∷ [])))) ∙ waits-same b ps1 p h in
           let qc : 1 ≤ count q (c .procs) = rw pc (count-mid q (lists m processorList) []) in
+          let more : (y : ℕ) → 1 ≤ count y (lists m processorList) → 1 ≤ count y (lists m processorList ++ q ∷ []) = λ y h.
+          omega (arith, count-append y (lists m processorList) (q ∷ [])) in
           crp-page-each m Ends e n r v a len (λ y. absurd (z y)) (λ y. record {
-            at = λ p h i y f. rw (of-none p, keep p (rw lm at h), append-nil (waitingFor m p));
-            keeps = λ p h i.
-                let j = rw lm at h in
-                label-same d2 p (rw pc (omega (arith, count-append p (lists m processorList) (q ∷ []))))
-                ∙ created-label (t .base) n r v a p j ∙ label-same s1 p j;
-            born = λ p h i.
-                let pq : p ≡ q = new p q (omega (arith, ap (count p) pr, count-append p (lists m processorList) (q ∷ []), ap (count p) lm)) in
-                rw pq (waits-same (c .base) (posts d2) q qc ∙ created-empty (t .base) n r v a);
+            told = record {
+              at = λ p h i y f. rw (of-none p, keep p (rw lm at h), append-nil (waitingFor m p));
+              keeps = λ p h i.
+                  let j = rw lm at h in
+                  label-same d2 p (rw pc (more p j)) ∙ created-label (t .base) n r v a p j ∙ label-same s1 p j;
+              born = λ p h i.
+                  let pq : p ≡ q = new p q (omega (arith, ap (count p) pr, count-append p (lists m processorList) (q ∷ []), ap (count p) lm)) in
+                  rw pq (waits-same (c .base) (posts d2) q qc ∙ created-empty (t .base) n r v a);
+            };
+            stands = stands-none m3;
+            -- by pages: those of the ones that lived stay, and the new one has none
+            traced = record {
+              pages = λ p w x h i u v j.
+                  let l = rw lm at h in
+                  let a = posts-waited (c .base) (posts d2) p w x (rw pc (more p l)) u v j in
+                  let o = posts-waited b ps1 p (a .0 .head) x l (a .0 .low) (a .0 .high) (a .0 .here) in
+                  unchanged (record {
+                    head = o .0 .head;
+                    low = o .0 .low;
+                    high = o .0 .high;
+                    here = o .0 .here;
+                    note = a .0 .note ∙ o .0 .note;
+                  }) (a .1 ∙ o .1) (some-page m3 (place p w) x j) (λ f r k g. rw pr (more r (rw lm at k)));
+              about = tt;
+              turned = λ p h. none-turned m3 p;
+              written = tt;
+            };
           })
         where
           new : (p q : ℕ) → 1 ≤ count p (q ∷ []) → p ≡ q
@@ -151,48 +172,5 @@ module _ {m : List ℕ} (w : WellFormed m) (d : running m ≢ 0) where
               cases (inl y) = y
               cases (inr y) = absurd (omega (arith, hit-other p q y))
 
-  -- ---- by pages: those of the ones that lived stay, and the new one has none
-  page-traced : (n r v a len : ℕ) → 1 ≤ n → n ≤ lastName → 1 ≤ r → r ≤ lastPriority → pageOf m n ≡ 0 → Traced m (memoryOf (Model.crpPage m n r v a len)) nothing
-  page-traced n r v a len n1 n2 r1 r2 free = go (take-page (running m) hr b)
-    where
-      go : Takes m (running m) (lists m processorList) (lists m) (view m) [] noOne → Traced m (memoryOf (Model.crpPage m n r v a len)) nothing
-      go (lacks e f2 g2) =
-          crp-page-each m (λ o. Traced m (memoryOf o) nothing) e n r v a len
-          (λ y. calm-traced b (page-waits w d f2 g2)) (λ y. absurd (y refl))
-      go (gets q m1 e z t k) =
-          let c = created-base (t .base) n r v a n1 n2 r1 r2 (rw k (nobody b n free)) in
-          let s1 = calm-takes b (running m) hr q m1 e in
-          let m2 = created m1 q n r v a in
-          let m3 = memoryOf (Model.done m2 len) in
-          let d2 : Same (c .procs) (c .lists) m2 (memoryOf (Model.done m2 len)) = calm-done (c .base .facts .sep) m2 (runs-in (c .base)) len in
-          let pc : c .procs ≡ lists m processorList ++ q ∷ [] = sym (listed (c .base)) ∙ created-procs (t .base) n r v a in
-          let pr : processors m3 ≡ lists m processorList ++ q ∷ [] = procs-same (c .base) d2 ∙ pc in
-          let lm : processors m ≡ lists m processorList = listed b in
-          let more : (y : ℕ) → 1 ≤ count y (lists m processorList) → 1 ≤ count y (lists m processorList ++ q ∷ []) = λ y h.
-          omega (arith, count-append y (lists m processorList) (q ∷ [])) in
-          let ps1 : Posts (lists m processorList) (lists m) m m2 =
-          posts-then (agrees b (posts s1) (t .base)) (posts s1) (created-posts (t .base) n r v a) in
-          crp-page-each m (λ o. Traced m (memoryOf o) nothing) e n r v a len (λ y. absurd (z y)) (λ y. record {
-            pages = λ p w x h i u v j.
-                let l = rw lm at h in
-                let a = posts-waited (c .base) (posts d2) p w x (rw pc (more p l)) u v j in
-                let o = posts-waited b ps1 p (a .0 .head) x l (a .0 .low) (a .0 .high) (a .0 .here) in
-                unchanged (record {
-                  head = o .0 .head;
-                  low = o .0 .low;
-                  high = o .0 .high;
-                  here = o .0 .here;
-                  note = a .0 .note ∙ o .0 .note;
-                }) (a .1 ∙ o .1) (some-page m3 (place p w) x j) (λ f r k g. rw pr (more r (rw lm at k)));
-            about = tt;
-            turned = λ p h. none-turned m3 p;
-            written = tt;
-          })
-
-  pub crp-traced : (n r v a len : ℕ) → n < 16 → r < 16 → Traced m (memoryOf (Model.crp m n r v a len)) nothing
-  crp-traced n r v a len hn hr =
-      crp-each {P = λ o. Traced m (memoryOf o) nothing} (record { all = λ f i j. calm-traced b (calm-fault b d f) }) n r v a len (λ g.
-      page-traced n r v a len (g .name) (omega arith) (g .priority) (omega arith) (g .unnamed))
-
-  pub crp-told : (n r v a len : ℕ) → n < 16 → r < 16 → Told m (memoryOf (Model.crp m n r v a len)) nothing
-  crp-told n r v a len hn hr = crp-each bad n r v a len (λ g. crp-page n r v a len (g .name) (omega arith) (g .priority) (omega arith) (g .unnamed))
+  pub crp-lawful : (n r v a len : ℕ) → n < 16 → r < 16 → Lawful m (memoryOf (Model.crp m n r v a len)) nothing
+  crp-lawful n r v a len hn hr = crp-each bad n r v a len (λ g. crp-page n r v a len (g .name) (omega arith) (g .priority) (omega arith) (g .unnamed))

@@ -30,7 +30,8 @@ use Rattle.laws.specs.Interrupts.{serve-base, seat}
 use Rattle.laws.specs.Waits.{line-fit}
 use Rattle.history.specs.Letter.{Same, same-on}
 use Rattle.history.specs.Calm.{calm-refl, calm-low, calm-proc, calm-run, calm-lr}
-use Rattle.history.specs.Told.{calm-done, calm-jumps, calm-fault, calm-waits, runs-in, Sent, sent-same}
+use Rattle.history.specs.Told.{calm-done, calm-jumps, calm-fault, calm-waits, runs-in}
+use Rattle.history.specs.Traced.{Lawful, lawful-same}
 use Rattle.history.specs.Clocks.{calm-serve}
 use Rattle.history.specs.Put.{nothing}
 
@@ -53,8 +54,8 @@ module _ {m : List ℕ} (w : WellFormed m) (d : running m ≢ 0) where
   pub fails : (f : ℕ) → Calm (memoryOf (Model.fault m f))
   fails f = calm-fault b d f
 
-  pub fault-sent : (f : ℕ) → Sent m (memoryOf (Model.fault m f)) nothing
-  fault-sent f = sent-same b (memoryOf (Model.fault m f)) (fails f)
+  pub fault-lawful : (f : ℕ) → Lawful m (memoryOf (Model.fault m f)) nothing
+  fault-lawful f = lawful-same b (memoryOf (Model.fault m f)) (fails f)
 
   abbrev Ends : Model.Step → Type 0
   Ends o = Calm (memoryOf o)

@@ -31,9 +31,9 @@ use Rattle.history.specs.Letter.{label-same, waits-same, procs-same, mai
 use Rattle.history.specs.Ways.{rme-both}
 use Rattle.history.specs.Put.{of, reading, rmeMail}
 use Rattle.history.specs.Calm.{ours-low, ours-fits, calm-give}
-use Rattle.history.specs.Told.{Told, of-none, of-here, of-other, calm-done, calm-fault, runs-in}
-use Rattle.history.specs.Traced.{Still, Traced, still-on, same-still, still-traced, texted-still, calm-traced}
-use Rattle.history.specs.Quiet.{clear-far, fault-sent}
+use Rattle.history.specs.Told.{Told, of-none, of-here, of-other, stands-empty, calm-done, runs-in}
+use Rattle.history.specs.Traced.{Still, Lawful, still-on, same-still, still-traced, texted-still}
+use Rattle.history.specs.Quiet.{clear-far, fault-lawful}
 use Rattle.history.specs.Moving.{leave-texts}
 use Rattle.history.specs.Tests.{Found, found}
 
@@ -153,16 +153,7 @@ module _ {m : List ℕ} (w : WellFormed m) (d : running m ≢ 0) where
           rw (z, of-here r (mailOf m q), of-none r, append-nil (waitingFor m r), s4, ← mq, ← x4) o
       cases m3 m2 x p h k l s3 sx o mq away (inr n) = rw (of-other p r (mailOf m q) n, of-none p, append-nil (waitingFor m p), s3, away n, sx)
 
-  pub rme-told : (n f a len : ℕ) → Told m (memoryOf (Model.rme m n f a len)) (rmeMail m n f a)
-  rme-told n f a len = rme-both m (λ o e. Told m (memoryOf o) e) (λ f i j. fault-sent w d f .told) n f a len (λ g.
-      let t : Found m n f (Model.inQ2 m n f) (queue m (place r q2)) = found m n f (queue m (place r q2)) (g .found) in
-      received-told n f (Model.inQ2 m n f) a len
-      (record { before = t .before; behind = t .behind; is = sym q6 ∙ t .is; match = t .match; none = t .none }) (g .target))
-    where
-      q6 : queue m (place r q2) ≡ lists m (place r q2)
-      q6 = mail-queue b r q2 hr (omega arith) (omega arith)
-
-  -- ---- by pages
+  -- by pages
   received-still : (n f q a len : ℕ) → Found m n f q (lists m (place r q2)) → clear (headWords + lengthIn (word m q size)) a ≡ true
       → Still m (memoryOf (Model.done (Model.received m q a) len))
   unfolding Operate.received
@@ -175,10 +166,15 @@ module _ {m : List ℕ} (w : WellFormed m) (d : running m ≢ 0) where
       still-on (same-still b (out-calm (b .facts .sep) m q a cl)) (still-on (left-still bx r q (t .before) (t .behind) hr (t .is))
       (same-still (g2 .base) (calm-done (g2 .base .facts .sep) m2 (runs-in (g2 .base)) len)))
 
-  pub rme-traced : (n f a len : ℕ) → Traced m (memoryOf (Model.rme m n f a len)) (rmeMail m n f a)
-  rme-traced n f a len = rme-both m (λ o e. Traced m (memoryOf o) e) (λ f i j. calm-traced b (calm-fault b d f)) n f a len (λ g.
+  pub rme-lawful : (n f a len : ℕ) → Lawful m (memoryOf (Model.rme m n f a len)) (rmeMail m n f a)
+  rme-lawful n f a len = rme-both m (λ o e. Lawful m (memoryOf o) e) (λ f i j. fault-lawful w d f) n f a len (λ g.
       let t : Found m n f (Model.inQ2 m n f) (queue m (place r q2)) = found m n f (queue m (place r q2)) (g .found) in
-      let q6 = mail-queue b r q2 hr (omega arith) (omega arith) in
-      still-traced (received-still n f (Model.inQ2 m n f) a len
-      (record { before = t .before; behind = t .behind; is = sym q6 ∙ t .is; match = t .match; none = t .none }) (g .target))
-      (reading r (mailOf m (Model.inQ2 m n f)) a) refl refl refl)
+      let i = sym (mail-queue b r q2 hr (omega arith) (omega arith)) ∙ t .is in
+      let c : Found m n f (Model.inQ2 m n f) (lists m (place r q2)) =
+      record { before = t .before; behind = t .behind; is = i; match = t .match; none = t .none } in
+      let e = reading r (mailOf m (Model.inQ2 m n f)) a in
+      record {
+        told = received-told n f (Model.inQ2 m n f) a len c (g .target);
+        stands = stands-empty (memoryOf (Model.done (Model.received m (Model.inQ2 m n f) a) len)) e refl;
+        traced = still-traced (received-still n f (Model.inQ2 m n f) a len c (g .target)) e refl refl refl;
+      })

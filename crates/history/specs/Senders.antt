@@ -12,7 +12,7 @@ use borrow.Author.Tests.{eqb-true, eqb-false, eq-eqb, ne-eqb, le-leb, ltb-true, 
 use Rattle.model.specs.Map.{isUnmarked, lower, mark, memorySize, notice, place, processorList, q1, q2, size, upper}
 use Rattle.model.specs.Fresh.{startable}
 use Rattle.model.specs.Answer.{memoryOf}
-use Rattle.model.specs.Bytes.{fresh, instruction, isNotice, lists, name, processors, queue, running, sender, unmarked, word}
+use Rattle.model.specs.Bytes.{fresh, isNotice, lists, name, processors, queue, running, sender, unmarked, word}
 use Rattle.model.specs.Lists.{count}
 use Rattle.laws.specs.Count.{count-append, hit-or, zero-or}
 use Rattle.laws.specs.Inv.{Base, noOne, view}
@@ -23,12 +23,12 @@ use Rattle.laws.specs.Calls.{Act, Sound, after, reached-sound, well}
 use Rattle.history.specs.Order.{only-nil, only-append}
 use Rattle.history.specs.Letter.{Letter, mailOf, waitingFor}
 use Rattle.history.specs.Put.{Mailed, mailed, of, onlyNotices}
-use Rattle.history.specs.Traced.{About, Each, Origin, Turned, each-append, each-as}
+use Rattle.history.specs.Traced.{About, Each, Lawful, Origin, Turned, each-append, each-as}
 use Rattle.history.specs.Traced.About.{own, back}
 use Rattle.history.specs.Traced.Origin.{unchanged, newly-marked, sent, notified}
 use Rattle.history.specs.Begin.{fresh-empty}
-use Rattle.history.specs.Whole.{instruction-told, instruction-traced}
-use Rattle.history.specs.Lives.{Lawful, Life, Living, Past, Run, grown, later, life, lives, mailBy, noneYet, restarts}
+use Rattle.history.specs.Whole.{instruction-lawful}
+use Rattle.history.specs.Lives.{Life, Living, Past, Run, grown, later, life, lives, mailBy, noneYet, restarts}
 use Rattle.history.specs.Lives.{run-has, run-reached, sentBy}
 
 -- ---- a processor that lives, has the name of the sender of message x, and is the life that sent it
@@ -262,8 +262,8 @@ module _ (m : List ℕ) (h : Past) (r : Run m h) where
   pub notice-to-sender : Each (λ (y : ℕ × ℕ). sentBy m (mailed m) h (y .1) ≡ life h (y .0)) (mailed m .about)
   notice-to-sender =
       let k = reached-sound m (run-reached m h r) in
-      let t : Lawful m (memoryOf (instruction m)) (mailed m) = record { told = instruction-told k; traced = instruction-traced k } in
-      each-as (λ y a. about-own t (one-each k) h (senders m h r) (y .0) (y .1) a) (mailed m .about) (instruction-traced k .about)
+      let t = instruction-lawful k in
+      each-as (λ y a. about-own t (one-each k) h (senders m h r) (y .0) (y .1) a) (mailed m .about) (t .traced .about)
 
   -- a life that begins now is none that was
   pub new-life : (p : ℕ) → Living m p → h .since p ≤ h .calls

@@ -44,11 +44,11 @@ use Rattle.history.specs.Letter.{held-same, label-same, Posts, texts-sam
 use Rattle.history.specs.Ways.{sme-both, sent-both}
 use Rattle.history.specs.Put.{Mailed, of, onlyNotices, nothing, sending, noticeFrom, posting, hasPage, pageTaken, smeMail}
 use Rattle.history.specs.Calm.{calm-only}
-use Rattle.history.specs.Told.{Told, Stands, of-none, of-here, of-other, calm-done, calm-fault, runs-in, Sent, sent-same}
-use Rattle.history.specs.Traced.{Each, Waited, Origin, About, Stood, Turned, Traced, posts-waited, turned-none, calm-traced}
+use Rattle.history.specs.Told.{Told, Stands, told-as, of-none, of-here, of-other, calm-done, runs-in}
+use Rattle.history.specs.Traced.{Each, Waited, Origin, About, Stood, Turned, Lawful, posts-waited, turned-none, lawful-same}
 use Rattle.history.specs.Traced.Origin.{unchanged, sent, notified}
 use Rattle.history.specs.Traced.About.{own}
-use Rattle.history.specs.Quiet.{fault-sent}
+use Rattle.history.specs.Quiet.{fault-lawful}
 use Rattle.history.specs.Taking.{calm-takes, takes-word, page-waits}
 use Rattle.history.specs.Delivering.{delivered-last, delivered-here, delivered-away, delivered-texts, delivered-from, delivered-pages, notice-mail}
 use Rattle.history.specs.Copied.{copy-at}
@@ -109,9 +109,6 @@ module _ {m : List ℕ} {ps : List ℕ} {L : Lists} {W : View} (b : Base m ps L 
       cases y h (inl e) =
           (held m2 p q1, rw (e, of-here p x) (held-same (g3 .base) (posts d3) p q1 hp (omega arith) (omega arith) ∙ delivered-last b2 p hp t2))
       cases y h (inr n) = (held m4 y q1, rw (of-other y p x n) (sym (append-nil (held m4 y q1))))
-
-  pub put-sent : Sent m m4 (sending (p, x) q)
-  put-sent = record { told = put-told; stands = put-stands }
 
   -- ---- by pages: q is the one that is new
   kept2 : Posts ps K m1 m2
@@ -181,13 +178,18 @@ module _ {m : List ℕ} {ps : List ℕ} {L : Lists} {W : View} (b : Base m ps L 
             rw (of-none {A = ℕ} y, here x z, only-no (λ (l : Letter). l .notice) x [] f, only-nil (λ (l : Letter). l .notice)) (turned-none m4 y)
         go false f (inr d) = rw (of-none {A = ℕ} y, of-other y p x d, only-nil (λ (l : Letter). l .notice)) (turned-none m4 y)
 
-    pub put-traced : Each (λ (y : ℕ × ℕ). About m (e .wrote) (y .0) (y .1)) (e .about) → e .about ≡ cond (x .notice) ((p, q) ∷ []) []
-        → e .puts ≡ (p, x) ∷ [] → Traced m m4 e
-    put-traced ab al pu = record {
-      pages = λ y w z h i u v j. from y w z (rw (listed b) at h) u v j;
-      about = ab;
-      turned = λ y h. turned al pu y;
-      written = rw (pu, wr) ((λ n. stood), tt);
+    -- e is what is sent: the letter x to p, on page q
+    pub put-lawful : Each (λ (y : ℕ × ℕ). About m (e .wrote) (y .0) (y .1)) (e .about) → e .about ≡ cond (x .notice) ((p, q) ∷ []) []
+        → e .puts ≡ (p, x) ∷ [] → e .reads ≡ [] → Lawful m m4 e
+    put-lawful ab al pu re = record {
+      told = told-as put-told (sym pu) (sym re);
+      stands = record { at = λ y h. rw pu (put-stands .at y h) };
+      traced = record {
+        pages = λ y w z h i u v j. from y w z (rw (listed b) at h) u v j;
+        about = ab;
+        turned = λ y h. turned al pu y;
+        written = rw (pu, wr) ((λ n. stood), tt);
+      };
     }
 
 -- ---- what is written
@@ -234,7 +236,7 @@ module _ {m : List ℕ} (w : WellFormed m) (d : running m ≢ 0) where
   r = running m
 
   abbrev Ends : Model.Step → Mailed → Type 0
-  Ends o e = Sent m (memoryOf o) e
+  Ends o e = Lawful m (memoryOf o) e
 
   -- page q is taken
   module _ (q : ℕ) (m1 : List ℕ) (e : takePage m r ≡ took q m1) (t : Gave m1 (lists m processorList) (q ∷ []) 32 (view m))
@@ -257,52 +259,22 @@ module _ {m : List ℕ} (w : WellFormed m) (d : running m ≢ 0) where
     named : Label (word m1 (running m1) label)
     named = label-in (t .base) (running m1) in1
 
-    notice-sent : (n f len : ℕ) → 1 ≤ n → n ≤ 15 → 1 ≤ f → f ≤ 7
-        → Sent m (memoryOf (Model.done (deliver (makeNotice m1 q n f) (running m1) q) len)) (sending (running m, noticeFrom n f) q)
-    notice-sent n f len n1 n2 f1 f2 =
-        let h = put-sent b s1 (t .base) (notice-only (t .base) n f) (running m1) in1 (notice-letter (t .base) n f n1 n2 f1 f2) len in
-        rw run1 (rw (run1, notice-mail (t .base) n f f2) at h)
-
-    message-sent : (f a l p len : ℕ) → 1 ≤ f → f ≤ 7 → l ≤ longest → a < memorySize → 1 ≤ count p (lists m processorList) → clear l a ≡ true
-        → Sent m (memoryOf (Model.done (deliver (writeMessage m1 q f a l) p q) len))
-        (sending (p, record { notice = false; sender = name m (running m); flag = f; size = l; text = words m a l }) q)
-    message-sent f a l p len f1 f2 l2 la hp c =
-        let o : (i : ℕ) → i < l → Open (wrapped a i) = λ i h. clear-open (wrapped a i) (clear-at l a c i h) in
-        let tx : words m1 a l ≡ words m a l = words-moved m m1 a a l la la (λ i h. takes-word b r hr q m1 e (wrapped a i) (o i h)) in
-        let lb : word m1 (running m1) label ≡ word m (running m) label =
-        label1 (running m1) in1 ∙ ap (λ (z : ℕ). word m z label) run1 in
-        let wm = written-mail (t .base) f a l f2 l2 la (λ i h. o i h .below) in
-        let h = put-sent b s1 (t .base) (message-only (t .base) f a l l2) p hp (message-letter (t .base) f a l l2 f1 f2 named) len in
-        rw (wm, lb, tx) at h
-
-    posted-sent : (n f a len : ℕ) → 1 ≤ n → n ≤ 15 → 1 ≤ f → f ≤ 7 → getD m a 0 ≤ longest → clear (getD m a 0) (wrapped a 1) ≡ true
-        → Sent m (memoryOf (Model.done (posted m1 q n f a (getD m a 0)) len)) (sending (posting m n f a) q)
-    unfolding Operate.posted posting
-    posted-sent n f a len n1 n2 f1 f2 l2 c = go (eqb (pageOf m n) 0) refl
-      where
-        go : (x : Bool) → eqb (pageOf m n) 0 ≡ x → Sent m (memoryOf (Model.done (posted m1 q n f a (getD m a 0)) len)) (sending (posting m n f a) q)
-        go true z = rw (page1 n, z) (notice-sent n f len n1 n2 f1 f2)
-        go false z =
-            rw (page1 n, z) (message-sent f (wrapped a 1) (getD m a 0) (pageOf m n) len f1 f2 l2 (omega arith)
-            (named-in b n (eqb-false (pageOf m n) 0 z)) c)
-
-    -- ---- by pages
     alive : 1 ≤ count (running m) (processors m)
     alive = rw (listed b) hr
 
-    notice-traced : (n f len : ℕ) → 1 ≤ n → n ≤ 15 → 1 ≤ f → f ≤ 7
-        → Traced m (memoryOf (Model.done (deliver (makeNotice m1 q n f) (running m1) q) len)) (sending (running m, noticeFrom n f) q)
-    notice-traced n f len n1 n2 f1 f2 =
+    notice-lawful : (n f len : ℕ) → 1 ≤ n → n ≤ 15 → 1 ≤ f → f ≤ 7
+        → Lawful m (memoryOf (Model.done (deliver (makeNotice m1 q n f) (running m1) q) len)) (sending (running m, noticeFrom n f) q)
+    notice-lawful n f len n1 n2 f1 f2 =
         let o = notice-only (t .base) n f in
         let l = notice-letter (t .base) n f n1 n2 f1 f2 in
-        put-traced b s1 (t .base) o (running m1) in1 l len (sending (running m, noticeFrom n f) q) refl
+        put-lawful b s1 (t .base) o (running m1) in1 l len (sending (running m, noticeFrom n f) q) refl
         (λ y. notified (still-q b s1 (t .base) o (running m1) in1 l len Map.size (omega arith) (omega arith) ∙ notice-words (t .base) n f .1))
-        (own refl refl alive, tt) (rw (run1, notice-mail (t .base) n f f2)) (rw (run1, notice-mail (t .base) n f f2))
+        (own refl refl alive, tt) (rw (run1, notice-mail (t .base) n f f2)) (rw (run1, notice-mail (t .base) n f f2)) refl
 
-    message-traced : (f a l p len : ℕ) → 1 ≤ f → f ≤ 7 → l ≤ longest → a < memorySize → 1 ≤ count p (lists m processorList) → clear l a ≡ true
-        → Traced m (memoryOf (Model.done (deliver (writeMessage m1 q f a l) p q) len))
+    message-lawful : (f a l p len : ℕ) → 1 ≤ f → f ≤ 7 → l ≤ longest → a < memorySize → 1 ≤ count p (lists m processorList) → clear l a ≡ true
+        → Lawful m (memoryOf (Model.done (deliver (writeMessage m1 q f a l) p q) len))
         (sending (p, record { notice = false; sender = name m (running m); flag = f; size = l; text = words m a l }) q)
-    message-traced f a l p len f1 f2 l2 la hp c =
+    message-lawful f a l p len f1 f2 l2 la hp c =
         let x : Letter = record { notice = false; sender = name m (running m); flag = f; size = l; text = words m a l } in
         let o = message-only (t .base) f a l l2 in
         let lt = message-letter (t .base) f a l l2 f1 f2 named in
@@ -314,57 +286,38 @@ module _ {m : List ℕ} (w : WellFormed m) (d : running m ≢ 0) where
         let sq = still-q b s1 (t .base) o p hp lt len in
         let mw = message-words (t .base) f a l l2 in
         let is : upper (word m1 (running m1) label % 16 * 16 + f) ≡ word m1 (running m1) label % 16 = omega arith in
-        put-traced b s1 (t .base) o p hp lt len (sending (p, x) q) refl
+        put-lawful b s1 (t .base) o p hp lt len (sending (p, x) q) refl
         (λ y. sent refl (rw (sq Map.size (omega arith) (omega arith), mw .1) l2) (rw (sq note (omega arith) (omega arith), mw .0, is, lb)) alive
         (rw (procs4 b s1 (t .base) o p hp lt len) hr))
-        tt (rw wm) (rw (wm, lb, tx))
+        tt (rw wm) (rw (wm, lb, tx)) refl
 
-    posted-traced : (n f a len : ℕ) → 1 ≤ n → n ≤ 15 → 1 ≤ f → f ≤ 7 → getD m a 0 ≤ longest → clear (getD m a 0) (wrapped a 1) ≡ true
-        → Traced m (memoryOf (Model.done (posted m1 q n f a (getD m a 0)) len)) (sending (posting m n f a) q)
+    posted-lawful : (n f a len : ℕ) → 1 ≤ n → n ≤ 15 → 1 ≤ f → f ≤ 7 → getD m a 0 ≤ longest → clear (getD m a 0) (wrapped a 1) ≡ true
+        → Lawful m (memoryOf (Model.done (posted m1 q n f a (getD m a 0)) len)) (sending (posting m n f a) q)
     unfolding Operate.posted posting
-    posted-traced n f a len n1 n2 f1 f2 l2 c = go (eqb (pageOf m n) 0) refl
+    posted-lawful n f a len n1 n2 f1 f2 l2 c = go (eqb (pageOf m n) 0) refl
       where
-        go : (x : Bool) → eqb (pageOf m n) 0 ≡ x → Traced m (memoryOf (Model.done (posted m1 q n f a (getD m a 0)) len)) (sending (posting m n f a) q)
-        go true z = rw (page1 n, z) (notice-traced n f len n1 n2 f1 f2)
+        go : (x : Bool) → eqb (pageOf m n) 0 ≡ x → Lawful m (memoryOf (Model.done (posted m1 q n f a (getD m a 0)) len)) (sending (posting m n f a) q)
+        go true z = rw (page1 n, z) (notice-lawful n f len n1 n2 f1 f2)
         go false z =
-            rw (page1 n, z) (message-traced f (wrapped a 1) (getD m a 0) (pageOf m n) len f1 f2 l2 (omega arith)
+            rw (page1 n, z) (message-lawful f (wrapped a 1) (getD m a 0) (pageOf m n) len f1 f2 l2 (omega arith)
             (named-in b n (eqb-false (pageOf m n) 0 z)) c)
 
-  to-sent : (n f a len : ℕ) → 1 ≤ n → n ≤ 15 → 1 ≤ f → f ≤ 7 → getD m a 0 ≤ longest → clear (getD m a 0) (wrapped a 1) ≡ true
-      → Sent m (memoryOf (Model.sent m n f a (getD m a 0) len))
+  to-lawful : (n f a len : ℕ) → 1 ≤ n → n ≤ 15 → 1 ≤ f → f ≤ 7 → getD m a 0 ≤ longest → clear (getD m a 0) (wrapped a 1) ≡ true
+      → Lawful m (memoryOf (Model.sent m n f a (getD m a 0) len))
       (cond (hasPage (takePage m (running m))) (sending (posting m n f a) (pageTaken (takePage m (running m)))) nothing)
   unfolding pageTaken
-  to-sent n f a len n1 n2 f1 f2 l2 c = go (take-page r hr b)
+  to-lawful n f a len n1 n2 f1 f2 l2 c = go (take-page r hr b)
     where
       go : Takes m r (lists m processorList) (lists m) (view m) [] 32
-          → Sent m (memoryOf (Model.sent m n f a (getD m a 0) len))
+          → Lawful m (memoryOf (Model.sent m n f a (getD m a 0) len))
           (cond (hasPage (takePage m (running m))) (sending (posting m n f a) (pageTaken (takePage m (running m)))) nothing)
       go (gets q m1 e z t k) =
           sent-both m Ends e n f a _ len _ (λ y. absurd (z y)) (λ y.
           let i : pageTaken (takePage m (running m)) ≡ q = rw e in
-          rw i (posted-sent q m1 e t k n f a len n1 n2 f1 f2 l2 c))
-      go (lacks e f3 g3) = sent-both m Ends e n f a _ len _ (λ y. sent-same b (memoryOf (waitsForPage m)) (page-waits w d f3 g3)) (λ y. absurd (y refl))
-
-  pub sme-sent : (n f a len : ℕ) → n < 16 → f < 8 → Sent m (memoryOf (Model.sme m n f a len)) (smeMail m n f a)
-  sme-sent n f a len hn hf = sme-both m Ends (λ f i j. fault-sent w d f) n f a len (λ g.
-      to-sent n f a len (g .name) (omega arith) (g .flag) (omega arith) (g .length) (g .text))
-
-  to-traced : (n f a len : ℕ) → 1 ≤ n → n ≤ 15 → 1 ≤ f → f ≤ 7 → getD m a 0 ≤ longest → clear (getD m a 0) (wrapped a 1) ≡ true
-      → Traced m (memoryOf (Model.sent m n f a (getD m a 0) len))
-      (cond (hasPage (takePage m (running m))) (sending (posting m n f a) (pageTaken (takePage m (running m)))) nothing)
-  unfolding pageTaken
-  to-traced n f a len n1 n2 f1 f2 l2 c = go (take-page r hr b)
-    where
-      go : Takes m r (lists m processorList) (lists m) (view m) [] 32
-          → Traced m (memoryOf (Model.sent m n f a (getD m a 0) len))
-          (cond (hasPage (takePage m (running m))) (sending (posting m n f a) (pageTaken (takePage m (running m)))) nothing)
-      go (gets q m1 e z t k) =
-          sent-both m (λ o e. Traced m (memoryOf o) e) e n f a _ len _ (λ y. absurd (z y)) (λ y.
-          let i : pageTaken (takePage m (running m)) ≡ q = rw e in
-          rw i (posted-traced q m1 e t k n f a len n1 n2 f1 f2 l2 c))
+          rw i (posted-lawful q m1 e t k n f a len n1 n2 f1 f2 l2 c))
       go (lacks e f3 g3) =
-          sent-both m (λ o e. Traced m (memoryOf o) e) e n f a _ len _ (λ y. calm-traced b (page-waits w d f3 g3)) (λ y. absurd (y refl))
+          sent-both m Ends e n f a _ len _ (λ y. lawful-same b (memoryOf (waitsForPage m)) (page-waits w d f3 g3)) (λ y. absurd (y refl))
 
-  pub sme-traced : (n f a len : ℕ) → n < 16 → f < 8 → Traced m (memoryOf (Model.sme m n f a len)) (smeMail m n f a)
-  sme-traced n f a len hn hf = sme-both m (λ o e. Traced m (memoryOf o) e) (λ f i j. calm-traced b (calm-fault b d f)) n f a len (λ g.
-      to-traced n f a len (g .name) (omega arith) (g .flag) (omega arith) (g .length) (g .text))
+  pub sme-lawful : (n f a len : ℕ) → n < 16 → f < 8 → Lawful m (memoryOf (Model.sme m n f a len)) (smeMail m n f a)
+  sme-lawful n f a len hn hf = sme-both m Ends (λ f i j. fault-lawful w d f) n f a len (λ g.
+      to-lawful n f a len (g .name) (omega arith) (g .flag) (omega arith) (g .length) (g .text))

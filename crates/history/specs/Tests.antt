@@ -24,9 +24,9 @@ use Rattle.laws.specs.Words.{Tried, test-kept}
 use Rattle.history.specs.Order.{only, Fails}
 use Rattle.history.specs.Letter.{mailOf, key, asked, asked-page, waitingFor, Same, posts, label-same, waits-same, procs-same}
 use Rattle.history.specs.Put.{nothing}
-use Rattle.history.specs.Told.{Told, of-none, told-same, calm-done, calm-jumps, calm-waits, runs-in}
+use Rattle.history.specs.Told.{of-none, stands-none, calm-done, calm-jumps, calm-waits, runs-in}
 use Rattle.history.specs.Calm.{calm-refl}
-use Rattle.history.specs.Traced.{Still, Traced, still-on, same-still, still-traced, calm-traced}
+use Rattle.history.specs.Traced.{Still, Lawful, still-on, same-still, still-traced, lawful-same}
 use Rattle.history.specs.Moving.{moved, move-lists, moved-away, moved-order, moved-first, moved-still}
 
 -- ---- the first match of a list
@@ -63,16 +63,20 @@ found m n f (z ∷ zs) d = go (matches m n f z) refl (found m n f zs)
         })
 
 -- ---- messages that only changed places, then a step that leaves them
-pub told-order : {m m1 : List ℕ} {ps : List ℕ} {L K : Lists} {W : View} → Base m ps L W [] noOne → Base m1 ps K W [] noOne → (m2 : List ℕ) → Same ps K m1 m2
-    → ((p : ℕ) → 1 ≤ count p ps → (k l : ℕ) → only (key k l) (waitingFor m1 p) ≡ only (key k l) (waitingFor m p)) → Told m m2 nothing
-told-order {m} b b1 m2 s f =
+pub lawful-order : {m m1 : List ℕ} {ps : List ℕ} {L K : Lists} {W : View} → Base m ps L W [] noOne → Base m1 ps K W [] noOne → (m2 : List ℕ) → Same ps K m1 m2
+    → ((p : ℕ) → 1 ≤ count p ps → (k l : ℕ) → only (key k l) (waitingFor m1 p) ≡ only (key k l) (waitingFor m p)) → Still m m1 → Lawful m m2 nothing
+lawful-order {m} b b1 m2 s f t =
     let e = procs-same b1 s ∙ sym (listed b) in
     record {
-      at = λ p h i k l.
-          let j = rw (listed b) at h in
-          rw (of-none p, waits-same b1 (posts s) p j, append-nil (waitingFor m p)) (f p j k l);
-      keeps = λ p h i. (let j = rw (listed b) at h in label-same s p j ∙ label-at b1 p j ∙ sym (label-at b p j));
-      born = λ p h i. absurd (omega (arith, ap (count p) e));
+      told = record {
+        at = λ p h i k l.
+            let j = rw (listed b) at h in
+            rw (of-none p, waits-same b1 (posts s) p j, append-nil (waitingFor m p)) (f p j k l);
+        keeps = λ p h i. (let j = rw (listed b) at h in label-same s p j ∙ label-at b1 p j ∙ sym (label-at b p j));
+        born = λ p h i. absurd (omega (arith, ap (count p) e));
+      };
+      stands = stands-none m2;
+      traced = still-traced (still-on t (same-still b1 s)) nothing refl refl refl;
     }
 
 -- ---- TME: every tested message goes to the end of Q2, the first of Q1 first: what waits stays, word for word
@@ -96,11 +100,11 @@ module _ {m : List ℕ} (w : WellFormed m) (d : running m ≢ 0) where
   abbrev r : ℕ
   r = running m
 
-  pub wnm-told : (n f len : ℕ) → f < 8 → Told m (memoryOf (Model.wnm m n f len)) nothing
+  pub wnm-lawful : (n f len : ℕ) → f < 8 → Lawful m (memoryOf (Model.wnm m n f len)) nothing
   unfolding Mail.matches
-  wnm-told n f len hf =
-      wnm-each m (λ o. Told m (memoryOf o) nothing) n f len
-      (λ z. told-same b (memoryOf (Model.waits m (place r ownSemaphore) (pair n f)))
+  wnm-lawful n f len hf =
+      wnm-each m (λ o. Lawful m (memoryOf o) nothing) n f len
+      (λ z. lawful-same b (memoryOf (Model.waits m (place r ownSemaphore) (pair n f)))
       (calm-waits b (place r ownSemaphore) (pair n f) d (own-sem (b .facts .sep) r hr) (omega (arith, ready)) (wnm-fit w d n f hf z)))
       (λ z.
       let q = Model.inQ1 m n f in
@@ -108,7 +112,8 @@ module _ {m : List ℕ} (w : WellFormed m) (d : running m ≢ 0) where
       let i = sym q5 ∙ t .is in
       let b1 = move-lists b r q (t .before) (t .behind) hr i in
       let m1 = move m r q in
-      told-order b b1 (memoryOf (Model.done m1 len)) (calm-done (b1 .facts .sep) m1 (runs-in b1) len) (λ p h k l. cases t i p h k l (hit-or p r)))
+      lawful-order b b1 (memoryOf (Model.done m1 len)) (calm-done (b1 .facts .sep) m1 (runs-in b1) len) (λ p h k l. cases t i p h k l (hit-or p r))
+      (moved-still b r q (t .before) (t .behind) hr i))
     where
       q5 : queue m (place r q1) ≡ lists m (place r q1)
       q5 = mail-queue b r q1 hr (omega arith) (omega arith)
@@ -119,38 +124,12 @@ module _ {m : List ℕ} (w : WellFormed m) (d : running m ≢ 0) where
       cases t i p h k l (inl z) = rw z (moved-order b r (Model.inQ1 m n f) (t .before) (t .behind) hr i n f (t .match) (t .none) k l)
       cases t i p h k l (inr z) = ap (only (key k l)) (moved-away b r (Model.inQ1 m n f) (t .before) (t .behind) hr i p h z)
 
-  pub tme-told : (n f a len : ℕ) → Told m (memoryOf (Model.tme m n f a len)) nothing
-  tme-told n f a len =
+  pub tme-lawful : (n f a len : ℕ) → Lawful m (memoryOf (Model.tme m n f a len)) nothing
+  tme-lawful n f a len =
       let t = test-keeps r n f hr b in
       let c = t .kept .1 in
       let x = t .memory in
-      tme-each m (λ o. Told m (memoryOf o) nothing) n f a len (t .is)
-      (told-order b c (memoryOf (Model.jumps x a)) (calm-jumps (c .facts .sep) x (runs-in c) a) (λ p h k l. ap (only (key k l)) (t .kept .2 p h)))
-      (told-order b c (memoryOf (Model.done x len)) (calm-done (c .facts .sep) x (runs-in c) len) (λ p h k l. ap (only (key k l)) (t .kept .2 p h)))
-      (told-same b (memoryOf (Model.jumps m a)) (calm-jumps (b .facts .sep) m (runs-in b) a))
-
-  -- ---- by pages
-  pub wnm-traced : (n f len : ℕ) → f < 8 → Traced m (memoryOf (Model.wnm m n f len)) nothing
-  unfolding Mail.matches
-  wnm-traced n f len hf =
-      wnm-each m (λ o. Traced m (memoryOf o) nothing) n f len
-      (λ z. calm-traced b
-      (calm-waits b (place r ownSemaphore) (pair n f) d (own-sem (b .facts .sep) r hr) (omega (arith, ready)) (wnm-fit w d n f hf z)))
-      (λ z.
-      let q = Model.inQ1 m n f in
-      let t : Found m n f q (queue m (place r q1)) = found m n f (queue m (place r q1)) z in
-      let i = sym (mail-queue b r q1 hr (omega arith) (omega arith)) ∙ t .is in
-      let b1 = move-lists b r q (t .before) (t .behind) hr i in
-      let m1 = move m r q in
-      still-traced (still-on (moved-still b r q (t .before) (t .behind) hr i) (same-still b1 (calm-done (b1 .facts .sep) m1 (runs-in b1) len)))
-      nothing refl refl refl)
-
-  pub tme-traced : (n f a len : ℕ) → Traced m (memoryOf (Model.tme m n f a len)) nothing
-  tme-traced n f a len =
-      let t = test-keeps r n f hr b in
-      let c = t .kept .1 in
-      let x = t .memory in
-      tme-each m (λ o. Traced m (memoryOf o) nothing) n f a len (t .is)
-      (still-traced (still-on (t .kept .3) (same-still c (calm-jumps (c .facts .sep) x (runs-in c) a))) nothing refl refl refl)
-      (still-traced (still-on (t .kept .3) (same-still c (calm-done (c .facts .sep) x (runs-in c) len))) nothing refl refl refl)
-      (calm-traced b (calm-jumps (b .facts .sep) m (runs-in b) a))
+      tme-each m (λ o. Lawful m (memoryOf o) nothing) n f a len (t .is)
+      (lawful-order b c (memoryOf (Model.jumps x a)) (calm-jumps (c .facts .sep) x (runs-in c) a) (λ p h k l. ap (only (key k l)) (t .kept .2 p h)) (t .kept .3))
+      (lawful-order b c (memoryOf (Model.done x len)) (calm-done (c .facts .sep) x (runs-in c) len) (λ p h k l. ap (only (key k l)) (t .kept .2 p h)) (t .kept .3))
+      (lawful-same b (memoryOf (Model.jumps m a)) (calm-jumps (b .facts .sep) m (runs-in b) a))

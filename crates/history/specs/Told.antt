@@ -90,14 +90,9 @@ told-same {m} b m′ s =
       born = λ p h i. absurd (omega (arith, ap (count p) e));
     }
 
--- both laws of one call
-pub record Sent (m m′ : List ℕ) (e : Mailed) : Type 0 where
-  pub told : Told m m′ e
-  pub stands : Stands m′ e
-
-pub sent-same : {m : List ℕ} {ps : List ℕ} {L : Lists} {W : View} {hs : List ℕ} {g : ℕ} → Base m ps L W hs g → (m′ : List ℕ) → Same ps L m m′
-    → Sent m m′ nothing
-sent-same b m′ s = record { told = told-same b m′ s; stands = stands-none m′ }
+-- it speaks of what is put and read only
+pub told-as : {m m′ : List ℕ} {e e′ : Mailed} → Told m m′ e → e .puts ≡ e′ .puts → e .reads ≡ e′ .reads → Told m m′ e′
+told-as t p r = record { at = λ y h i s f. rw (← p, ← r) (t .at y h i s f); keeps = t .keeps; born = t .born }
 
 -- ---- how a call ends
 module _ {ps : List ℕ} {L : Lists} (s : Sep ps L) (m : List ℕ) (g : running m ≢ 0 → 1 ≤ count (running m) ps) where

@@ -23,7 +23,7 @@ use Rattle.laws.specs.Mails.{mail-queue}
 use Rattle.laws.specs.Who.{listed}
 use Rattle.history.specs.Order.{only-nil}
 use Rattle.history.specs.Letter.{Letter, mailOf, Same, Posts, posts, queue-same, texts-same, procs-same, Texted}
-use Rattle.history.specs.Told.{of-none}
+use Rattle.history.specs.Told.{Told, Stands, of-none, told-same, stands-none}
 use Rattle.history.specs.Put.{Mailed, nothing, of, onlyNotices}
 
 -- of each of a list
@@ -172,9 +172,15 @@ same-still b s = record {
   sizes = λ p w x h u v i. posts-waited b (posts s) p w x (rw (listed b) at h) u v i .1;
 }
 
-pub calm-traced : {m : List ℕ} {ps : List ℕ} {L : Lists} {W : View} {hs : List ℕ} {g : ℕ} → Base m ps L W hs g → {m′ : List ℕ} → Same ps L m m′
-    → Traced m m′ nothing
-calm-traced b s = still-traced (same-still b s) nothing refl refl refl
+-- ---- the laws of one call: the order of mail, that what was put stands, and by pages
+pub record Lawful (m m′ : List ℕ) (e : Mailed) : Type 0 where
+  pub told : Told m m′ e
+  pub stands : Stands m′ e
+  pub traced : Traced m m′ e
+
+pub lawful-same : {m : List ℕ} {ps : List ℕ} {L : Lists} {W : View} {hs : List ℕ} {g : ℕ} → Base m ps L W hs g → (m′ : List ℕ) → Same ps L m m′
+    → Lawful m m′ nothing
+lawful-same b m′ s = record { told = told-same b m′ s; stands = stands-none m′; traced = still-traced (same-still b s) nothing refl refl refl }
 
 -- ---- a step that leaves all texts, and after which each list holds only what was in Q1 or Q2 of the same one
 pub texted-still : {m m1 : List ℕ} {ps : List ℕ} {L K : Lists} {W X : View} {hs ks : List ℕ} {g k : ℕ} → Base m ps L W hs g → Base m1 ps K X ks k

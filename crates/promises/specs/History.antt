@@ -21,7 +21,7 @@ use Rattle.laws.specs.Calls.Act.{fresh-start}
 use Rattle.history.specs.Letter.{Letter, mailOf, ofSenderAndFlag, waitingFor}
 use Rattle.history.specs.Put.{nothing, of, mailed, puts, reads, codeRun, onlyNotices}
 use Rattle.history.specs.Went.{wentTo}
-use Rattle.history.specs.Whole.{instruction-stands, instruction-written, instruction-one, instruction-traced}
+use Rattle.history.specs.Whole.{instruction-lawful, instruction-written, instruction-one}
 use Rattle.history.specs.Traced.{About, Each, Origin, Stood, Turned}
 use Rattle.history.specs.Lives as Lives
 use Rattle.history.specs.Lives.{Past, Run, Living, Life, life, sentBy, noneYet, grown, mailBy, restarts, later, run-reached, reached-run, call-lawful}
@@ -114,7 +114,7 @@ the-sender-stays = Senders.sender-stays
 
 pub what-it-wrote-stands : (m : List ℕ) → Reached m
     → Each (λ (y : ℕ × Letter). mailed m .wrote ≢ 0 → Stood (memoryOf (instruction m)) (mailed m .wrote) (y .0) (y .1)) (puts m)
-what-it-wrote-stands m h = instruction-traced (reached-sound m h) .written
+what-it-wrote-stands m h = instruction-lawful (reached-sound m h) .traced .written
 
 -- and a message keeps its page: one that waits after a call waited before it for the same processor, on that page and with that sender and flag, marked now
 -- only if whoever had its sender's name is gone; or the one that ran sent it; or it is a notice
@@ -124,12 +124,12 @@ a-message-keeps-its-page m r a e p w x i j c = call-lawful (reached-sound m r) a
 
 -- what a notice is about: what the one that runs was to send, or unmarked mail that waits, and it goes to who has its sender's name
 pub what-a-notice-is-about : (m : List ℕ) → Reached m → Each (λ (y : ℕ × ℕ). About m (mailed m .wrote) (y .0) (y .1)) (mailed m .about)
-what-a-notice-is-about m h = instruction-traced (reached-sound m h) .about
+what-a-notice-is-about m h = instruction-lawful (reached-sound m h) .traced .about
 
 -- and stands on the page of that message, at the end of Q1 of the one it goes to
 pub a-notice-stands-where-the-mail-was : (m : List ℕ) → Reached m → (p : ℕ) → Living (memoryOf (instruction m)) p
     → Turned (memoryOf (instruction m)) p (of p (mailed m .about)) (onlyNotices (of p (puts m)))
-a-notice-stands-where-the-mail-was m h = instruction-traced (reached-sound m h) .turned
+a-notice-stands-where-the-mail-was m h = instruction-lawful (reached-sound m h) .traced .turned
 
 -- ---- what is put and read is what the instruction does. Only SME and DEP put, only RME reads, direct or by EXI: so WNM and TME only move
 pub only-4-and-12-put : (m : List ℕ) → codeRun m ≢ smeCode → codeRun m ≢ depCode → puts m ≡ []
@@ -141,7 +141,7 @@ only-6-reads = Said.reads-nothing
 -- what an instruction put stands in memory at the end of Q1 of the one it was put to, word for word, in the order in which it was put
 pub put-stands : (m : List ℕ) → Reached m → (p : ℕ) → Living (memoryOf (instruction m)) p
     → (zs : List Letter) × (map (mailOf (memoryOf (instruction m))) (queue (memoryOf (instruction m)) (place p q1)) ≡ zs ++ of p (puts m))
-put-stands m h = instruction-stands (reached-sound m h) .at
+put-stands m h = instruction-lawful (reached-sound m h) .stands .at
 
 -- an instruction reads one message or none; the one that ran reads, and what it read stands from the target on, one word each: sender, flag, length, text.
 -- `wentTo` says where a word of page 0 is kept if another runs now; every other word is in its place
