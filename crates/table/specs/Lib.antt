@@ -5,3 +5,4 @@ pub mod Rows
 pub mod Refuting
 pub mod Told
 pub mod Bursts
+pub mod Namesakes
