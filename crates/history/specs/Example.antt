@@ -1,10 +1,13 @@
--- The law of the past is not empty: a run in which processor 1 sends itself a message of two words, takes it to Q2 and reads it. Assumes nothing.
+-- The law of the past is not empty: a run in which processor 1 sends itself a message of two words, takes it to Q2 and reads it. Nor is what is said of
+-- namesakes: the run goes on, and 1 holds mail of a 2 that is gone while another 2 lives. Assumes nothing.
 use mathlib.Core.Path.{_≡_, refl, _∙_, subst}
-use mathlib.Core.Bool.{false}
+use mathlib.Core.Bool.{Bool, true, false}
 use mathlib.Core.List.{List, [], _∷_, _++_}
 use Prim.Native.Nat.{ℕ, _+_, _≤_, _<_}
 use native.Mathlib.Omega.{arith}
 use lib.ListN.{length, length-set}
+use lib.Dec.{ltb}
+use borrow.Author.Tests.{ltb-true}
 use Rattle.model.specs.Store as Store
 use Rattle.model.specs.Store.{Store, bytes, trees}
 use Rattle.model.specs.Same.{trees-is-bytes}
@@ -32,7 +35,9 @@ use Rattle.model.specs.Call as Call
 use Rattle.model.specs.Burst as Burst
 use Rattle.model.specs.Answer as Answer
 use Rattle.model.specs.Answer.{memoryOf}
-use Rattle.model.specs.Bytes.{instruction, processors}
+use Rattle.model.specs.Rule.{all}
+use Rattle.model.specs.Bytes as Memory
+use Rattle.model.specs.Bytes.{instruction, isNotice, name, processors, unmarked}
 use Rattle.model.specs.Lists.{count}
 use Rattle.laws.specs.Words.{Small, small-set}
 use Rattle.laws.specs.Start.{zeros-size}
@@ -44,14 +49,23 @@ use Rattle.history.specs.Letter.{Letter, waitingFor}
 use Rattle.history.specs.Order as Order
 use Rattle.history.specs.Put.{of, mailed}
 use Rattle.history.specs.Lives as Lives
-use Rattle.history.specs.Lives.{Past, noneYet, later, Run}
+use Rattle.history.specs.Lives.{Living, Past, noneYet, later, Run}
 use Rattle.history.specs.Lives.Run.{start, call}
+use Rattle.history.specs.Senders.{WaitsAt}
 use Rattle.history.specs.Said as Said
 use Rattle.history.specs.Said.{times, none-twice, times-append}
 
 -- from 2752, where processor 1 starts: SME to 1 with flag 1 of the text at 3000; WNM from 1 with flag 1; RME from 1 with flag 1 to 3100
 abbrev program : List ℕ
 program = 224 ∷ 65 ∷ 43 ∷ 184 ∷ 224 ∷ 81 ∷ 32 ∷ 224 ∷ 97 ∷ 44 ∷ 28 ∷ []
+
+-- then: CRP 2 with priority 2, which starts at 3300; ST1 2; DEP 2; CRP 2 again
+abbrev making : List ℕ
+making = 224 ∷ 178 ∷ 32 ∷ 12 ∷ 228 ∷ 224 ∷ 130 ∷ 224 ∷ 194 ∷ 224 ∷ 178 ∷ 32 ∷ 12 ∷ 228 ∷ []
+
+-- from 3300, where 2 starts: SME to 1 with flag 2 of the text at 3000; STP 2
+abbrev sender : List ℕ
+sender = 224 ∷ 65 ∷ 75 ∷ 184 ∷ 224 ∷ 146 ∷ []
 
 -- length 2, text 5 6
 abbrev spoken : List ℕ
@@ -63,7 +77,7 @@ module _ (S : Store) where
   writes m a (v ∷ vs) = writes (S .put m a v) (a + 1) vs
 
   abbrev m0 : S .M
-  m0 = writes (writes (S .zeros) 2752 program) 3000 spoken
+  m0 = writes (writes (writes (writes (S .zeros) 2752 program) 2763 making) 3300 sender) 3000 spoken
 
   abbrev m1 : S .M
   m1 = memoryOf (Call.fresh S m0 16 5)
@@ -76,6 +90,25 @@ module _ (S : Store) where
 
   abbrev m4 : S .M
   m4 = memoryOf (Call.instruction S m3)
+
+  -- 2 is created, is started, sends, stops; is deleted, and created again
+  abbrev m5 : S .M
+  m5 = memoryOf (Call.instruction S m4)
+
+  abbrev m6 : S .M
+  m6 = memoryOf (Call.instruction S m5)
+
+  abbrev m7 : S .M
+  m7 = memoryOf (Call.instruction S m6)
+
+  abbrev m8 : S .M
+  m8 = memoryOf (Call.instruction S m7)
+
+  abbrev m9 : S .M
+  m9 = memoryOf (Call.instruction S m8)
+
+  abbrev m10 : S .M
+  m10 = memoryOf (Call.instruction S m9)
 
   -- who lives and what waits: after SME a message on page 237, after RME none
   record Seen : Type 0 where
@@ -90,6 +123,12 @@ module _ (S : Store) where
     second : S .get m2 7588 ≡ 6
     left1 : Queue.queue S m4 7557 ≡ []
     left2 : Queue.queue S m4 7558 ≡ []
+    -- the second 2 on page 240, and mail of 2 on page 239 in Q1 of 1
+    living10 : Queue.processors S m10 ≡ 236 ∷ 240 ∷ []
+    named10 : S .get m10 7687 ≡ 34
+    waits10 : Queue.queue S m10 7557 ≡ 239 ∷ []
+    note10 : S .get m10 7649 ≡ 34
+    size10 : S .get m10 7650 ≡ 66
 
 at-trees : Seen trees
 unfolding
@@ -136,6 +175,11 @@ at-trees = record {
   second = refl;
   left1 = refl;
   left2 = refl;
+  living10 = refl;
+  named10 = refl;
+  waits10 = refl;
+  note10 = refl;
+  size10 = refl;
 }
 
 seen : Seen bytes
@@ -156,44 +200,30 @@ unfolding writes
 writes-size m a [] = refl
 writes-size m a (v ∷ vs) = writes-size _ (a + 1) vs ∙ simp length-set
 
-program-eight : Eight program
-program-eight = (
-  omega arith,
-  (
-    omega arith,
-    (
-      omega arith,
-      (
-        omega arith,
-        (
-          omega arith,
-          (
-            omega arith,
-            (
-              omega arith,
-              (
-                omega arith,
-                (
-                  omega arith,
-                  (
-                    omega arith,
-                    (omega arith, tt),
-                  ),
-                ),
-              ),
-            ),
-          ),
-        ),
-      ),
-    ),
-  ),
-)
+-- each is one, by a test that is computed
+eight : (vs : List ℕ) → all (λ v. ltb v 256) vs ≡ true → Eight vs
+unfolding Rule.all
+eight [] e = tt
+eight (v ∷ vs) e = go (ltb v 256) refl (eight vs)
+  where
+    go : (c : Bool) → ltb v 256 ≡ c → (all (λ v. ltb v 256) vs ≡ true → Eight vs) → (v < 256) × Eight vs
+    go true f ih = (ltb-true v 256 f, ih (rw (f, all) at e))
+    go false f ih =
+        let g : _≡_ {A = Bool} false true = rw (f, all) at e in
+        let z : _≡_ {A = ℕ} 0 1 = cc in
+        absurd (omega arith)
+
+eights : (Eight program × Eight making) × (Eight sender × Eight spoken)
+unfolding Rule.all
+eights = ((eight program refl, eight making refl), (eight sender refl, eight spoken refl))
 
 small0 : Small (m0 bytes)
-small0 = writes-small _ 3000 spoken (omega arith, (omega arith, (omega arith, tt))) (writes-small _ 2752 program program-eight zeros-small)
+small0 =
+    writes-small _ 3000 spoken (eights .1 .1) (writes-small _ 3300 sender (eights .1 .0)
+    (writes-small _ 2763 making (eights .0 .1) (writes-small _ 2752 program (eights .0 .0) zeros-small)))
 
 size0 : length (m0 bytes) ≡ 8192
-size0 = writes-size _ 3000 spoken ∙ writes-size _ 2752 program ∙ zeros-size
+size0 = writes-size _ 3000 spoken ∙ writes-size _ 3300 sender ∙ writes-size _ 2763 making ∙ writes-size _ 2752 program ∙ zeros-size
 
 -- ---- the run
 run1 : Run (m1 bytes) noneYet
@@ -281,3 +311,58 @@ example-read = omega (arith, rw (waits4, never) at (none-twice (m4 bytes) past e
 
 pub example-heard : Heard letter
 example-heard = record { memory = memory; past = past; run = example-run; page = 236; living = lives4; read = example-read }
+
+-- ---- a run in which mail waits whose sender is gone, while another lives under its name
+pub record Namesake : Type 0 where
+  pub memory : List ℕ
+  pub past : Past
+  pub run : Run memory past
+  pub holder : ℕ
+  pub holds : Living memory holder
+  pub page : ℕ
+  pub waits : WaitsAt memory holder 5 page
+  pub marked : unmarked memory page ≡ false
+  pub mail : isNotice memory page ≡ false
+  pub other : ℕ
+  pub lives : Living memory other
+  pub named : name memory other ≡ Memory.sender memory page
+
+abbrev h5 : Past
+h5 = later instruct (m4 bytes) past
+
+abbrev h6 : Past
+h6 = later instruct (m5 bytes) h5
+
+abbrev h7 : Past
+h7 = later instruct (m6 bytes) h6
+
+abbrev h8 : Past
+h8 = later instruct (m7 bytes) h7
+
+abbrev h9 : Past
+h9 = later instruct (m8 bytes) h8
+
+run9 : Run (m9 bytes) h9
+unfolding Calls.after
+run9 =
+    call (m8 bytes) h8 instruct (call (m7 bytes) h7 instruct (call (m6 bytes) h6 instruct (call (m5 bytes) h5 instruct (call (m4 bytes) past instruct example-run))))
+
+run10 : Run (m10 bytes) (later instruct (m9 bytes) h9)
+unfolding Calls.after
+run10 = call (m9 bytes) h9 instruct run9
+
+pub example-namesake : Namesake
+example-namesake = record {
+  memory = m10 bytes;
+  past = later instruct (m9 bytes) h9;
+  run = run10;
+  holder = 236;
+  holds = rw (seen .living10) (omega arith);
+  page = 239;
+  waits = (omega arith, omega arith, rw (seen .waits10) (omega arith));
+  marked = rw (seen .size10);
+  mail = rw (seen .size10);
+  other = 240;
+  lives = rw (seen .living10) (omega arith);
+  named = rw (seen .named10, seen .note10);
+}

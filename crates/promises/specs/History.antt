@@ -29,7 +29,7 @@ use Rattle.history.specs.Senders as Senders
 use Rattle.history.specs.Senders.{SentBy, WaitsAt}
 use Rattle.history.specs.Said as Said
 use Rattle.history.specs.Said.{same, same-is, is-same, times}
-use Rattle.history.specs.Example.{Heard, letter, example-heard}
+use Rattle.history.specs.Example.{Heard, Namesake, letter, example-heard, example-namesake}
 
 -- ---- THE ORDER OF MAIL. At every point of every run, for every processor p that lives, of every sender s and flag f: what it has read, then what waits for
 -- it, Q2 before Q1, is just what was put to it, mail and notices, in that order, with text
@@ -180,3 +180,7 @@ same-means x y = (same-is x y, is-same x y)
 -- ---- it is not empty talk: there is a run in which processor 1 sends itself a message of the words 5 and 6 and reads it
 pub a-message-is-read : Heard letter
 a-message-is-read = example-heard
+
+-- and one in which mail waits whose sender is gone, while another lives under its name
+pub a-namesake-lives-beside-old-mail : Namesake
+a-namesake-lives-beside-old-mail = example-namesake
