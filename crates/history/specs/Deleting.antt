@@ -39,14 +39,14 @@ use Rattle.laws.specs.Delete.{Queue, Drained, drain, facts-whole}
 use Rattle.history.specs.Order.{only-nil, only-yes}
 use Rattle.history.specs.Letter.{Letter, mailOf, map-append, waitingFor, Same, posts, label-same, waits-same, procs-same, queue-same, held, held-same}
 use Rattle.history.specs.Ways.{dep-both}
-use Rattle.history.specs.Put.{Log, Mailed, noticeFrom, of, onlyNotices, returning, returnsTo, notices, noticesAbout, depMail}
+use Rattle.history.specs.Put.{Log, Mailed, goBack, noticeFrom, noticeOf, of, onlyNotices, returning, returnsTo, notices, noticesAbout, depMail}
 use Rattle.history.specs.Calm.{calm-low}
 use Rattle.history.specs.Told.{of-none, of-yes, of-no, calm-done, runs-in}
 use Rattle.history.specs.Traced.{Each, each-all, each-append, Waited, Origin, About, Turned, Lawful, some-page, posts-waited}
 use Rattle.history.specs.Traced.Origin.{unchanged, newly-marked, notified}
 use Rattle.history.specs.Traced.About.{back}
 use Rattle.history.specs.Quiet.{fault-lawful}
-use Rattle.history.specs.Returning.{notices-append, about-append, Grown, grown-then, grown-same, give-grows}
+use Rattle.history.specs.Returning.{back-append, Grown, grown-then, grown-same, give-grows}
 use Rattle.history.specs.Emptying.{Aims, aims-on, emptied-grows}
 use Rattle.history.specs.Leaving.{stayed, bag-procs, bag-q1, bag-q2}
 use Rattle.history.specs.Settling.{k, marked, marked-aims, name-is, prior-last, prior-names, prior-pages, prior-waits}
@@ -123,7 +123,7 @@ module _ (m0 : List ℕ) {m : List ℕ} (p n g : ℕ) (n1 : 1 ≤ n) (n2 : n ≤
         lists = d .lists;
         view = d .view;
         base = d .base;
-        grown = rw (notices-append m0 p (t .q2) (t .q1), about-append m0 p (t .q2) (t .q1)) (grown-then grown2 e);
+        grown = rw (back-append (noticeOf m0 p) m0 p (t .q2) (t .q1), back-append (λ y. y) m0 p (t .q2) (t .q1)) (grown-then grown2 e);
       }
 
 -- ---- a page given back after that
@@ -184,23 +184,23 @@ delete-after xs p ys {m} {L} {W} b d =
 
 -- ---- all that a deletion puts are notices
 all-notices : (m : List ℕ) (p : ℕ) (qs : List ℕ) (y : ℕ) → onlyNotices (of y (notices m p qs)) ≡ of y (notices m p qs)
-unfolding notices
+unfolding goBack
 all-notices m p [] y = rw (of-none {A = Letter} y, only-nil (λ (z : Letter). z .notice))
 all-notices m p (q ∷ qs) y = go (eqb (returnsTo m p q) 0) refl (hit-or y (returnsTo m p q)) (all-notices m p qs y)
   where
     go : (c : Bool) → eqb (returnsTo m p q) 0 ≡ c → (y ≡ returnsTo m p q) ⊎ (y ≢ returnsTo m p q)
         → onlyNotices (of y (notices m p qs)) ≡ of y (notices m p qs) → onlyNotices (of y (notices m p (q ∷ qs))) ≡ of y (notices m p (q ∷ qs))
-    go true e d ih = rw (e, notices) ih
+    go true e d ih = rw (e, goBack) ih
     go false e (inl d) ih =
         let x : Letter = noticeFrom (name m p) (lower (word m q note)) in
         rw (
           e,
-          notices,
+          goBack,
           of-yes y (returnsTo m p q, noticeFrom (name m p) (lower (word m q note))) (notices m p qs) (eq-eqb y (returnsTo m p q) d),
           only-yes (λ (z : Letter). z .notice) (noticeFrom (name m p) (lower (word m q note))) (of y (notices m p qs)) refl,
         ) (ap (λ (l : List Letter). x ∷ l) ih)
     go false e (inr d) ih =
-        rw (e, notices, of-no y (returnsTo m p q, noticeFrom (name m p) (lower (word m q note))) (notices m p qs) (ne-eqb y (returnsTo m p q) d)) ih
+        rw (e, goBack, of-no y (returnsTo m p q, noticeFrom (name m p) (lower (word m q note))) (notices m p qs) (ne-eqb y (returnsTo m p q) d)) ih
 
 -- what follows the same number of letters
 tail-same : {A : Type 0} (xs ys us vs : List A) → length xs ≡ length us → xs ++ ys ≡ us ++ vs → ys ≡ vs
@@ -338,17 +338,17 @@ module _ {m : List ℕ} (w : WellFormed m) (d : running m ≢ 0) where
 
       backs : (w : ℕ) → q1 ≤ w → w ≤ q2 → (zs : List ℕ) → ((z : ℕ) → 1 ≤ count z zs → 1 ≤ count z (queue m (place p w)))
           → Each (λ (y : ℕ × ℕ). About m 0 (y .0) (y .1)) (noticesAbout m p zs)
-      unfolding noticesAbout
+      unfolding goBack
       backs w u v [] i = tt
       backs w u v (q ∷ zs) i = go (eqb (returnsTo m p q) 0) refl (backs w u v zs (λ z c. i z (omega arith)))
         where
           go : (c : Bool) → eqb (returnsTo m p q) 0 ≡ c → Each (λ (y : ℕ × ℕ). About m 0 (y .0) (y .1)) (noticesAbout m p zs)
               → Each (λ (y : ℕ × ℕ). About m 0 (y .0) (y .1)) (noticesAbout m p (q ∷ zs))
-          go true e ih = rw (e, noticesAbout) ih
+          go true e ih = rw (e, goBack) ih
           go false e ih =
               let g = goes q (eqb-false (returnsTo m p q) 0 e) in
               let j = i q (omega (arith, hit-self q)) in
-              rw (e, noticesAbout) (back (some-page m (place p w) q j) p w (rw (listed b) h) u v j (g .0) (g .1) (g .2), ih)
+              rw (e, goBack) (back (some-page m (place p w) q j) p w (rw (listed b) h) u v j (g .0) (g .1) (g .2), ih)
 
       -- the notices stand on the pages of the messages that came back
       turned : (y : ℕ) → 1 ≤ count y (left .procs) → Turned m3 y (of y ofThem) (of y letters)
@@ -378,7 +378,7 @@ module _ {m : List ℕ} (w : WellFormed m) (d : running m ≢ 0) where
         traced = record {
           pages = λ y w x i j u v c. from y w x j u v c;
           about =
-              rw (about-append m p (queue m (place p q2)) (queue m (place p q1))) (each-append (λ (y : ℕ × ℕ). About m 0 (y .0) (y .1))
+              rw (back-append (λ y. y) m p (queue m (place p q2)) (queue m (place p q1))) (each-append (λ (y : ℕ × ℕ). About m 0 (y .0) (y .1))
               (noticesAbout m p (queue m (place p q2))) (noticesAbout m p (queue m (place p q1)))
               (backs q2 (omega arith) (omega arith) (queue m (place p q2)) (λ z c. c))
               (backs q1 (omega arith) (omega arith) (queue m (place p q1)) (λ z c. c)));

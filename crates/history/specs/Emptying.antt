@@ -27,9 +27,9 @@ use Rattle.laws.specs.Who.{listed}
 use Rattle.laws.specs.Delete.{Queue, emptied-end, emptied-next, base1, letter1, back, next, left, nonzero}
 use Rattle.laws.specs.Delete as Deleted
 use Rattle.history.specs.Letter.{Same, posts, same-on}
-use Rattle.history.specs.Put.{returnsTo, notices, noticesAbout}
+use Rattle.history.specs.Put.{noticeFrom, noticeOf, returnsTo, notices, noticesAbout}
 use Rattle.history.specs.Calm.{calm-set, ours-hand}
-use Rattle.history.specs.Returning.{sentBack, sentAbout, notices-next, notices-none, about-next, about-none, Grown, grown-refl, grown-then, grown-same}
+use Rattle.history.specs.Returning.{sentBack, back-next, back-none, Grown, grown-refl, grown-then, grown-same}
 use Rattle.history.specs.Returning.{give-grows, notice-grows}
 
 -- ---- to whom message q goes back, by the memory of that moment; 0: to none
@@ -38,12 +38,12 @@ backTo m q = unless (isUnmarked (word m q size)) 0 (pageOf m (upper (word m q no
 
 module _ {m : List ℕ} {ps : List ℕ} {L : Lists} {W : View} {hs : List ℕ} {g q : ℕ} (b : Base m ps L W (q ∷ hs) g) where
   returned-grows : (n : ℕ) → 1 ≤ n → n ≤ 15 → Message (word m q note) (word m q size)
-      → Grown ps m (returned m n q) (sentBack (backTo m q) n (lower (word m q note))) (sentAbout (backTo m q) q)
+      → Grown ps m (returned m n q) (sentBack (backTo m q) (noticeFrom n (lower (word m q note)))) (sentBack (backTo m q) q)
   unfolding Delete.returned Delete.noticed
   returned-grows n n1 n2 t = go (isUnmarked (word m q size)) (eqb (pageOf m (upper (word m q note))) 0) refl refl
     where
       go : (x y : Bool) → isUnmarked (word m q size) ≡ x → eqb (pageOf m (upper (word m q note))) 0 ≡ y
-          → Grown ps m (returned m n q) (sentBack (backTo m q) n (lower (word m q note))) (sentAbout (backTo m q) q)
+          → Grown ps m (returned m n q) (sentBack (backTo m q) (noticeFrom n (lower (word m q note)))) (sentBack (backTo m q) q)
       go false y e f = rw e (give-grows b)
       go true true e f = rw (e, f) (give-grows b)
       go true false e f =
@@ -118,12 +118,12 @@ module _ (m0 : List ℕ) (p w n : ℕ) (u : q1 ≤ w) (v : w ≤ q2) (n1 : 1 ≤
     aims1 = aims-on (q .base) (b1 .1) (step1 .names) (λ y i. i) notes1 a
 
     -- and is returned
-    step2 : Grown ps m1 m2 (sentBack (returnsTo m0 p x) (name m0 p) (word m0 x 1 % 16)) (sentAbout (returnsTo m0 p x) x)
+    step2 : Grown ps m1 m2 (sentBack (returnsTo m0 p x) (noticeFrom (name m0 p) (word m0 x 1 % 16))) (sentBack (returnsTo m0 p x) x)
     step2 =
         let hx : 1 ≤ count x (x ∷ xs) = omega (arith, hit-self x) in
         rw (← aims1 .to x hx, ← aims1 .flag x hx, ← is) (returned-grows (b1 .1) n n1 n2 (letter1 p w n u v n1 n2 ps rest g hp q x hx))
 
-    pub step : Grown ps m m2 (sentBack (returnsTo m0 p x) (name m0 p) (word m0 x 1 % 16)) (sentAbout (returnsTo m0 p x) x)
+    pub step : Grown ps m m2 (sentBack (returnsTo m0 p x) (noticeFrom (name m0 p) (word m0 x 1 % 16))) (sentBack (returnsTo m0 p x) x)
     step = grown-then step1 step2
 
     pub aims : Aims m0 p m2 xs
@@ -133,13 +133,13 @@ module _ (m0 : List ℕ) (p w n : ℕ) (u : q1 ≤ w) (v : w ≤ q2) (n1 : 1 ≤
 
   pub emptied-grows : (xs : List ℕ) (i : ℕ) → length xs ≤ i → {m : List ℕ} → Queue m ps p w xs rest g → Aims m0 p m xs
       → Grown ps m (emptied i m n (place p w)) (notices m0 p xs) (noticesAbout m0 p xs)
-  emptied-grows [] i l {m} q a = rw (emptied-end i m n (place p w) (q .chain), notices-none m0 p, about-none m0 p) (grown-refl ps m)
+  emptied-grows [] i l {m} q a = rw (emptied-end i m n (place p w) (q .chain), back-none (noticeOf m0 p) m0 p, back-none (λ y. y) m0 p) (grown-refl ps m)
   emptied-grows (x ∷ xs) zero l q a = absurd (omega arith)
   emptied-grows (x ∷ xs) (suc i) l {m} q a =
       let t = emptied-grows xs i (omega arith) (next p w n u v n1 n2 ps rest g hp q) (aims q a) in
       rw (
-        notices-next m0 p x xs,
-        about-next m0 p x xs,
+        back-next (noticeOf m0 p) m0 p x xs,
+        back-next (λ y. y) m0 p x xs,
         emptied-next i m n (place p w) x (Deleted.first p w n u v n1 n2 ps rest g hp q) (nonzero p w n u v n1 n2 ps rest g hp q),
         left p w n u v n1 n2 ps rest g hp q,
       ) (grown-then (step q a) t)

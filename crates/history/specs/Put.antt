@@ -66,6 +66,10 @@ hasPage (took q m) = cond (eqb q 0) false true
 unfoldable pub pageTaken : Taken (List ℕ) → ℕ
 pageTaken (took q m) = q
 
+-- with the page that there is; without one it waits, and nothing is put
+abbrev pub smeSends : List ℕ → ℕ → ℕ → ℕ → Mailed
+smeSends m n f a = cond (hasPage (takePage m (running m))) (sending (posting m n f a) (pageTaken (takePage m (running m)))) nothing
+
 unfoldable pub smeMail : List ℕ → ℕ → ℕ → ℕ → Mailed
 smeMail m n f a =
     cond (eqb n 0) nothing
@@ -73,7 +77,7 @@ smeMail m n f a =
     (cond (guarded a) nothing
     (cond (ltb longest (at m a)) nothing
     (unless (clear (at m a) (wrapped a 1)) nothing
-    (cond (hasPage (takePage m (running m))) (sending (posting m n f a) (pageTaken (takePage m (running m)))) nothing)))))
+    (smeSends m n f a)))))
 
 -- ---- RME: the first match in Q2
 unfoldable pub rmeMail : List ℕ → ℕ → ℕ → ℕ → Mailed
@@ -86,17 +90,20 @@ rmeMail m n f a =
 unfoldable pub returnsTo : List ℕ → ℕ → ℕ → ℕ
 returnsTo m p q = unless (unmarked m q) 0 (cond (eqb (sender m q) (name m p)) 0 (pageOf m (sender m q)))
 
-unfoldable pub notices : List ℕ → ℕ → List ℕ → Log
-notices m p [] = []
-notices m p (q ∷ qs) = elim (eqb (returnsTo m p q) 0) [
-  | true ↦ notices m p qs
-  | false ↦ (returnsTo m p q, noticeFrom (name m p) (flag m q)) ∷ notices m p qs
-]
+-- what is said of each message of qs that goes back, with the processor that it goes to
+unfoldable pub goBack : {A : Type 0} → (ℕ → A) → List ℕ → ℕ → List ℕ → List (ℕ × A)
+goBack f m p [] = []
+goBack f m p (q ∷ qs) = elim (eqb (returnsTo m p q) 0) [ true ↦ goBack f m p qs | false ↦ (returnsTo m p q, f q) ∷ goBack f m p qs ]
 
--- each with the page of the message that goes back
-unfoldable pub noticesAbout : List ℕ → ℕ → List ℕ → List (ℕ × ℕ)
-noticesAbout m p [] = []
-noticesAbout m p (q ∷ qs) = elim (eqb (returnsTo m p q) 0) [ true ↦ noticesAbout m p qs | false ↦ (returnsTo m p q, q) ∷ noticesAbout m p qs ]
+-- the notice that it makes, and the page that it is on
+abbrev pub noticeOf : List ℕ → ℕ → ℕ → Letter
+noticeOf m p q = noticeFrom (name m p) (flag m q)
+
+abbrev pub notices : List ℕ → ℕ → List ℕ → Log
+notices m p = goBack (noticeOf m p) m p
+
+abbrev pub noticesAbout : List ℕ → ℕ → List ℕ → List (ℕ × ℕ)
+noticesAbout m p = goBack (λ q. q) m p
 
 abbrev pub returning : List ℕ → ℕ → List ℕ → Mailed
 returning m p qs = record { puts = notices m p qs; reads = []; target = 0; wrote = 0; about = noticesAbout m p qs }

@@ -24,62 +24,37 @@ use Rattle.laws.specs.Post.{retold-letter, notice-only, notice-words, notice-le
 use Rattle.laws.specs.Aside.{aside-hand}
 use Rattle.laws.specs.Stores.{only-word}
 use Rattle.history.specs.Letter.{Letter, mailOf, waitingFor, Posts, posts, waits-same, held, held-same, queue-same, Texted}
-use Rattle.history.specs.Put.{Log, of, noticeFrom, returnsTo, notices, noticesAbout}
+use Rattle.history.specs.Put.{Log, of, noticeFrom, returnsTo, goBack}
 use Rattle.history.specs.Calm.{calm-only, calm-give}
 use Rattle.history.specs.Told.{of-none, of-here, of-other, of-append}
 use Rattle.history.specs.Traced.{Waited, posts-waited}
 use Rattle.history.specs.Delivering.{delivered-last, delivered-other, delivered-here, delivered-away, delivered-texts, delivered-from, delivered-pages}
 use Rattle.history.specs.Delivering.{delivered-else, notice-mail}
 
--- ---- what is put, one after the other
--- the notice from the name n with flag f to the processor of page r, if there is one
-abbrev pub sentBack : ℕ → ℕ → ℕ → Log
-sentBack r n f = cond (eqb r 0) [] ((r, noticeFrom n f) ∷ [])
+-- ---- what goes back, one after the other
+-- v to the processor of page r, if there is one
+abbrev pub sentBack : {A : Type 0} → ℕ → A → List (ℕ × A)
+sentBack r v = cond (eqb r 0) [] ((r, v) ∷ [])
 
--- with the page q of the message that it is about
-abbrev pub sentAbout : ℕ → ℕ → List (ℕ × ℕ)
-sentAbout r q = cond (eqb r 0) [] ((r, q) ∷ [])
+module _ {A : Type 0} (f : ℕ → A) (m : List ℕ) (p : ℕ) where
+  pub back-next : (q : ℕ) (qs : List ℕ) → goBack f m p (q ∷ qs) ≡ sentBack (returnsTo m p q) (f q) ++ goBack f m p qs
+  unfolding goBack
+  back-next q qs = go (eqb (returnsTo m p q) 0) refl
+    where
+      go : (b : Bool) → eqb (returnsTo m p q) 0 ≡ b → goBack f m p (q ∷ qs) ≡ sentBack (returnsTo m p q) (f q) ++ goBack f m p qs
+      go true e = rw (e, goBack)
+      go false e = rw (e, goBack)
 
-pub about-next : (m : List ℕ) (p q : ℕ) (qs : List ℕ) → noticesAbout m p (q ∷ qs) ≡ sentAbout (returnsTo m p q) q ++ noticesAbout m p qs
-unfolding noticesAbout
-about-next m p q qs = go (eqb (returnsTo m p q) 0) refl
-  where
-    go : (b : Bool) → eqb (returnsTo m p q) 0 ≡ b → noticesAbout m p (q ∷ qs) ≡ sentAbout (returnsTo m p q) q ++ noticesAbout m p qs
-    go true e = rw (e, noticesAbout)
-    go false e = rw (e, noticesAbout)
+  pub back-none : goBack f m p [] ≡ []
+  unfolding goBack
+  back-none = refl
 
-pub about-none : (m : List ℕ) (p : ℕ) → noticesAbout m p [] ≡ []
-unfolding noticesAbout
-about-none m p = refl
-
-pub about-append : (m : List ℕ) (p : ℕ) (xs ys : List ℕ) → noticesAbout m p (xs ++ ys) ≡ noticesAbout m p xs ++ noticesAbout m p ys
-about-append m p [] ys = rw (about-none m p)
-about-append m p (x ∷ xs) ys =
-    let l = sentAbout (returnsTo m p x) x in
-    about-next m p x (xs ++ ys) ∙ ap {B = List (ℕ × ℕ)} (λ k. l ++ k) (about-append m p xs ys)
-    ∙ sym (append-assoc l (noticesAbout m p xs) (noticesAbout m p ys))
-    ∙ ap {B = List (ℕ × ℕ)} (λ k. k ++ noticesAbout m p ys) (sym (about-next m p x xs))
-
-pub notices-next : (m : List ℕ) (p q : ℕ) (qs : List ℕ)
-    → notices m p (q ∷ qs) ≡ sentBack (returnsTo m p q) (name m p) (lower (word m q note)) ++ notices m p qs
-unfolding notices
-notices-next m p q qs = go (eqb (returnsTo m p q) 0) refl
-  where
-    go : (b : Bool) → eqb (returnsTo m p q) 0 ≡ b
-        → notices m p (q ∷ qs) ≡ sentBack (returnsTo m p q) (name m p) (lower (word m q note)) ++ notices m p qs
-    go true e = rw (e, notices)
-    go false e = rw (e, notices)
-
-pub notices-none : (m : List ℕ) (p : ℕ) → notices m p [] ≡ []
-unfolding notices
-notices-none m p = refl
-
-pub notices-append : (m : List ℕ) (p : ℕ) (xs ys : List ℕ) → notices m p (xs ++ ys) ≡ notices m p xs ++ notices m p ys
-notices-append m p [] ys = rw (notices-none m p)
-notices-append m p (x ∷ xs) ys =
-    let l = sentBack (returnsTo m p x) (name m p) (word m x 1 % 16) in
-    notices-next m p x (xs ++ ys) ∙ ap {B = Log} (λ k. l ++ k) (notices-append m p xs ys) ∙ sym (append-assoc l (notices m p xs) (notices m p ys))
-    ∙ ap {B = Log} (λ k. k ++ notices m p ys) (sym (notices-next m p x xs))
+  pub back-append : (xs ys : List ℕ) → goBack f m p (xs ++ ys) ≡ goBack f m p xs ++ goBack f m p ys
+  back-append [] ys = rw back-none
+  back-append (x ∷ xs) ys =
+      let l : List (ℕ × A) = sentBack (returnsTo m p x) (f x) in
+      back-next x (xs ++ ys) ∙ ap {B = List (ℕ × A)} (λ k. l ++ k) (back-append xs ys) ∙ sym (append-assoc l (goBack f m p xs) (goBack f m p ys))
+      ∙ ap {B = List (ℕ × A)} (λ k. k ++ goBack f m p ys) (sym (back-next x xs))
 
 -- ---- from m to m1 what waits for the processors ps grows by l, at the end of Q1, and their names stay; by pages, Q1 grows by those of a, and what waits is a
 -- notice, or waited and is as it was

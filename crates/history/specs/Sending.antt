@@ -42,7 +42,7 @@ use Rattle.history.specs.Order.{only, only-nil, only-yes, only-no}
 use Rattle.history.specs.Letter.{Letter, mailOf, words, key, waitingFor, Same, posts, posts-then, agrees, waits-same, procs-same, words-moved, held}
 use Rattle.history.specs.Letter.{held-same, label-same, Posts, texts-same, queue-same, mail-same}
 use Rattle.history.specs.Ways.{sme-both, sent-both}
-use Rattle.history.specs.Put.{Mailed, of, onlyNotices, nothing, sending, noticeFrom, posting, hasPage, pageTaken, smeMail}
+use Rattle.history.specs.Put.{Mailed, of, onlyNotices, nothing, sending, noticeFrom, posting, pageTaken, smeSends, smeMail}
 use Rattle.history.specs.Calm.{calm-only}
 use Rattle.history.specs.Told.{Told, Stands, told-as, of-none, of-here, of-other, calm-done, runs-in}
 use Rattle.history.specs.Traced.{Each, Waited, Origin, About, Stood, Turned, Lawful, posts-waited, turned-none, lawful-same}
@@ -303,14 +303,12 @@ module _ {m : List ℕ} (w : WellFormed m) (d : running m ≢ 0) where
             (named-in b n (eqb-false (pageOf m n) 0 z)) c)
 
   to-lawful : (n f a len : ℕ) → 1 ≤ n → n ≤ 15 → 1 ≤ f → f ≤ 7 → getD m a 0 ≤ longest → clear (getD m a 0) (wrapped a 1) ≡ true
-      → Lawful m (memoryOf (Model.sent m n f a (getD m a 0) len))
-      (cond (hasPage (takePage m (running m))) (sending (posting m n f a) (pageTaken (takePage m (running m)))) nothing)
+      → Lawful m (memoryOf (Model.sent m n f a (getD m a 0) len)) (smeSends m n f a)
   unfolding pageTaken
   to-lawful n f a len n1 n2 f1 f2 l2 c = go (take-page r hr b)
     where
       go : Takes m r (lists m processorList) (lists m) (view m) [] 32
-          → Lawful m (memoryOf (Model.sent m n f a (getD m a 0) len))
-          (cond (hasPage (takePage m (running m))) (sending (posting m n f a) (pageTaken (takePage m (running m)))) nothing)
+          → Lawful m (memoryOf (Model.sent m n f a (getD m a 0) len)) (smeSends m n f a)
       go (gets q m1 e z t k) =
           sent-both m Ends e n f a _ len _ (λ y. absurd (z y)) (λ y.
           let i : pageTaken (takePage m (running m)) ≡ q = rw e in
