@@ -31,8 +31,9 @@ pub record Life : Type 0 where
   pub page : ℕ
   pub since : ℕ
 
--- ---- what was put to each processor in its present life, and what it has read; how many calls there were, and in which of them each life began; the life
--- that sent the message of each page; and of each notice that was put to a processor, the life that sent the mail which the notice is about
+-- ---- what was put to each processor in its present life, and what it has read; how many calls there were, the host's changes counted with them, and in which
+-- of them each life began; the life that sent the message of each page; and of each notice that was put to a processor, the life that sent the mail which the
+-- notice is about
 pub record Past : Type 0 where
   pub put : ℕ → List Letter
   pub read : ℕ → List Letter

@@ -94,6 +94,10 @@ no-notice-for-anothers-mail = Senders.own-notices
 pub of-each-notice-it-is-known : (m : List ℕ) (h : Past) → Run m h → (p : ℕ) → Living m p → length (h .noticed p) ≡ length (onlyNotices (h .put p))
 of-each-notice-it-is-known = Senders.notices-counted
 
+pub what-it-is-noticed-of-grows : (a : Act) (m : List ℕ) (h : Past) → restarts a ≡ false → (p : ℕ) → Living m p → Living (after a m) p
+    → later a m h .noticed p ≡ h .noticed p ++ map (sentBy m (mailBy a m) h) (of p (mailBy a m .about))
+what-it-is-noticed-of-grows = Senders.noticed-grows
+
 -- how that is known. A life that goes on is the same life; one that begins is none that was: it is numbered by its call, and all before have lower numbers
 pub a-life-goes-on : (a : Act) (m : List ℕ) (h : Past) → restarts a ≡ false → (p : ℕ) → Living m p → Living (after a m) p → life (later a m h) p ≡ life h p
 a-life-goes-on = Senders.life-goes-on
