@@ -17,11 +17,13 @@ enum { BUFFER = 8200, LONGEST_PUT = 32, FORMS = 2, DIRECT = 0, BY_EXI = 1, OUTCO
 enum kind { KIND_CALLS, KIND_BROKEN, KIND_JUDGE, KIND_PARSER, KIND_CLOCK, KINDS };
 extern enum kind kind;
 
-/* generate.c: numbers that depend on the seed only */
+/* play.c: numbers that depend on the seed only, and some scene by the state and the kind */
+void start_draws(unsigned long seed);
 uint32_t below(uint32_t end);
 unsigned from_to(unsigned low, unsigned high);
 bool chance(unsigned percent);
 bool may_break(void);  /* the kind of script allows `break` */
+void keep_going(void);
 
 /* The numbers of a burst as they stand in its line; a line of 255 characters holds no more. */
 enum { LONGEST_LINE = 255, LONGEST_LIST = (LONGEST_LINE - 5) / 2 };
