@@ -8,3 +8,7 @@ bufferWords = 8200
 -- what is read ahead of a script
 abbrev pub aheadBytes : ℕ
 aheadBytes = 4096
+
+-- what is kept of the output until it is written
+abbrev pub outputBytes : ℕ
+outputBytes = 4096

@@ -12,8 +12,9 @@ use libc::STDIN_FILENO;
 fn run_script(input: i32) {
     let mut m = [0u8; sizes::BUFFER_WORDS];
     let mut old = [0u8; sizes::BUFFER_WORDS];
+    let mut output = io::buffer();
     let mut ahead = io::buffer();
-    run(input, &mut m, &mut old, &mut ahead);
+    run(input, &mut m, &mut old, &mut output, &mut ahead);
 }
 
 // Runs the script in the file that the program's argument names.

@@ -1,6 +1,8 @@
-// What a script does to the program's 8,200 words between calls: the host's store, looks, what has changed, and how much is lent.
+// What a script does to the program's 8,200 words between calls: the host's store, looks, what has changed, and how much is lent. What is printed
+// is kept at the start of the output, or written at once behind what is kept.
 use crate::sizes;
 use model::map;
+use screen::kept::write;
 use screen::lines::not_allowed;
 use screen::pieces::number;
 use screen::pieces::text;
@@ -11,7 +13,14 @@ ghost use mathlib.Core.Path.{_≡_};
 ghost use Prim.Native.Nat.{_<_, _≤_, _+_};
 ghost use lib.ListN.{length, set};
 ghost use Rattle.script.specs.Sizes.{mostNumbers};
+ghost use Rattle.screen.specs.Sizes.{lineRoom};
 ghost use Rattle.console.specs.Sizes.{bufferWords};
+
+// What a line leaves: how many words a call is lent from then on, and how many bytes of the output are kept, to be written.
+pub struct After {
+    pub lent: usize,
+    pub kept: usize,
+}
 
 // Whether the host may store at an address: page 0 and unprotected words.
 fn is_open(address: u16) -> bool {
@@ -27,26 +36,29 @@ fn is_open(address: u16) -> bool {
 fn all_open(address: u16, count: u16) -> bool
     requires { ⌜ address + count ≤ bufferWords ⌝ }
 {
-    if count == 0 {
-        return true;
+    let mut left = count;
+    while 0 < left {
+        left -= 1;
+        if is_open(address + left) {
+            continue;
+        }
+        return false;
     }
-    if is_open(address + (count - 1)) {
-        return all_open(address, count - 1);
-    }
-    false
+    true
 }
 
 // Whether the values behind the address, given[1] to given[count], are words.
 fn all_words(given: &[u16], count: usize) -> bool
     requires { ⌜ count < length (now given) ⌝ }
 {
-    if count == 0 {
-        return true;
+    let mut left = count;
+    while 0 < left {
+        if map::WORD_VALUES <= given[left] {
+            return false;
+        }
+        left -= 1;
     }
-    if given[count] < map::WORD_VALUES {
-        return all_words(given, count - 1);
-    }
-    false
+    true
 }
 
 pub fn store_word(m: &mut [u8], at: usize, value: u8)
@@ -60,44 +72,62 @@ pub fn store_word(m: &mut [u8], at: usize, value: u8)
 fn store(m: &mut [u8], at: usize, given: &[u16], count: usize)
     requires { ⌜ (at + count ≤ length (now m)) × (count < length (now given)) ⌝ }
 {
-    if count == 0 {
-        return;
+    let mut left = count;
+    while 0 < left {
+        let value = low(given[left]);
+        left -= 1;
+        m[at + left] = value;
     }
-    store_word(m, at + (count - 1), low(given[count]));
-    store(m, at, given, count - 1);
 }
 
-// The values go to any of the 8,200 words; nothing is stored where one is wrong.
-pub fn put_anywhere(m: &mut [u8], given: &[u16], address: u16, count: usize)
-    requires { ⌜ (length (now m) ≡ bufferWords) × (length (now given) ≡ mostNumbers) ⌝ }
+// The values go to any of the 8,200 words; nothing is stored where one is wrong. Answers what is kept of the output then, as each order does.
+pub fn put_anywhere(
+    m: &mut [u8],
+    output: &mut [u8],
+    kept: usize,
+    given: &[u16],
+    address: u16,
+    count: usize,
+) -> usize
+    requires { ⌜ (length (now m) ≡ bufferWords) × (length (now given) ≡ mostNumbers) × (kept + lineRoom ≤ length (now output)) ⌝ }
+    ensures { λ r. ⌜ r ≤ length (now (output .entry)) ⌝ }
 {
     let at = address as usize;
     if script::sizes::MOST_VALUES < count {
-        return not_allowed();
+        return not_allowed(output, kept);
     }
     if sizes::BUFFER_WORDS < at + count {
-        return not_allowed();
+        return not_allowed(output, kept);
     }
     if all_words(given, count) {
-        return store(m, at, given, count);
+        store(m, at, given, count);
+        return kept;
     }
-    not_allowed();
+    not_allowed(output, kept)
 }
 
 // The host's store.
-pub fn put(m: &mut [u8], given: &[u16], address: u16, count: usize)
-    requires { ⌜ (length (now m) ≡ bufferWords) × (length (now given) ≡ mostNumbers) ⌝ }
+pub fn put(
+    m: &mut [u8],
+    output: &mut [u8],
+    kept: usize,
+    given: &[u16],
+    address: u16,
+    count: usize,
+) -> usize
+    requires { ⌜ (length (now m) ≡ bufferWords) × (length (now given) ≡ mostNumbers) × (kept + lineRoom ≤ length (now output)) ⌝ }
+    ensures { λ r. ⌜ r ≤ length (now (output .entry)) ⌝ }
 {
     if script::sizes::MOST_VALUES < count {
-        return not_allowed();
+        return not_allowed(output, kept);
     }
     if sizes::BUFFER_WORDS < (address as usize) + count {
-        return not_allowed();
+        return not_allowed(output, kept);
     }
     if all_open(address, count as u16) {
-        return put_anywhere(m, given, address, count);
+        return put_anywhere(m, output, kept, given, address, count);
     }
-    not_allowed();
+    not_allowed(output, kept)
 }
 
 // So many words from a place on, a space before each.
@@ -112,23 +142,34 @@ fn tell_words(m: &[u8], at: usize, count: usize)
     tell_words(m, at + 1, count - 1);
 }
 
-pub fn look(m: &[u8], address: u16, count: u16)
-    requires { ⌜ length (now m) ≡ bufferWords ⌝ }
+// So many words, at least one, in a line.
+fn words_line(m: &[u8], at: usize, count: usize)
+    requires { ⌜ (0 < count) × (at + count ≤ length (now m)) ⌝ }
+{
+    word(m[at]);
+    tell_words(m, at + 1, count - 1);
+    text(b"\n");
+}
+
+// The words are written at once, behind what is kept.
+pub fn look(m: &[u8], output: &mut [u8], kept: usize, address: u16, count: u16) -> usize
+    requires { ⌜ (length (now m) ≡ bufferWords) × (kept + lineRoom ≤ length (now output)) ⌝ }
+    ensures { λ r. ⌜ r ≤ length (now (output .entry)) ⌝ }
 {
     let at = address as usize;
     let left = count as usize;
     if left == 0 {
-        return not_allowed();
+        return not_allowed(output, kept);
     }
     if sizes::MOST_LOOKED_AT < left {
-        return not_allowed();
+        return not_allowed(output, kept);
     }
     if sizes::BUFFER_WORDS < at + left {
-        return not_allowed();
+        return not_allowed(output, kept);
     }
-    word(m[at]);
-    tell_words(m, at + 1, left - 1);
-    text(b"\n");
+    let none = write(output, kept);
+    words_line(m, at, left);
+    none
 }
 
 // A word is compared with what it was, which it then becomes. Answers 1 where it differs.
@@ -151,9 +192,12 @@ fn change(m: &[u8], old: &mut [u8], at: usize) -> u64
     1
 }
 
-pub fn changes(m: &[u8], old: &mut [u8])
-    requires { ⌜ (length (now m) ≡ bufferWords) × (length (now old) ≡ bufferWords) ⌝ }
+// The words that have changed are written at once, behind what is kept.
+pub fn changes(m: &[u8], old: &mut [u8], output: &[u8], kept: usize) -> usize
+    requires { ⌜ (length (now m) ≡ bufferWords) × (length (now old) ≡ bufferWords) × (kept ≤ length (now output)) ⌝ }
+    ensures { λ r. ⌜ r ≡ 0 ⌝ }
 {
+    let none = write(output, kept);
     let mut at = 0;
     let mut changed = 0;
     while at < sizes::BUFFER_WORDS {
@@ -163,17 +207,20 @@ pub fn changes(m: &[u8], old: &mut [u8])
     text(b"changed ");
     number(changed);
     text(b"\n");
+    none
 }
 
 // What is lent from now on.
-pub fn lend(lent: usize, wanted: u16) -> usize
-    requires { ⌜ lent ≤ bufferWords ⌝ }
-    ensures { λ r. ⌜ r ≤ bufferWords ⌝ }
+pub fn lend(output: &mut [u8], kept: usize, lent: usize, wanted: u16) -> After
+    requires { ⌜ (lent ≤ bufferWords) × (kept + lineRoom ≤ length (now output)) ⌝ }
+    ensures { λ r. ⌜ (r .lent ≤ bufferWords) × (r .kept ≤ length (now (output .entry))) ⌝ }
 {
     let count = wanted as usize;
     if sizes::BUFFER_WORDS < count {
-        not_allowed();
-        return lent;
+        return After {
+            lent,
+            kept: not_allowed(output, kept),
+        };
     }
-    count
+    After { lent: count, kept }
 }

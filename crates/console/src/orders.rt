@@ -1,4 +1,6 @@
-// The orders of a script, each on the program's 8,200 words m, of which a call is lent the first `lent`.
+// The orders of a script, each on the program's 8,200 words m, of which a call is lent the first `lent`. What an order prints goes to the output,
+// behind the bytes that are kept there; it answers how many are kept then.
+use crate::memory::After;
 use crate::memory::changes;
 use crate::memory::lend;
 use crate::memory::look;
@@ -10,6 +12,7 @@ use model::Registers;
 use model::Verdict;
 use model::map;
 use screen::broken::broken;
+use screen::kept::write;
 use screen::lines::answer;
 use screen::lines::held;
 use screen::lines::not_allowed;
@@ -22,28 +25,50 @@ use script::Order;
 use script::Seven;
 use words::low;
 ghost use mathlib.Core.Path.{_≡_};
-ghost use Prim.Native.Nat.{_≤_};
+ghost use Prim.Native.Nat.{_≤_, _+_};
 ghost use lib.ListN.{length};
 ghost use Rattle.script.specs.Sizes.{mostNumbers};
+ghost use Rattle.screen.specs.Sizes.{lineRoom};
 ghost use Rattle.console.specs.Sizes.{bufferWords};
 ghost use Rattle.console.specs.Lists as Lists;
 
-fn fresh(m: &mut [u8], lent: usize, line: u16, divider: u16)
-    requires { ⌜ lent ≤ length (now m) ⌝ }
+fn fresh(
+    m: &mut [u8],
+    lent: usize,
+    output: &mut [u8],
+    kept: usize,
+    line: u16,
+    divider: u16,
+) -> usize
+    requires { ⌜ (lent ≤ length (now m)) × (kept + lineRoom ≤ length (now output)) ⌝ }
+    ensures { λ r. ⌜ r ≤ length (now (output .entry)) ⌝ }
 {
-    answer(kernel::fresh(&mut m[0..lent], line, divider));
+    answer(output, kept, kernel::fresh(&mut m[0..lent], line, divider))
 }
 
-fn step(m: &mut [u8], lent: usize)
-    requires { ⌜ lent ≤ length (now m) ⌝ }
+fn step(m: &mut [u8], lent: usize, output: &mut [u8], kept: usize) -> usize
+    requires { ⌜ (lent ≤ length (now m)) × (kept + lineRoom ≤ length (now output)) ⌝ }
+    ensures { λ r. ⌜ r ≤ length (now (output .entry)) ⌝ }
 {
-    answer(kernel::instruction(&mut m[0..lent]));
+    answer(output, kept, kernel::instruction(&mut m[0..lent]))
 }
 
-fn interrupt(m: &mut [u8], lent: usize, number: u16, class: u16)
-    requires { ⌜ lent ≤ length (now m) ⌝ }
+fn interrupt(
+    m: &mut [u8],
+    lent: usize,
+    output: &mut [u8],
+    kept: usize,
+    number: u16,
+    class: u16,
+) -> usize
+    requires { ⌜ (lent ≤ length (now m)) × (kept + lineRoom ≤ length (now output)) ⌝ }
+    ensures { λ r. ⌜ r ≤ length (now (output .entry)) ⌝ }
 {
-    answer(kernel::interrupt(&mut m[0..lent], number, class));
+    answer(
+        output,
+        kept,
+        kernel::interrupt(&mut m[0..lent], number, class),
+    )
 }
 
 // A number in a byte; one that is no byte as 255, which is as bad.
@@ -61,32 +86,46 @@ fn gather(list: &mut [u8], given: &[u16], count: usize)
     requires { ⌜ (count ≤ length (now list)) × (count ≤ length (now given)) ⌝ }
     ensures { λ _. ⌜ now (list .exit) ≡ Lists.gathered count (now (given .entry)) (now (list .entry)) ⌝ }
 {
-    if count == 0 {
-        return;
+    let mut left = count;
+    while 0 < left {
+        left -= 1;
+        store_word(list, left, in_byte(given[left]));
     }
-    store_word(list, count - 1, in_byte(given[count - 1]));
-    gather(list, given, count - 1);
 }
 
-fn burst(m: &mut [u8], lent: usize, given: &[u16], count: usize)
-    requires { ⌜ (lent ≤ length (now m)) × (length (now given) ≡ mostNumbers) ⌝ }
+fn burst(
+    m: &mut [u8],
+    lent: usize,
+    output: &mut [u8],
+    kept: usize,
+    given: &[u16],
+    count: usize,
+) -> usize
+    requires { ⌜ (lent ≤ length (now m)) × (length (now given) ≡ mostNumbers) × (kept + lineRoom ≤ length (now output)) ⌝ }
+    ensures { λ r. ⌜ r ≤ length (now (output .entry)) ⌝ }
 {
     if script::sizes::MOST_NUMBERS < count {
-        return not_allowed();
+        return not_allowed(output, kept);
     }
     let mut list = [0u8; script::sizes::MOST_NUMBERS];
     gather(&mut list, given, count);
-    answer(kernel::burst(&mut m[0..lent], &list[0..count]));
+    answer(
+        output,
+        kept,
+        kernel::burst(&mut m[0..lent], &list[0..count]),
+    )
 }
 
-fn registers(m: &[u8], lent: usize)
-    requires { ⌜ lent ≤ length (now m) ⌝ }
+fn registers(m: &[u8], lent: usize, output: &mut [u8], kept: usize) -> usize
+    requires { ⌜ (lent ≤ length (now m)) × (kept + lineRoom ≤ length (now output)) ⌝ }
+    ensures { λ r. ⌜ r ≤ length (now (output .entry)) ⌝ }
 {
-    held(kernel::read_registers(&m[0..lent]));
+    held(output, kept, kernel::read_registers(&m[0..lent]))
 }
 
-fn set(m: &mut [u8], lent: usize, wanted: Seven)
-    requires { ⌜ lent ≤ length (now m) ⌝ }
+fn set(m: &mut [u8], lent: usize, output: &mut [u8], kept: usize, wanted: Seven) -> usize
+    requires { ⌜ (lent ≤ length (now m)) × (kept + lineRoom ≤ length (now output)) ⌝ }
+    ensures { λ r. ⌜ r ≤ length (now (output .entry)) ⌝ }
 {
     let registers = Registers {
         a: wanted.a,
@@ -98,13 +137,18 @@ fn set(m: &mut [u8], lent: usize, wanted: Seven)
         w: wanted.w,
         stopped: 0,
     };
-    answer(kernel::set_registers(&mut m[0..lent], registers));
+    answer(
+        output,
+        kept,
+        kernel::set_registers(&mut m[0..lent], registers),
+    )
 }
 
-fn tell_judged(m: &[u8], lent: usize)
-    requires { ⌜ lent ≤ length (now m) ⌝ }
+fn tell_judged(m: &[u8], lent: usize, output: &mut [u8], kept: usize) -> usize
+    requires { ⌜ (lent ≤ length (now m)) × (kept + lineRoom ≤ length (now output)) ⌝ }
+    ensures { λ r. ⌜ r ≤ length (now (output .entry)) ⌝ }
 {
-    verdict(judge(&m[0..lent]));
+    verdict(output, kept, judge(&m[0..lent]))
 }
 
 // A memory that is not lent whole has nothing to show.
@@ -114,45 +158,52 @@ fn not_lent(refusal: u8) {
     text(b")\n");
 }
 
-// The state; of a memory that the judge refuses, whose lists could mislead, only what is broken.
-fn show(m: &[u8], lent: usize)
-    requires { ⌜ (length (now m) ≡ bufferWords) × (lent ≤ bufferWords) ⌝ }
+// The state; of a memory that the judge refuses, whose lists could mislead, only what is broken. It is written at once, behind what is kept.
+fn show(m: &[u8], lent: usize, output: &[u8], kept: usize) -> usize
+    requires { ⌜ (length (now m) ≡ bufferWords) × (lent ≤ bufferWords) × (kept ≤ length (now output)) ⌝ }
+    ensures { λ r. ⌜ r ≡ 0 ⌝ }
 {
+    let none = write(output, kept);
     match judge(&m[0..lent]) {
         Verdict::WellFormed => state(&m[0..map::MEMORY_WORDS]),
         Verdict::Refused(refusal) => not_lent(refusal),
         Verdict::RefusedAt(refusal, place) => broken(refusal, place),
     }
+    none
 }
 
-// Carries out the order of a line, with the numbers given there, and answers what is lent from now on.
+// Carries out the order of a line, with the numbers given there. There is room in the output for a line.
 pub fn obey(
     m: &mut [u8],
     old: &mut [u8],
+    output: &mut [u8],
     given: &[u16],
     order: Order,
-    lent: usize,
+    place: After,
     line_number: u64,
-) -> usize
-    requires { ⌜ (length (now m) ≡ bufferWords) × (length (now old) ≡ bufferWords) × (length (now given) ≡ mostNumbers) × (lent ≤ bufferWords) ⌝ }
-    ensures { λ r. ⌜ r ≤ bufferWords ⌝ }
+) -> After
+    requires { ⌜ (length (now m) ≡ bufferWords) × (length (now old) ≡ bufferWords) × (length (now given) ≡ mostNumbers) × (place .lent ≤ bufferWords)
+        × (place .kept + lineRoom ≤ length (now output)) ⌝ }
+    ensures { λ r. ⌜ (r .lent ≤ bufferWords) × (r .kept ≤ length (now (output .entry))) ⌝ }
 {
-    match order {
-        Order::Nothing => {}
-        Order::NotUnderstood => not_understood(line_number),
-        Order::Fresh(line, divider) => fresh(m, lent, line, divider),
-        Order::Step => step(m, lent),
-        Order::Interrupt(number, class) => interrupt(m, lent, number, class),
-        Order::Burst(count) => burst(m, lent, given, count),
-        Order::Registers => registers(m, lent),
-        Order::Set(wanted) => set(m, lent, wanted),
-        Order::Judge => tell_judged(m, lent),
-        Order::Put(address, count) => put(m, given, address, count),
-        Order::Break(address, count) => put_anywhere(m, given, address, count),
-        Order::Length(wanted) => return lend(lent, wanted),
-        Order::Words(address, count) => look(m, address, count),
-        Order::Changes => changes(m, old),
-        Order::Show => show(m, lent),
-    }
-    lent
+    let lent = place.lent;
+    let kept = place.kept;
+    let then = match order {
+        Order::Nothing => kept,
+        Order::NotUnderstood => not_understood(output, kept, line_number),
+        Order::Fresh(line, divider) => fresh(m, lent, output, kept, line, divider),
+        Order::Step => step(m, lent, output, kept),
+        Order::Interrupt(number, class) => interrupt(m, lent, output, kept, number, class),
+        Order::Burst(count) => burst(m, lent, output, kept, given, count),
+        Order::Registers => registers(m, lent, output, kept),
+        Order::Set(wanted) => set(m, lent, output, kept, wanted),
+        Order::Judge => tell_judged(m, lent, output, kept),
+        Order::Put(address, count) => put(m, output, kept, given, address, count),
+        Order::Break(address, count) => put_anywhere(m, output, kept, given, address, count),
+        Order::Length(wanted) => return lend(output, kept, lent, wanted),
+        Order::Words(address, count) => look(m, output, kept, address, count),
+        Order::Changes => changes(m, old, output, kept),
+        Order::Show => show(m, lent, output, kept),
+    };
+    After { lent, kept: then }
 }

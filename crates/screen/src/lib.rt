@@ -1,6 +1,7 @@
-// What the script program prints: pieces of a line, the lines of the answers, the state of a well-formed memory for a person to read, and what is
-// broken of any other.
+// What the script program prints: pieces of a line, written at once or kept, the lines of the answers, the state of a well-formed memory for a person
+// to read, and what is broken of any other.
 pub mod broken;
+pub mod kept;
 pub mod lines;
 pub mod pieces;
 mod rows;

@@ -1,94 +1,131 @@
-// The lines that the script language fixes: one for each answer of a call, and those of an order that is not carried out.
-use crate::pieces::address;
-use crate::pieces::number;
-use crate::pieces::text;
-use crate::pieces::word;
+// The lines that the script language fixes: one for each answer of a call, and those of an order that is not carried out. They are kept, to be
+// written with others.
+use crate::kept::address;
+use crate::kept::number;
+use crate::kept::text;
+use crate::kept::word;
 use model::Answer;
 use model::Held;
 use model::Registers;
 use model::Verdict;
+ghost use mathlib.Core.Path.{_≡_};
+ghost use Prim.Native.Nat.{_≤_, _+_};
+ghost use lib.ListN.{length};
+ghost use Rattle.screen.specs.Sizes.{numberRoom, lineRoom};
 
-fn refused(refusal: u8) {
-    text(b"refused ");
-    word(refusal);
-    text(b"\n");
+fn refused(output: &mut [u8], kept: usize, refusal: u8) -> usize
+    requires { ⌜ kept + lineRoom ≤ length (now output) ⌝ }
+    ensures { λ r. ⌜ r ≤ length (now (output .entry)) ⌝ }
+{
+    let begun = text(output, kept, b"refused ");
+    let told = word(output, begun, refusal);
+    text(output, told, b"\n")
 }
 
-fn refused_at(refusal: u8, place: u16) {
-    text(b"refused ");
-    word(refusal);
-    text(b" at ");
-    address(place);
-    text(b"\n");
+fn refused_at(output: &mut [u8], kept: usize, refusal: u8, place: u16) -> usize
+    requires { ⌜ kept + lineRoom ≤ length (now output) ⌝ }
+    ensures { λ r. ⌜ r ≤ length (now (output .entry)) ⌝ }
+{
+    let begun = text(output, kept, b"refused ");
+    let told = word(output, begun, refusal);
+    let parted = text(output, told, b" at ");
+    let placed = address(output, parted, place);
+    text(output, placed, b"\n")
 }
 
-fn handed_out(program: u16, arguments: u16) {
-    text(b"handed out ");
-    address(program);
-    text(b" ");
-    address(arguments);
-    text(b"\n");
+fn handed_out(output: &mut [u8], kept: usize, program: u16, arguments: u16) -> usize
+    requires { ⌜ kept + lineRoom ≤ length (now output) ⌝ }
+    ensures { λ r. ⌜ r ≤ length (now (output .entry)) ⌝ }
+{
+    let begun = text(output, kept, b"handed out ");
+    let told = address(output, begun, program);
+    let both = register(output, told, arguments);
+    text(output, both, b"\n")
 }
 
-fn faulted(fault: u8, name: u8) {
-    text(b"fault ");
-    word(fault);
-    text(b" by ");
-    word(name);
-    text(b"\n");
+fn faulted(output: &mut [u8], kept: usize, fault: u8, name: u8) -> usize
+    requires { ⌜ kept + lineRoom ≤ length (now output) ⌝ }
+    ensures { λ r. ⌜ r ≤ length (now (output .entry)) ⌝ }
+{
+    let begun = text(output, kept, b"fault ");
+    let told = word(output, begun, fault);
+    let parted = text(output, told, b" by ");
+    let named = word(output, parted, name);
+    text(output, named, b"\n")
 }
 
-pub fn answer(given: Answer) {
+pub fn answer(output: &mut [u8], kept: usize, given: Answer) -> usize
+    requires { ⌜ kept + lineRoom ≤ length (now output) ⌝ }
+    ensures { λ r. ⌜ r ≤ length (now (output .entry)) ⌝ }
+{
     match given {
-        Answer::Done => text(b"done\n"),
-        Answer::Waits => text(b"waits\n"),
-        Answer::HandedOut(program, arguments) => handed_out(program, arguments),
-        Answer::Fault(n, name) => faulted(n, name),
-        Answer::Refused(n) => refused(n),
-        Answer::RefusedAt(n, place) => refused_at(n, place),
+        Answer::Done => text(output, kept, b"done\n"),
+        Answer::Waits => text(output, kept, b"waits\n"),
+        Answer::HandedOut(program, arguments) => handed_out(output, kept, program, arguments),
+        Answer::Fault(n, name) => faulted(output, kept, n, name),
+        Answer::Refused(n) => refused(output, kept, n),
+        Answer::RefusedAt(n, place) => refused_at(output, kept, n, place),
     }
 }
 
 // A space, and a register.
-fn register(value: u16) {
-    text(b" ");
-    address(value);
+fn register(output: &mut [u8], kept: usize, value: u16) -> usize
+    requires { ⌜ kept + (1 + numberRoom) ≤ length (now output) ⌝ }
+    ensures { λ r. ⌜ (kept ≤ r) × (r ≤ kept + (1 + numberRoom)) ⌝ }
+{
+    let begun = text(output, kept, b" ");
+    address(output, begun, value)
 }
 
-fn registers(held: Registers) {
-    text(b"registers");
-    register(held.a);
-    register(held.s);
-    register(held.p);
-    register(held.z);
-    register(held.ci);
-    register(held.lr);
-    register(held.w);
-    text(b"\n");
+fn registers(output: &mut [u8], kept: usize, held: Registers) -> usize
+    requires { ⌜ kept + lineRoom ≤ length (now output) ⌝ }
+    ensures { λ r. ⌜ r ≤ length (now (output .entry)) ⌝ }
+{
+    let begun = text(output, kept, b"registers");
+    let a = register(output, begun, held.a);
+    let s = register(output, a, held.s);
+    let p = register(output, s, held.p);
+    let z = register(output, p, held.z);
+    let ci = register(output, z, held.ci);
+    let lr = register(output, ci, held.lr);
+    let w = register(output, lr, held.w);
+    text(output, w, b"\n")
 }
 
-pub fn held(given: Held) {
+pub fn held(output: &mut [u8], kept: usize, given: Held) -> usize
+    requires { ⌜ kept + lineRoom ≤ length (now output) ⌝ }
+    ensures { λ r. ⌜ r ≤ length (now (output .entry)) ⌝ }
+{
     match given {
-        Held::Has(held) => registers(held),
-        Held::Refused(n) => refused(n),
-        Held::RefusedAt(n, place) => refused_at(n, place),
+        Held::Has(held) => registers(output, kept, held),
+        Held::Refused(n) => refused(output, kept, n),
+        Held::RefusedAt(n, place) => refused_at(output, kept, n, place),
     }
 }
 
-pub fn verdict(given: Verdict) {
+pub fn verdict(output: &mut [u8], kept: usize, given: Verdict) -> usize
+    requires { ⌜ kept + lineRoom ≤ length (now output) ⌝ }
+    ensures { λ r. ⌜ r ≤ length (now (output .entry)) ⌝ }
+{
     match given {
-        Verdict::WellFormed => text(b"well-formed\n"),
-        Verdict::Refused(n) => refused(n),
-        Verdict::RefusedAt(n, place) => refused_at(n, place),
+        Verdict::WellFormed => text(output, kept, b"well-formed\n"),
+        Verdict::Refused(n) => refused(output, kept, n),
+        Verdict::RefusedAt(n, place) => refused_at(output, kept, n, place),
     }
 }
 
-pub fn not_allowed() {
-    text(b"not allowed\n");
+pub fn not_allowed(output: &mut [u8], kept: usize) -> usize
+    requires { ⌜ kept + lineRoom ≤ length (now output) ⌝ }
+    ensures { λ r. ⌜ r ≤ length (now (output .entry)) ⌝ }
+{
+    text(output, kept, b"not allowed\n")
 }
 
-pub fn not_understood(line: u64) {
-    text(b"line ");
-    number(line);
-    text(b": not understood\n");
+pub fn not_understood(output: &mut [u8], kept: usize, line: u64) -> usize
+    requires { ⌜ kept + lineRoom ≤ length (now output) ⌝ }
+    ensures { λ r. ⌜ r ≤ length (now (output .entry)) ⌝ }
+{
+    let begun = text(output, kept, b"line ");
+    let told = number(output, begun, line);
+    text(output, told, b": not understood\n")
 }

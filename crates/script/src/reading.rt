@@ -1,6 +1,7 @@
 // The parts of a line: blanks, words and numbers. What each function answers is said in specs/Script.antt.
 use crate::sizes;
 ghost use mathlib.Core.Path.{_≡_};
+ghost use mathlib.Core.Bool.{cond};
 ghost use Prim.Native.Nat.{_<_, _≤_, _+_};
 ghost use lib.ListN.{length};
 ghost use Rattle.script.specs.Sizes.{noNumber, mostNumbers, wrongNumbers};
@@ -18,14 +19,17 @@ pub fn skip(line: &[u8], at: usize, left: usize) -> usize
     requires { ⌜ at + left ≡ length (now line) ⌝ }
     ensures { λ r. ⌜ (r ≡ Script.skip left (now (line .entry)) at) × (r ≤ length (now (line .entry))) ⌝ }
 {
-    if left == 0 {
-        return at;
+    let mut next = at;
+    let mut rest = left;
+    while 0 < rest {
+        if line[next] == b' ' {
+            next += 1;
+            rest -= 1;
+            continue;
+        }
+        return next;
     }
-    let character = line[at];
-    if character == b' ' {
-        return skip(line, at + 1, left - 1);
-    }
-    at
+    next
 }
 
 // Whether a word ends before a character.
@@ -43,14 +47,16 @@ pub fn word_end(line: &[u8], at: usize, left: usize) -> usize
     requires { ⌜ at + left ≡ length (now line) ⌝ }
     ensures { λ r. ⌜ (r ≡ Script.wordEnd left (now (line .entry)) at) × (at ≤ r) × (r ≤ length (now (line .entry))) ⌝ }
 {
-    if left == 0 {
-        return at;
+    let mut next = at;
+    let mut rest = left;
+    while 0 < rest {
+        if parts(line[next]) {
+            return next;
+        }
+        next += 1;
+        rest -= 1;
     }
-    let character = line[at];
-    if parts(character) {
-        return at;
-    }
-    word_end(line, at + 1, left - 1)
+    next
 }
 
 // Whether the line, or what counts of it, ends at a place.
@@ -99,14 +105,20 @@ fn digits(line: &[u8], at: usize, left: usize, value: u32) -> Figures
     requires { ⌜ (at + left ≡ length (now line)) × (value ≤ noNumber) ⌝ }
     ensures { λ r. ⌜ (r ≡ Script.digits left (now (line .entry)) at value) × (r .next ≤ length (now (line .entry))) ⌝ }
 {
-    if left == 0 {
-        return Figures { value, next: at };
+    let mut known = value;
+    let mut next = at;
+    let mut rest = left;
+    while 0 < rest {
+        let character = line[next];
+        if is_digit(character) {
+            known = more(known, character);
+            next += 1;
+            rest -= 1;
+            continue;
+        }
+        return Figures { value: known, next };
     }
-    let character = line[at];
-    if is_digit(character) {
-        return digits(line, at + 1, left - 1, more(value, character));
-    }
-    Figures { value, next: at }
+    Figures { value: known, next }
 }
 
 // The number behind the blanks from `at` on.
@@ -133,24 +145,37 @@ fn keep(given: &mut [u16], at: usize, value: u16)
     given[at] = value;
 }
 
+// How many numbers there are where there is room for none: the line must have ended.
+fn all_given(line: &[u8], at: usize) -> usize
+    requires { ⌜ at ≤ length (now line) ⌝ }
+    ensures { λ r. ⌜ (r ≡ cond (Script.ended (now (line .entry)) at) mostNumbers wrongNumbers) × (r ≤ wrongNumbers) ⌝ }
+{
+    if ended(line, at) {
+        return sizes::MOST_NUMBERS;
+    }
+    sizes::WRONG_NUMBERS
+}
+
 // The numbers from `at` on go to `given`, which has room for `left` more. Answers how many it has then, or that one is wrong or too many.
 pub fn numbers(line: &[u8], at: usize, given: &mut [u16], left: usize) -> usize
     requires { ⌜ (at ≤ length (now line)) × (length (now given) ≡ mostNumbers) × (left ≤ mostNumbers) ⌝ }
     ensures { λ r. ⌜ (read r (now (given .exit)) ≡ Script.numbers left (now (line .entry)) at (now (given .entry))) × (r ≤ wrongNumbers) ⌝ }
 {
-    if ended(line, at) {
-        return sizes::MOST_NUMBERS - left;
+    let mut next = at;
+    let mut room = left;
+    while 0 < room {
+        if ended(line, next) {
+            return sizes::MOST_NUMBERS - room;
+        }
+        let figures = number(line, next);
+        if sizes::LARGEST_NUMBER < figures.value {
+            return sizes::WRONG_NUMBERS;
+        }
+        keep(given, sizes::MOST_NUMBERS - room, figures.value as u16);
+        next = figures.next;
+        room -= 1;
     }
-    if left == 0 {
-        return sizes::WRONG_NUMBERS;
-    }
-    let figures = number(line, at);
-    if sizes::LARGEST_NUMBER < figures.value {
-        return sizes::WRONG_NUMBERS;
-    }
-    let count = sizes::MOST_NUMBERS - left;
-    keep(given, count, figures.value as u16);
-    numbers(line, figures.next, given, left - 1)
+    all_given(line, next)
 }
 
 // Whether the first `count` characters of a word stand at a place.
@@ -158,13 +183,15 @@ fn same(line: &[u8], at: usize, word: &[u8], count: usize) -> bool
     requires { ⌜ (at + count ≤ length (now line)) × (count ≤ length (now word)) ⌝ }
     ensures { λ r. ⌜ r ≡ Script.same count (now (line .entry)) at (now (word .entry)) ⌝ }
 {
-    if count == 0 {
-        return true;
+    let mut left = count;
+    while 0 < left {
+        left -= 1;
+        if line[at + left] == word[left] {
+            continue;
+        }
+        return false;
     }
-    if line[at + (count - 1)] == word[count - 1] {
-        return same(line, at, word, count - 1);
-    }
-    false
+    true
 }
 
 // Whether a word stands between two places.
