@@ -1,4 +1,5 @@
--- Laws of the parser, a law for each way through the code.
+-- Laws of the parser, a law for each way through the code. A loop's laws begin with its invariant, that what is left to read decides; z is what the whole
+-- comes to.
 use Prim.Native.Nat.{ℕ, zero, suc, _+_, _-_, _≤_, _<_}
 use mathlib.Core.Path.{_≡_, refl}
 use mathlib.Core.Bool.{Bool, true, false, cond}
@@ -13,55 +14,56 @@ use Rattle.script.specs.declared.Order.{Order}
 use Rattle.script.specs.declared.Order.the-variants.{Nothing, NotUnderstood}
 use Rattle.script.specs.Script.{skip, parts, wordEnd, ends, ended, isDigit, more, digits, number, keep, numbers, same, isWord}
 use Rattle.script.specs.Script.{counted, values, valued, callOrder, ordered, parse}
+use Rattle.script.specs.Script.{Read}
 use Rattle.script.specs.Script.Read.{read}
 use Rattle.script.specs.Script.Parsed.{parsed}
 
 module _ (s : List ℕ) where
-  pub skip-none : (n a : ℕ) → n ≡ 0 → a ≡ skip n s a
+  pub skip-none : (n a z : ℕ) → skip n s a ≡ z → n ≤ 0 → a ≡ z
   unfolding skip
-  skip-none zero a e = refl
-  skip-none (suc n) a e = absurd (omega arith)
+  skip-none zero a z i e = i
+  skip-none (suc n) a z i e = absurd (omega arith)
 
-  pub skip-on : (n a r : ℕ) → (n ≡ 0 → ⊥) → getD s a 0 ≡ space → r ≡ skip (n - 1) s (a + 1) → r ≡ skip n s a
+  pub skip-on : (n a z : ℕ) → skip n s a ≡ z → 0 < n → getD s a 0 ≡ space → skip (n - 1) s (a + 1) ≡ z
   unfolding skip
-  skip-on zero a r o e h = absurd (o refl)
-  skip-on (suc n) a r o e h = rw (eq-eqb (getD s a 0) space e, skip) (simp sub-one at h)
+  skip-on zero a z i o e = absurd (omega arith)
+  skip-on (suc n) a z i o e = simp sub-one (rw (eq-eqb (getD s a 0) space e, skip) at i)
 
-  pub skip-end : (n a : ℕ) → (getD s a 0 ≡ space → ⊥) → a ≡ skip n s a
+  pub skip-end : (n a z : ℕ) → skip n s a ≡ z → (getD s a 0 ≡ space → ⊥) → a ≡ z
   unfolding skip
-  skip-end zero a e = refl
-  skip-end (suc n) a e = rw (ne-eqb (getD s a 0) space e, skip)
+  skip-end zero a z i e = i
+  skip-end (suc n) a z i e = rw (ne-eqb (getD s a 0) space e, skip) at i
 
-  pub wordEnd-none : (n a : ℕ) → n ≡ 0 → a ≡ wordEnd n s a
+  pub wordEnd-none : (n a z : ℕ) → wordEnd n s a ≡ z → n ≤ 0 → a ≡ z
   unfolding wordEnd
-  wordEnd-none zero a e = refl
-  wordEnd-none (suc n) a e = absurd (omega arith)
+  wordEnd-none zero a z i e = i
+  wordEnd-none (suc n) a z i e = absurd (omega arith)
 
-  pub wordEnd-here : (n a : ℕ) (b : Bool) → b ≡ parts (getD s a 0) → b ≡ true → a ≡ wordEnd n s a
+  pub wordEnd-here : (n a z : ℕ) (b : Bool) → wordEnd n s a ≡ z → b ≡ parts (getD s a 0) → b ≡ true → a ≡ z
   unfolding wordEnd
-  wordEnd-here zero a b e h = refl
-  wordEnd-here (suc n) a b e h = rw (← e, h, wordEnd)
+  wordEnd-here zero a z b i e h = i
+  wordEnd-here (suc n) a z b i e h = rw (← e, h, wordEnd) at i
 
-  pub wordEnd-on : (n a r : ℕ) (b : Bool) → (n ≡ 0 → ⊥) → b ≡ parts (getD s a 0) → b ≡ false → r ≡ wordEnd (n - 1) s (a + 1) → r ≡ wordEnd n s a
+  pub wordEnd-on : (n a z : ℕ) (b : Bool) → wordEnd n s a ≡ z → 0 < n → b ≡ parts (getD s a 0) → b ≡ false → wordEnd (n - 1) s (a + 1) ≡ z
   unfolding wordEnd
-  wordEnd-on zero a r b o e h er = absurd (o refl)
-  wordEnd-on (suc n) a r b o e h er = rw (← e, h, wordEnd) (simp sub-one at er)
+  wordEnd-on zero a z b i o e h = absurd (omega arith)
+  wordEnd-on (suc n) a z b i o e h = simp sub-one (rw (← e, h, wordEnd) at i)
 
-  pub digits-none : (n a v : ℕ) → n ≡ 0 → record { value = v; next = a } ≡ digits n s a v
+  pub digits-none : (n a v : ℕ) (z : Figures) → digits n s a v ≡ z → n ≤ 0 → record { value = v; next = a } ≡ z
   unfolding digits
-  digits-none zero a v e = refl
-  digits-none (suc n) a v e = absurd (omega arith)
+  digits-none zero a v z i e = i
+  digits-none (suc n) a v z i e = absurd (omega arith)
 
-  pub digits-end : (n a v : ℕ) (b : Bool) → b ≡ isDigit (getD s a 0) → b ≡ false → record { value = v; next = a } ≡ digits n s a v
+  pub digits-end : (n a v : ℕ) (z : Figures) (b : Bool) → digits n s a v ≡ z → b ≡ isDigit (getD s a 0) → b ≡ false → record { value = v; next = a } ≡ z
   unfolding digits
-  digits-end zero a v b e h = refl
-  digits-end (suc n) a v b e h = rw (← e, h, digits)
+  digits-end zero a v z b i e h = i
+  digits-end (suc n) a v z b i e h = rw (← e, h, digits) at i
 
-  pub digits-on : (n a v w : ℕ) (b : Bool) (r : Figures) → (n ≡ 0 → ⊥) → b ≡ isDigit (getD s a 0) → b ≡ true → w ≡ more v (getD s a 0)
-      → r ≡ digits (n - 1) s (a + 1) w → r ≡ digits n s a v
+  pub digits-on : (n a v w : ℕ) (z : Figures) (b : Bool) → digits n s a v ≡ z → 0 < n → b ≡ isDigit (getD s a 0) → b ≡ true → w ≡ more v (getD s a 0)
+      → digits (n - 1) s (a + 1) w ≡ z
   unfolding digits
-  digits-on zero a v w b r o e h ew er = absurd (o refl)
-  digits-on (suc n) a v w b r o e h ew er = rw (← e, h, digits, ← ew) (simp sub-one at er)
+  digits-on zero a v w z b i o e h ew = absurd (omega arith)
+  digits-on (suc n) a v w z b i o e h ew = simp sub-one (rw (← e, h, digits, ← ew) at i)
 
   module _ (a b : ℕ) (d : Figures) (eb : b ≡ skip (length s - a) s a) (ed : d ≡ digits (length s - b) s b 0) where
     pub number-none : d .next ≡ b → record { value = noNumber; next = b } ≡ number s a
@@ -72,45 +74,56 @@ module _ (s : List ℕ) where
     unfolding number
     number-is z = rw (← eb, ← ed, ne-eqb (d .next) b z)
 
+  module _ (a : ℕ) (b : Bool) (e : b ≡ ended s a) where
+    pub given-all : b ≡ true → mostNumbers ≡ cond (ended s a) mostNumbers wrongNumbers
+    given-all h = rw (← e, h)
+
+    pub given-more : b ≡ false → wrongNumbers ≡ cond (ended s a) mostNumbers wrongNumbers
+    given-more h = rw (← e, h)
+
   module _ (v : List ℕ) where
-    pub numbers-ended : (n a : ℕ) (b : Bool) → b ≡ ended s a → b ≡ true → read (mostNumbers - n) v ≡ numbers n s a v
+    pub numbers-ended : (n a : ℕ) (z : Read) (b : Bool) → numbers n s a v ≡ z → b ≡ ended s a → b ≡ true → read (mostNumbers - n) v ≡ z
     unfolding numbers
-    numbers-ended zero a b e h = rw (← e, h, numbers)
-    numbers-ended (suc n) a b e h = rw (← e, h, numbers)
+    numbers-ended zero a z b i e h = rw (← e, h, numbers) at i
+    numbers-ended (suc n) a z b i e h = rw (← e, h, numbers) at i
 
-    pub numbers-full : (n a : ℕ) (b : Bool) → n ≡ 0 → b ≡ ended s a → b ≡ false → read wrongNumbers v ≡ numbers n s a v
+    pub numbers-full : (n a k : ℕ) (z : Read) → numbers n s a v ≡ z → n ≤ 0 → k ≡ cond (ended s a) mostNumbers wrongNumbers → read k v ≡ z
     unfolding numbers
-    numbers-full zero a b z e h = rw (← e, h, numbers)
-    numbers-full (suc n) a b z e h = absurd (omega arith)
+    numbers-full zero a k z i o e = go (ended s a) i e
+      where
+        go : (b : Bool) → cond b (read mostNumbers v) (read wrongNumbers v) ≡ z → k ≡ cond b mostNumbers wrongNumbers → read k v ≡ z
+        go true i e = rw e i
+        go false i e = rw e i
+    numbers-full (suc n) a k z i o e = absurd (omega arith)
 
-    pub numbers-wrong : (n a : ℕ) (b : Bool) (x : Figures) → (n ≡ 0 → ⊥) → b ≡ ended s a → b ≡ false → x ≡ number s a → largestNumber < x .value
-        → read wrongNumbers v ≡ numbers n s a v
+    pub numbers-wrong : (n a : ℕ) (z : Read) (b : Bool) (x : Figures) → numbers n s a v ≡ z → 0 < n → b ≡ ended s a → b ≡ false → x ≡ number s a
+        → largestNumber < x .value → read wrongNumbers v ≡ z
     unfolding numbers
-    numbers-wrong zero a b x o e h ex l = absurd (o refl)
-    numbers-wrong (suc n) a b x o e h ex l = rw (← e, h, numbers, ← ex, lt-ltb largestNumber (x .value) l)
+    numbers-wrong zero a z b x i o e h ex l = absurd (omega arith)
+    numbers-wrong (suc n) a z b x i o e h ex l = rw (← e, h, numbers, ← ex, lt-ltb largestNumber (x .value) l) at i
 
-    pub numbers-on : (n a i k : ℕ) (b : Bool) (x : Figures) (v₁ v₂ : List ℕ) → (n ≡ 0 → ⊥) → b ≡ ended s a → b ≡ false → x ≡ number s a
-        → x .value ≤ largestNumber → i ≡ mostNumbers - n → v₁ ≡ keep v i (x .value) → read k v₂ ≡ numbers (n - 1) s (x .next) v₁ → read k v₂ ≡ numbers n s a v
+    pub numbers-on : (n a : ℕ) (z : Read) (b : Bool) (x : Figures) (v₁ : List ℕ) → numbers n s a v ≡ z → 0 < n → b ≡ ended s a → b ≡ false
+        → x ≡ number s a → x .value ≤ largestNumber → v₁ ≡ keep v (mostNumbers - n) (x .value) → numbers (n - 1) s (x .next) v₁ ≡ z
     unfolding numbers
-    numbers-on zero a i k b x v₁ v₂ o e h ex l ei e₁ e₂ = absurd (o refl)
-    numbers-on (suc n) a i k b x v₁ v₂ o e h ex l ei e₁ e₂ =
-        rw (← e, h, numbers, ← ex, le-ltb largestNumber (x .value) l, ← ex, ← ei, ← e₁) (simp sub-one at e₂)
+    numbers-on zero a z b x v₁ i o e h ex l e₁ = absurd (omega arith)
+    numbers-on (suc n) a z b x v₁ i o e h ex l e₁ =
+        simp sub-one (rw (← e, h, numbers, ← ex, le-ltb largestNumber (x .value) l, ← ex, ← e₁) at i)
 
   module _ (a : ℕ) (w : List ℕ) where
-    pub same-none : (n : ℕ) → n ≡ 0 → true ≡ same n s a w
+    pub same-none : (n : ℕ) (z : Bool) → same n s a w ≡ z → n ≤ 0 → true ≡ z
     unfolding same
-    same-none zero e = refl
-    same-none (suc n) e = absurd (omega arith)
+    same-none zero z i e = i
+    same-none (suc n) z i e = absurd (omega arith)
 
-    pub same-on : (n : ℕ) (r : Bool) → (n ≡ 0 → ⊥) → getD s (a + (n - 1)) 0 ≡ getD w (n - 1) 0 → r ≡ same (n - 1) s a w → r ≡ same n s a w
+    pub same-on : (n : ℕ) (z : Bool) → same n s a w ≡ z → 0 < n → getD s (a + (n - 1)) 0 ≡ getD w (n - 1) 0 → same (n - 1) s a w ≡ z
     unfolding same
-    same-on zero r o e er = absurd (o refl)
-    same-on (suc n) r o e er = let g = simp sub-one at e in rw (eq-eqb (getD s (a + n) 0) (getD w n 0) g, same) (simp sub-one at er)
+    same-on zero z i o e = absurd (omega arith)
+    same-on (suc n) z i o e = let g = simp sub-one at e in simp sub-one (rw (eq-eqb (getD s (a + n) 0) (getD w n 0) g, same) at i)
 
-    pub same-not : (n : ℕ) → (n ≡ 0 → ⊥) → (getD s (a + (n - 1)) 0 ≡ getD w (n - 1) 0 → ⊥) → false ≡ same n s a w
+    pub same-not : (n : ℕ) (z : Bool) → same n s a w ≡ z → 0 < n → (getD s (a + (n - 1)) 0 ≡ getD w (n - 1) 0 → ⊥) → false ≡ z
     unfolding same
-    same-not zero o e = absurd (o refl)
-    same-not (suc n) o e = let g = simp sub-one at e in rw (ne-eqb (getD s (a + n) 0) (getD w n 0) g, same)
+    same-not zero z i o e = absurd (omega arith)
+    same-not (suc n) z i o e = let g = simp sub-one at e in rw (ne-eqb (getD s (a + n) 0) (getD w n 0) g, same) at i
 
     pub isWord-is : (e : ℕ) (b : Bool) → e - a ≡ length w → b ≡ same (length w) s a w → b ≡ isWord s a e w
     unfolding isWord
@@ -171,6 +184,8 @@ pub ruleset reads = (
   digits-on,
   number-none,
   number-is,
+  given-all,
+  given-more,
   numbers-ended,
   numbers-full,
   numbers-wrong,
