@@ -14,7 +14,7 @@ pub fn write(output: &[u8], kept: usize) -> usize
     requires { ⌜ kept ≤ length (now output) ⌝ }
     ensures { λ r. ⌜ r ≡ 0 ⌝ }
 {
-    io::write_all(STDOUT_FILENO, &output[..kept]);
+    io::write_all(STDOUT_FILENO, &output[0..kept]);
     0
 }
 

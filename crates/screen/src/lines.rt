@@ -9,7 +9,7 @@ use model::Held;
 use model::Registers;
 use model::Verdict;
 ghost use mathlib.Core.Path.{_≡_};
-ghost use Prim.Native.Nat.{_≤_, _+_};
+ghost use Prim.Native.Nat.{_≤_, _+_, _*_};
 ghost use lib.ListN.{length};
 ghost use Rattle.screen.specs.Sizes.{numberRoom, lineRoom};
 
@@ -77,19 +77,35 @@ fn register(output: &mut [u8], kept: usize, value: u16) -> usize
     address(output, begun, value)
 }
 
+// The registers A, S, P and Z.
+fn first_four(output: &mut [u8], kept: usize, held: Registers) -> usize
+    requires { ⌜ kept + 4 * (1 + numberRoom) ≤ length (now output) ⌝ }
+    ensures { λ r. ⌜ (kept ≤ r) × (r ≤ kept + 4 * (1 + numberRoom)) ⌝ }
+{
+    let a = register(output, kept, held.a);
+    let s = register(output, a, held.s);
+    let p = register(output, s, held.p);
+    register(output, p, held.z)
+}
+
+// The registers CI, LR and W.
+fn last_three(output: &mut [u8], kept: usize, held: Registers) -> usize
+    requires { ⌜ kept + 3 * (1 + numberRoom) ≤ length (now output) ⌝ }
+    ensures { λ r. ⌜ (kept ≤ r) × (r ≤ kept + 3 * (1 + numberRoom)) ⌝ }
+{
+    let ci = register(output, kept, held.ci);
+    let lr = register(output, ci, held.lr);
+    register(output, lr, held.w)
+}
+
 fn registers(output: &mut [u8], kept: usize, held: Registers) -> usize
     requires { ⌜ kept + lineRoom ≤ length (now output) ⌝ }
     ensures { λ r. ⌜ r ≤ length (now (output .entry)) ⌝ }
 {
     let begun = text(output, kept, b"registers");
-    let a = register(output, begun, held.a);
-    let s = register(output, a, held.s);
-    let p = register(output, s, held.p);
-    let z = register(output, p, held.z);
-    let ci = register(output, z, held.ci);
-    let lr = register(output, ci, held.lr);
-    let w = register(output, lr, held.w);
-    text(output, w, b"\n")
+    let four = first_four(output, begun, held);
+    let seven = last_three(output, four, held);
+    text(output, seven, b"\n")
 }
 
 pub fn held(output: &mut [u8], kept: usize, given: Held) -> usize
