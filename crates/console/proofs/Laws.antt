@@ -25,19 +25,19 @@ one-more n (x ∷ v) [] a b = absurd (omega arith)
 one-more zero (x ∷ v) (y ∷ l) a b = refl
 one-more (suc n) (x ∷ v) (y ∷ l) a b = ap (λ r. inByte x ∷ r) (one-more n v l (omega arith) (omega arith))
 
-module _ (v l : List ℕ) where
-  pub gathered-none : (n : ℕ) → n ≡ 0 → l ≡ gathered n v l
+-- The loop's laws begin with its invariant: what is left to gather decides, and z is what the whole comes to.
+module _ (v l z : List ℕ) where
+  pub gathered-none : (n : ℕ) → gathered n v l ≡ z → n ≤ 0 → l ≡ z
   unfolding gathered
-  gathered-none zero e = refl
-  gathered-none (suc n) e = absurd (omega arith)
+  gathered-none zero i e = i
+  gathered-none (suc n) i e = absurd (omega arith)
 
-  pub gathered-more : (n x : ℕ) (l₁ l₂ : List ℕ) → (n ≡ 0 → ⊥) → n ≤ length l → n ≤ length v → x ≡ inByte (getD v (n - 1) 0) → l₁ ≡ set l (n - 1) x
-      → l₂ ≡ gathered (n - 1) v l₁ → l₂ ≡ gathered n v l
-  gathered-more zero x l₁ l₂ o a b ex e₁ e₂ = absurd (o refl)
-  gathered-more (suc n) x l₁ l₂ o a b ex e₁ e₂ =
+  pub gathered-more : (n x : ℕ) (l₁ : List ℕ) → gathered n v l ≡ z → 0 < n → n ≤ length l → n ≤ length v → x ≡ inByte (getD v (n - 1) 0)
+      → l₁ ≡ set l (n - 1) x → gathered (n - 1) v l₁ ≡ z
+  gathered-more zero x l₁ i o a b ex e₁ = absurd (omega arith)
+  gathered-more (suc n) x l₁ i o a b ex e₁ =
       let f = simp sub-one at ex in
       let g = simp sub-one at e₁ in
-      let h = simp sub-one at e₂ in
-      rw (← one-more n v l (omega arith) (omega arith), ← f, ← g) h
+      simp sub-one (rw (g, f, one-more n v l (omega arith) (omega arith)) i)
 
 pub ruleset lists = (byte-large, byte-small, gathered-none, gathered-more)

@@ -231,10 +231,17 @@ fn turn(
     read_more(input, m, old, output, ahead, begun, place)
 }
 
-// Runs the script that the descriptor `input` reads, to its end.
-pub fn run(input: i32, m: &mut [u8], old: &mut [u8], output: &mut [u8], ahead: &mut [u8])
+// Turn after turn, to the end of the script; answers what is kept then.
+fn take_turns(
+    input: i32,
+    m: &mut [u8],
+    old: &mut [u8],
+    output: &mut [u8],
+    ahead: &mut [u8],
+) -> usize
     requires { ⌜ (length (now m) ≡ bufferWords) × (length (now old) ≡ bufferWords) × (length (now output) ≡ outputBytes)
         × (length (now ahead) ≡ aheadBytes) ⌝ }
+    ensures { λ r. ⌜ r ≤ outputBytes ⌝ }
 {
     let mut turns = u64::MAX;
     let mut place = Place {
@@ -252,7 +259,16 @@ pub fn run(input: i32, m: &mut [u8], old: &mut [u8], output: &mut [u8], ahead: &
         if place.more {
             continue;
         }
-        break;
+        return place.kept;
     }
-    write(output, place.kept);
+    place.kept
+}
+
+// Runs the script that the descriptor `input` reads, to its end.
+pub fn run(input: i32, m: &mut [u8], old: &mut [u8], output: &mut [u8], ahead: &mut [u8])
+    requires { ⌜ (length (now m) ≡ bufferWords) × (length (now old) ≡ bufferWords) × (length (now output) ≡ outputBytes)
+        × (length (now ahead) ≡ aheadBytes) ⌝ }
+{
+    let kept = take_turns(input, m, old, output, ahead);
+    write(output, kept);
 }
