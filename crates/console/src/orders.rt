@@ -1,5 +1,5 @@
 // The orders of a script, each on the program's 8,200 words m, of which a call is lent the first `lent`. What an order prints goes to the output,
-// behind the bytes that are kept there; it answers how many are kept then.
+// behind the bytes that are kept there.
 use crate::memory::After;
 use crate::memory::changes;
 use crate::memory::lend;
@@ -8,6 +8,8 @@ use crate::memory::put;
 use crate::memory::put_anywhere;
 use crate::memory::store_word;
 use kernel::judge;
+use model::Answer;
+use model::Held;
 use model::Registers;
 use model::Verdict;
 use model::map;
@@ -32,43 +34,22 @@ ghost use Rattle.screen.specs.Sizes.{lineRoom};
 ghost use Rattle.console.specs.Sizes.{bufferWords};
 ghost use Rattle.console.specs.Lists as Lists;
 
-fn fresh(
-    m: &mut [u8],
-    lent: usize,
-    output: &mut [u8],
-    kept: usize,
-    line: u16,
-    divider: u16,
-) -> usize
-    requires { ⌜ (lent ≤ length (now m)) × (kept + lineRoom ≤ length (now output)) ⌝ }
-    ensures { λ r. ⌜ r ≤ length (now (output .entry)) ⌝ }
+fn fresh(m: &mut [u8], lent: usize, line: u16, divider: u16) -> Answer
+    requires { ⌜ lent ≤ length (now m) ⌝ }
 {
-    answer(output, kept, kernel::fresh(&mut m[0..lent], line, divider))
+    kernel::fresh(&mut m[0..lent], line, divider)
 }
 
-fn step(m: &mut [u8], lent: usize, output: &mut [u8], kept: usize) -> usize
-    requires { ⌜ (lent ≤ length (now m)) × (kept + lineRoom ≤ length (now output)) ⌝ }
-    ensures { λ r. ⌜ r ≤ length (now (output .entry)) ⌝ }
+fn step(m: &mut [u8], lent: usize) -> Answer
+    requires { ⌜ lent ≤ length (now m) ⌝ }
 {
-    answer(output, kept, kernel::instruction(&mut m[0..lent]))
+    kernel::instruction(&mut m[0..lent])
 }
 
-fn interrupt(
-    m: &mut [u8],
-    lent: usize,
-    output: &mut [u8],
-    kept: usize,
-    number: u16,
-    class: u16,
-) -> usize
-    requires { ⌜ (lent ≤ length (now m)) × (kept + lineRoom ≤ length (now output)) ⌝ }
-    ensures { λ r. ⌜ r ≤ length (now (output .entry)) ⌝ }
+fn interrupt(m: &mut [u8], lent: usize, number: u16, class: u16) -> Answer
+    requires { ⌜ lent ≤ length (now m) ⌝ }
 {
-    answer(
-        output,
-        kept,
-        kernel::interrupt(&mut m[0..lent], number, class),
-    )
+    kernel::interrupt(&mut m[0..lent], number, class)
 }
 
 // A number in a byte; one that is no byte as 255, which is as bad.
@@ -116,16 +97,14 @@ fn burst(
     )
 }
 
-fn registers(m: &[u8], lent: usize, output: &mut [u8], kept: usize) -> usize
-    requires { ⌜ (lent ≤ length (now m)) × (kept + lineRoom ≤ length (now output)) ⌝ }
-    ensures { λ r. ⌜ r ≤ length (now (output .entry)) ⌝ }
+fn registers(m: &[u8], lent: usize) -> Held
+    requires { ⌜ lent ≤ length (now m) ⌝ }
 {
-    held(output, kept, kernel::read_registers(&m[0..lent]))
+    kernel::read_registers(&m[0..lent])
 }
 
-fn set(m: &mut [u8], lent: usize, output: &mut [u8], kept: usize, wanted: Seven) -> usize
-    requires { ⌜ (lent ≤ length (now m)) × (kept + lineRoom ≤ length (now output)) ⌝ }
-    ensures { λ r. ⌜ r ≤ length (now (output .entry)) ⌝ }
+fn set(m: &mut [u8], lent: usize, wanted: Seven) -> Answer
+    requires { ⌜ lent ≤ length (now m) ⌝ }
 {
     let registers = Registers {
         a: wanted.a,
@@ -137,18 +116,13 @@ fn set(m: &mut [u8], lent: usize, output: &mut [u8], kept: usize, wanted: Seven)
         w: wanted.w,
         stopped: 0,
     };
-    answer(
-        output,
-        kept,
-        kernel::set_registers(&mut m[0..lent], registers),
-    )
+    kernel::set_registers(&mut m[0..lent], registers)
 }
 
-fn tell_judged(m: &[u8], lent: usize, output: &mut [u8], kept: usize) -> usize
-    requires { ⌜ (lent ≤ length (now m)) × (kept + lineRoom ≤ length (now output)) ⌝ }
-    ensures { λ r. ⌜ r ≤ length (now (output .entry)) ⌝ }
+fn judged(m: &[u8], lent: usize) -> Verdict
+    requires { ⌜ lent ≤ length (now m) ⌝ }
 {
-    verdict(output, kept, judge(&m[0..lent]))
+    judge(&m[0..lent])
 }
 
 // A memory that is not lent whole has nothing to show.
@@ -164,7 +138,7 @@ fn show(m: &[u8], lent: usize, output: &[u8], kept: usize) -> usize
     ensures { λ r. ⌜ r ≡ 0 ⌝ }
 {
     let none = write(output, kept);
-    match judge(&m[0..lent]) {
+    match judged(m, lent) {
         Verdict::WellFormed => state(&m[0..map::MEMORY_WORDS]),
         Verdict::Refused(refusal) => not_lent(refusal),
         Verdict::RefusedAt(refusal, place) => broken(refusal, place),
@@ -191,13 +165,13 @@ pub fn obey(
     let then = match order {
         Order::Nothing => kept,
         Order::NotUnderstood => not_understood(output, kept, line_number),
-        Order::Fresh(line, divider) => fresh(m, lent, output, kept, line, divider),
-        Order::Step => step(m, lent, output, kept),
-        Order::Interrupt(number, class) => interrupt(m, lent, output, kept, number, class),
+        Order::Fresh(line, divider) => answer(output, kept, fresh(m, lent, line, divider)),
+        Order::Step => answer(output, kept, step(m, lent)),
+        Order::Interrupt(number, class) => answer(output, kept, interrupt(m, lent, number, class)),
         Order::Burst(count) => burst(m, lent, output, kept, given, count),
-        Order::Registers => registers(m, lent, output, kept),
-        Order::Set(wanted) => set(m, lent, output, kept, wanted),
-        Order::Judge => tell_judged(m, lent, output, kept),
+        Order::Registers => held(output, kept, registers(m, lent)),
+        Order::Set(wanted) => answer(output, kept, set(m, lent, wanted)),
+        Order::Judge => verdict(output, kept, judged(m, lent)),
         Order::Put(address, count) => put(m, output, kept, given, address, count),
         Order::Break(address, count) => put_anywhere(m, output, kept, given, address, count),
         Order::Length(wanted) => return lend(output, kept, lent, wanted),

@@ -7,7 +7,8 @@ use Rattle.console.proofs.memory.changes.Statement.{statement}
 use Rattle.console.proofs.memory.changes.Tie as tie
 
 abbrev Inv-loop : tie.InvT-loop
-Inv-loop m old₀ output kept none at₀ changed₀ t8 t9 old at changed = (length m ≡ bufferWords) × (length old ≡ bufferWords) × (at ≤ bufferWords) × (changed ≤ at) × (none ≡ 0)
+Inv-loop m old₀ output kept none at₀ changed₀ t8 t9 old at changed =
+    (length m ≡ bufferWords) × (length old ≡ bufferWords) × (at ≤ bufferWords) × (changed ≤ at) × (none ≡ 0)
 
 abbrev μ-loop : tie.MeasureT-loop
 μ-loop m old₀ output kept none at₀ changed₀ t8 t9 old at changed = bufferWords - at
