@@ -6,7 +6,8 @@ ghost use Prim.Native.Nat.{_≤_, _+_};
 ghost use lib.ListN.{length};
 ghost use Rattle.screen.specs.Sizes.{numberRoom, lineRoom};
 
-// The line of an answer is at most so long: the longest is that of the registers, seven numbers of at most twenty digits.
+// The line of an answer is at most so long. The longest is that of the registers; that its seven numbers have no more than five digits each is not
+// counted on, only that no number has more than twenty.
 const LINE_ROOM: usize = 160;
 
 // What is kept is written; then nothing is.
