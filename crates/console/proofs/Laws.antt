@@ -40,4 +40,8 @@ module _ (v l z : List ℕ) where
       let g = simp sub-one at e₁ in
       simp sub-one (rw (g, f, one-more n v l (omega arith) (omega arith)) i)
 
-pub ruleset lists = (byte-large, byte-small, gathered-none, gathered-more)
+-- so that a loop which stops too early is refused where it ends, and not at its step
+pub some-left : (k n : ℕ) → k < n → 0 < n
+some-left k n h = omega arith
+
+pub ruleset lists = (byte-large, byte-small, gathered-none, gathered-more, some-left)
