@@ -1,5 +1,5 @@
 -- The laws that the proofs of the functions search.
-use Rattle.counts.proofs.Folds.{folds}
+use Rattle.lists.proofs.Folds.{folds}
 use Rattle.rules.proofs.Sentences.{sentences}
 use Rattle.rules.proofs.Heads.{heads}
 

@@ -14,11 +14,11 @@ use Rattle.model.specs.Lists as Lists
 use Rattle.model.specs.Lists.{Lists, count, each-of}
 use Rattle.model.specs.Judge as Judge
 use Rattle.model.specs.Bytes.{Memory, at, word, walk, lists, name}
-use Rattle.counts.specs.Heads.{rule}
+use Rattle.lists.specs.Heads.{rule}
 use Rattle.rules.specs.declared.tests.Test.{Test}
 use Rattle.rules.specs.declared.deep.Deep.{Deep}
 use Rattle.rules.specs.Rules.{ruleOf, deepOf}
-use Rattle.counts.proofs.Folds.{both-yes, both-true, both-is, same-is, most-is, when-yes, when-no, unless-yes, unless-no, least-yes, least-no}
+use Rattle.lists.proofs.Folds.{both-yes, both-true, both-is, same-is, most-is, when-yes, when-no, unless-yes, unless-no, least-yes, least-no}
 
 -- ---- which rule
 pub test-at : (m : Memory) (t u : Test) (x : ℕ) (b : Bool) → t ≡ u → b ≡ holds (ruleOf m u x) → b ≡ holds (ruleOf m t x)

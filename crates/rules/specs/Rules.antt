@@ -7,7 +7,7 @@ use Rattle.model.specs.Rule.{Rule, both, each}
 use Rattle.model.specs.Lists.{range}
 use Rattle.model.specs.Judge as Judge
 use Rattle.model.specs.Bytes.{Memory}
-use Rattle.counts.specs.Heads.{rule}
+use Rattle.lists.specs.Heads.{rule}
 use Rattle.rules.specs.declared.tests.Test.{Test}
 use Rattle.rules.specs.declared.tests.Test.the-variants.{Page, Label, Reasoned, Reasonless, Quiet, Unasked, MessageSemaphore, Message}
 use Rattle.rules.specs.declared.tests.Test.the-variants.{NotHigher, ZeroBits, PageWait, InterruptSemaphore, Grant, Kind, Entry}

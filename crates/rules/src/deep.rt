@@ -3,8 +3,8 @@
 use crate::tests::Test;
 use crate::tests::all_in;
 use crate::tests::all_of;
-use counts::both;
-use counts::length_of;
+use lists::both;
+use lists::length_of;
 use model::ControlPage;
 use model::map;
 use words::at;
@@ -17,7 +17,7 @@ ghost use Rattle.model.specs.Rule.{holds, each};
 ghost use Rattle.model.specs.Lists.{uses, queues, mails, owns, range};
 ghost use Rattle.model.specs.Judge as Judge;
 ghost use Rattle.model.specs.Bytes as Model;
-ghost use Rattle.counts.specs.Heads.{rule};
+ghost use Rattle.lists.specs.Heads.{rule};
 ghost use Rattle.rules.specs.Rules.{deepOf, mailLists, ownList};
 
 // The rules of one page that look through its lists.

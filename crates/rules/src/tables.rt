@@ -2,8 +2,8 @@
 use crate::tests::Test;
 use crate::tests::all_of;
 use crate::tests::every;
-use counts::both;
-use counts::lies;
+use lists::both;
+use lists::lies;
 use model::instructions;
 use model::map;
 use model::wide;
@@ -17,7 +17,7 @@ ghost use Rattle.model.specs.Store.{bytes};
 ghost use Rattle.model.specs.Rule.{holds, same, never, among, under};
 ghost use Rattle.model.specs.Judge as Judge;
 ghost use Rattle.model.specs.Bytes as Model;
-ghost use Rattle.counts.specs.Heads.{rule};
+ghost use Rattle.lists.specs.Heads.{rule};
 ghost use Rattle.rules.specs.Rules as Rules;
 
 // The word at an address: v; in low-high; below an end.

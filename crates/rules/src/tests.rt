@@ -1,11 +1,11 @@
 // Well-formed: the rules of one number, a page or an index, that look through no list; and each of a list or of a range by one of them.
-use counts::bearers;
-use counts::both;
-use counts::left_of;
-use counts::length_of;
-use counts::less;
-use counts::lies;
-use counts::link_of;
+use lists::bearers;
+use lists::both;
+use lists::left_of;
+use lists::length_of;
+use lists::less;
+use lists::lies;
+use lists::link_of;
 use mail::fits;
 use model::ControlPage;
 use model::Name;
@@ -20,7 +20,7 @@ ghost use Rattle.model.specs.Store.{bytes};
 ghost use Rattle.model.specs.Rule.{holds, each, below};
 ghost use Rattle.model.specs.Judge as Judge;
 ghost use Rattle.model.specs.Bytes as Model;
-ghost use Rattle.counts.specs.Heads.{rule};
+ghost use Rattle.lists.specs.Heads.{rule};
 ghost use Rattle.rules.specs.Rules.{ruleOf};
 
 pub enum Test {

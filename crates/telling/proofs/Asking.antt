@@ -12,7 +12,7 @@ use Rattle.model.specs.Lists.{count, sum, each-of, queues}
 use Rattle.model.specs.Judge as Judge
 use Rattle.model.specs.Classes as Classes
 use Rattle.model.specs.Bytes.{Memory, at, word, name, met}
-use Rattle.counts.proofs.Folds.{both-is, same-is, most-is, unless-yes, unless-no, least-yes, least-no}
+use Rattle.lists.proofs.Folds.{both-is, same-is, most-is, unless-yes, unless-no, least-yes, least-no}
 use Rattle.telling.specs.Rows.{here, ruleOf, addressOf}
 use Rattle.telling.specs.declared.asked.Asked.{Asked}
 

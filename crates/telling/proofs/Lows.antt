@@ -10,8 +10,8 @@ use Rattle.model.specs.Walks.{gather}
 use Rattle.model.specs.Tell.{Row, least, broken, offending, offendingIn}
 use Rattle.model.specs.Tell.Row.{tells}
 use Rattle.model.specs.Bytes.{Memory, path, met}
-use Rattle.counts.specs.Heads.{headsOf}
-use Rattle.counts.proofs.Folds.{mails-heads, owns-heads, range-suc}
+use Rattle.lists.specs.Heads.{headsOf}
+use Rattle.lists.proofs.Folds.{mails-heads, owns-heads, range-suc}
 use Rattle.telling.specs.Rows.{lowestBy}
 use Rattle.telling.proofs.Walking.{met-is, processors-met}
 

@@ -15,8 +15,8 @@ use Rattle.model.specs.Walks as Walks
 use Rattle.model.specs.Walks.{isControl, lastCell}
 use Rattle.model.specs.Classes.{used}
 use Rattle.model.specs.Bytes.{Memory, at, path, met}
-use Rattle.counts.specs.Heads.{headsOf}
-use Rattle.counts.proofs.Folds.{both-and, each-bad, mails-heads, owns-heads}
+use Rattle.lists.specs.Heads.{headsOf}
+use Rattle.lists.proofs.Folds.{both-and, each-bad, mails-heads, owns-heads}
 use Rattle.telling.specs.Rows as Rows
 use Rattle.telling.specs.Rows.{controlAt}
 

@@ -12,7 +12,7 @@ use Rattle.model.specs.Lists.{count}
 use Rattle.model.specs.Classes as Classes
 use Rattle.model.specs.Classes.{cell}
 use Rattle.model.specs.Bytes.{Memory, at, word, met}
-use Rattle.counts.proofs.Folds.{both-yes, both-true, both-is, same-is, most-is, when-yes, when-no, unless-yes, unless-no}
+use Rattle.lists.proofs.Folds.{both-yes, both-true, both-is, same-is, most-is, when-yes, when-no, unless-yes, unless-no}
 use Rattle.telling.specs.Rows.{here, ruleAt, addressAt}
 use Rattle.telling.specs.declared.cells.AskedAt.{AskedAt}
 

@@ -12,7 +12,7 @@ use Rattle.model.specs.Walks.{isControl}
 use Rattle.model.specs.Tell.{broken, least}
 use Rattle.model.specs.Classes as Classes
 use Rattle.model.specs.Bytes.{Memory, at, path, met}
-use Rattle.counts.specs.Heads.{headsOf}
+use Rattle.lists.specs.Heads.{headsOf}
 use Rattle.telling.specs.declared.asked.Asked.{Asked}
 use Rattle.telling.specs.declared.asked.Asked.the-variants.{Once, Bit, Waiter, Reasoned, Reasonless, Quiet, MessageWait, InterruptSemaphore}
 use Rattle.telling.specs.declared.asked.Asked.the-variants.{MessageSemaphore, NoneFree, NoGrant, Label, ZeroBits, Existing, Message, Kind}

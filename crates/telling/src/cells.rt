@@ -2,9 +2,9 @@
 use crate::walks::end;
 use crate::walks::length_of;
 use crate::walks::met_in;
-use counts::both;
-use counts::less;
-use counts::lies;
+use lists::both;
+use lists::less;
+use lists::lies;
 use model::ControlPage;
 use model::map;
 use rules::tables::is_at;

@@ -1,7 +1,7 @@
 // Walks on any memory: which control pages are met, where a walk ends, and how often a page or a name is met.
-use counts::left_of;
-use counts::lies;
-use counts::link_of;
+use lists::left_of;
+use lists::lies;
+use lists::link_of;
 use model::ControlPage;
 use model::map;
 use model::wide;

@@ -2,7 +2,7 @@
 use model::map;
 use model::wide;
 ghost use mathlib.Core.Path.{_≡_};
-ghost use Prim.Native.Nat.{_<_};
+ghost use Prim.Native.Nat.{_<_, _≤_, _+_};
 ghost use lib.ListN.{length};
 ghost use Rattle.model.specs.Map as Map;
 ghost use Rattle.model.specs.Address as Address;
@@ -116,12 +116,12 @@ pub fn copy(m: &mut [u8], from: u16, to: u16, count: u8)
 
 // So many words from an address on become 0.
 pub fn zero(m: &mut [u8], address: u16, count: u16)
-    requires { ⌜ (length (now m) ≡ 8192) × (address < 8192) × (count < 8192) ⌝ }
+    requires { ⌜ (length (now m) ≡ 8192) × (address + count ≤ 8192) ⌝ }
     ensures { λ _. ⌜ now (m .exit) ≡ Model.zeroed count (now (m .entry)) address ⌝ }
 {
-    if count == 0 {
-        return;
+    let mut left = count;
+    while 0 < left {
+        left -= 1;
+        write(m, address + left, 0);
     }
-    write(m, wrapped(address, count - 1), 0);
-    zero(m, address, count - 1);
 }

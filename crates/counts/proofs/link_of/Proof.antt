@@ -1,9 +1,0 @@
-use borrow.Author.Needs.{needs}
-use Rattle.counts.proofs.Folds.{folds}
-use Rattle.counts.proofs.link_of.Statement.{statement}
-use Rattle.counts.proofs.link_of.Tie as tie
-
-pub link-of-spec : {M : Type 1} → statement M
-link-of-spec = tie.close (tie.spec
-    (λ c. (search (needs, folds), search needs))
-    (λ c. (search (needs, folds), search needs)))

@@ -1,2 +1,0 @@
--- The marks by which the judge counts, and its rules by them.
-pub mod Marks
