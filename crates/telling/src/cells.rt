@@ -2,14 +2,14 @@
 use crate::walks::end;
 use crate::walks::length_of;
 use crate::walks::met_in;
+use judge::tables::is_at;
+use judge::tables::lies_at;
+use judge::tables::under_at;
 use lists::both;
 use lists::less;
 use lists::lies;
 use model::ControlPage;
 use model::map;
-use rules::tables::is_at;
-use rules::tables::lies_at;
-use rules::tables::under_at;
 use words::at;
 ghost use mathlib.Core.Path.{_≡_};
 ghost use Prim.Native.Nat.{_<_};

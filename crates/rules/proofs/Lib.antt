@@ -1,3 +1,0 @@
-pub mod Sentences
-pub mod Heads
-pub mod Laws

@@ -1,2 +1,0 @@
--- What the code of the rules names beyond the model.
-pub mod Rules
