@@ -1,0 +1,28 @@
+use Prim.Native.Nat.{_≤_}
+use mathlib.Core.Path.{_≡_}
+use lib.ListN.{length}
+use borrow.Author.Needs.{needs}
+use Rattle.model.specs.Map.{entries}
+use Rattle.model.specs.Store.{bytes}
+use Rattle.model.specs.Rule.{holds, below}
+use Rattle.model.specs.Judge as Judge
+use Rattle.judge.proofs.Laws.{downward}
+use Rattle.judge.proofs.tables.entries.Statement.{statement}
+use Rattle.judge.proofs.tables.entries.Tie as tie
+
+-- what is left to test decides
+abbrev Inv-loop : tie.InvT-loop
+Inv-loop m k₀ k = (length m ≡ 8192) × (k ≤ entries) × (holds (below k (Judge.entry bytes m)) ≡ holds (below entries (Judge.entry bytes m)))
+
+abbrev μ-loop : tie.MeasureT-loop
+μ-loop m k₀ k = k
+
+pub entries-spec : {M : Type 1} → statement M
+entries-spec = tie.close (tie.spec Inv-loop μ-loop
+    (λ c. search needs)
+    (λ c. search needs)
+    (λ c κs. search needs)
+    (λ c. search needs)
+    (λ c. search (needs, downward))
+    (λ c. search (needs, downward))
+    (λ c. search (needs, downward)))

@@ -1,0 +1,15 @@
+use borrow.Author.Needs.{needs}
+use Rattle.model.specs.Judge as Judge
+use Rattle.judge.proofs.Laws.{rulings}
+use Rattle.judge.proofs.waits.message_wait.Statement.{statement}
+use Rattle.judge.proofs.waits.message_wait.Tie as tie
+
+pub message-wait-spec : {M : Type 1} → statement M
+unfolding Judge.messageWait
+message-wait-spec = tie.close (tie.spec
+    (λ c κs. search needs)
+    (λ c κs. search needs)
+    (λ c. search (needs, rulings))
+    (λ c κs. search needs)
+    (λ c κs. search needs)
+    (λ c. search (needs, rulings)))

@@ -1,0 +1,17 @@
+use borrow.Author.Needs.{needs}
+use Rattle.model.specs.Judge as Judge
+use Rattle.model.specs.Rule as Rule
+use Rattle.judge.proofs.waits.page_semaphore.Statement.{statement}
+use Rattle.judge.proofs.waits.page_semaphore.Tie as tie
+
+returns : tie.Need-returns
+unfolding Judge.pageSemaphore Rule.holds
+returns c = cc
+
+pub page-semaphore-spec : {M : Type 1} → statement M
+page-semaphore-spec = tie.close (tie.spec
+    (λ c κs. search needs)
+    (λ c κs. search needs)
+    (λ c κs. search needs)
+    (λ c κs. search needs)
+    returns)
