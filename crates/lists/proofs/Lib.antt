@@ -1,1 +1,9 @@
 pub mod Folds
+pub mod Bits
+pub mod Counting
+pub mod Walks
+pub mod Uses
+pub mod Waits
+pub mod Heads
+pub mod Flags
+pub mod Named

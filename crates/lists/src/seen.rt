@@ -119,7 +119,7 @@ fn see_owns(m: &[u8], seen: u32, cell: u16, left: u8) -> u32
 // With the page in a word of page 10.
 fn see_grant(m: &[u8], seen: u32, head: u16) -> u32
     requires { ⌜ (length (now m) ≡ 8192) × (Map.grants ≤ head) × (head < Map.grantsEnd) × (seen < Seen.broken) ⌝ }
-    ensures { λ r. ⌜ (r ≡ Seen.upTo 21 seen (Model.lists (now (m .entry)) head)) × (r ≤ Seen.broken) ⌝ }
+    ensures { λ r. ⌜ (r ≡ Seen.upTo Seen.oneMore seen (Model.lists (now (m .entry)) head)) × (r ≤ Seen.broken) ⌝ }
 {
     let w = at(m, head);
     if w == 0 {
@@ -131,7 +131,7 @@ fn see_grant(m: &[u8], seen: u32, head: u16) -> u32
 // With the queue of an interrupt; most are empty.
 fn see_queue(m: &[u8], seen: u32, head: u16) -> u32
     requires { ⌜ (length (now m) ≡ 8192) × (head < Map.processorList) × (seen < Seen.broken) ⌝ }
-    ensures { λ r. ⌜ (r ≡ Seen.upTo 21 seen (Model.lists (now (m .entry)) head)) × (r ≤ Seen.broken) ⌝ }
+    ensures { λ r. ⌜ (r ≡ Seen.upTo Seen.oneMore seen (Model.lists (now (m .entry)) head)) × (r ≤ Seen.broken) ⌝ }
 {
     let w = at(m, head);
     if w == 0 {
@@ -143,7 +143,7 @@ fn see_queue(m: &[u8], seen: u32, head: u16) -> u32
 // With the words of page 10; with the queues of the interrupts.
 fn see_grants(m: &[u8], seen: u32) -> u32
     requires { ⌜ (length (now m) ≡ 8192) × (seen < Seen.broken) ⌝ }
-    ensures { λ r. ⌜ (r ≡ Seen.seeLists seen (Model.lists (now (m .entry))) (range 32 1 Map.grants)) × (r ≤ Seen.broken) ⌝ }
+    ensures { λ r. ⌜ (r ≡ Seen.seeLists seen (Model.lists (now (m .entry))) (range Map.pageSize 1 Map.grants)) × (r ≤ Seen.broken) ⌝ }
 {
     let mut pages = seen;
     let mut head = map::GRANTS;

@@ -1,6 +1,6 @@
--- A law for each way through the recursions over words.
-use Prim.Native.Nat.{ℕ, zero, suc, _-_}
-use mathlib.Core.Path.{_≡_, refl}
+-- A law for each way through the recursions over words, and through the loop that clears.
+use Prim.Native.Nat.{ℕ, zero, suc, _+_, _-_, _≤_, _<_}
+use mathlib.Core.Path.{_≡_, refl, _∙_}
 use mathlib.Core.Bool.{Bool, true, false}
 use native.Mathlib.Numerals.{sub-one}
 use native.Mathlib.Omega.{arith}
@@ -45,4 +45,12 @@ unfolding Address.zeroed
 zeroed-on zero m m₁ m₂ a x o ex e₁ e₂ = absurd (o refl)
 zeroed-on (suc n) m m₁ m₂ a x o ex e₁ e₂ = rw (← (simp sub-one at ex), ← e₁) (simp sub-one at e₂)
 
-pub ruleset words = (clear-none, clear-bad, clear-on, copy-none, copy-on, zeroed-none, zeroed-on)
+-- a turn of the loop that clears, and its end: k words are left
+pub zero-again : (n k : ℕ) (m₀ m m₁ : Memory) (a : ℕ) → zeroed k m a ≡ zeroed n m₀ a → 0 < k → k ≤ n → a + n ≤ 8192 → m₁ ≡ write m (a + (k - 1)) 0
+    → zeroed (k - 1) m₁ a ≡ zeroed n m₀ a
+zero-again n k m₀ m m₁ a e p l h e₁ = zeroed-on k m m₁ (zeroed (k - 1) m₁ a) a (a + (k - 1)) (λ z. omega arith) (omega arith) e₁ refl ∙ e
+
+pub zero-done : (n k : ℕ) (m₀ m : Memory) (a : ℕ) → zeroed k m a ≡ zeroed n m₀ a → k ≤ 0 → m ≡ zeroed n m₀ a
+zero-done n k m₀ m a e z = zeroed-none k m a (omega arith) ∙ e
+
+pub ruleset words = (clear-none, clear-bad, clear-on, copy-none, copy-on)
