@@ -60,30 +60,35 @@ unfolding Seen.see
 see-out b x h = rw (page-no x h)
 
 module _ (b x v : ℕ) (lo : firstControl ≤ x) (hi : x < wordValues) (ev : v ≡ 2 ^ (x - firstControl)) where
-  pub see-twice : b / v % 2 ≡ 1 → broken ≡ see b x
-  unfolding Seen.see Seen.has
-  see-twice e = rw (page-yes x lo hi, ← ev, eq-eqb (b / v % 2) 1 e)
+  is-bit : b / v % 2 ≡ bit (x - firstControl) b
+  is-bit = ap (λ (y : ℕ). b / y % 2) ev ∙ bit-is (x - firstControl) b
 
-  pub see-new : (b / v % 2 ≡ 1 → ⊥) → b + v ≡ see b x
+  pub see-new : b / v % 2 ≡ 0 → b + v ≡ see b x
   unfolding Seen.see Seen.has
-  see-new n = rw (page-yes x lo hi, ← ev, ne-eqb (b / v % 2) 1 n)
+  see-new e = rw (page-yes x lo hi, ← ev, ne-eqb (b / v % 2) 1 (λ q. omega arith))
 
-  pub see-below : b < broken → (b / v % 2 ≡ 1 → ⊥) → b + v < broken
-  see-below h n =
-      let e : bit (x - firstControl) b ≡ b / v % 2 = sym (bit-is (x - firstControl) b) ∙ ap (λ (y : ℕ). b / y % 2) (sym ev) in
-      let k = bit-below controlPages (x - firstControl) b h (omega arith) (omega (arith, bit-most (x - firstControl) b)) in
+  pub see-twice : (b / v % 2 ≡ 0 → ⊥) → broken ≡ see b x
+  unfolding Seen.see Seen.has
+  see-twice n = rw (page-yes x lo hi, ← ev, eq-eqb (b / v % 2) 1 (omega (arith, is-bit, bit-most (x - firstControl) b)))
+
+  pub see-below : b < broken → b / v % 2 ≡ 0 → b + v < broken
+  see-below h e =
+      let k = bit-below controlPages (x - firstControl) b h (omega arith) (omega (arith, is-bit)) in
       omega arith
 
-  pub see-most : b < broken → (b / v % 2 ≡ 1 → ⊥) → b + v ≤ broken
-  see-most h n = omega (arith, see-below h n)
+  pub see-most : b < broken → b / v % 2 ≡ 0 → b + v ≤ broken
+  see-most h e = omega (arith, see-below h e)
 
 -- a page that was not among them is added
+bit-none : (b x : ℕ) → has b x ≡ 0 → b / 2 ^ (x - firstControl) % 2 ≡ 0
+bit-none b x q = omega (arith, has-bit b x, bit-is (x - firstControl) b)
+
 see-is : (b x : ℕ) → firstControl ≤ x → x < wordValues → has b x ≡ 0 → see b x ≡ b + 2 ^ (x - firstControl)
-see-is b x lo hi q = sym (see-new b x (2 ^ (x - firstControl)) lo hi refl (λ e. omega (arith, has-bit b x, bit-is (x - firstControl) b)))
+see-is b x lo hi q = sym (see-new b x (2 ^ (x - firstControl)) lo hi refl (bit-none b x q))
 
 pub see-less : (b x : ℕ) → firstControl ≤ x → x < wordValues → has b x ≡ 0 → b < broken → see b x < broken
 see-less b x lo hi q h =
-    let l = see-below b x (2 ^ (x - firstControl)) lo hi refl h (λ e. omega (arith, has-bit b x, bit-is (x - firstControl) b)) in
+    let l = see-below b x (2 ^ (x - firstControl)) lo hi refl h (bit-none b x q) in
     omega (arith, see-is b x lo hi q)
 
 -- what is known where nothing is broken

@@ -2,8 +2,8 @@
 // differ exactly if those pages do.
 use crate::both;
 use crate::lies;
-use crate::seen::BROKEN;
-use crate::seen::see;
+use crate::page::BROKEN;
+use crate::page::see;
 use model::ControlPage;
 use model::map;
 use words::at;

@@ -1,10 +1,12 @@
 // "every control page is used once", "waiting bit set exactly if in one wait queue": the pages seen in lists, as bits of one number, bit x - 236
-// for the control page x. One more bit stands for broken: a page was no control page or came twice, or a list did not end.
+// for the control page x.
+use crate::page::BROKEN;
+use crate::page::see;
 use model::ControlPage;
 use model::map;
 use words::at;
 ghost use mathlib.Core.Path.{_≡_};
-ghost use Prim.Native.Nat.{suc, _<_, _≤_, _-_, _^_};
+ghost use Prim.Native.Nat.{suc, _<_, _≤_};
 ghost use mathlib.Core.Bool.{true};
 ghost use mathlib.Core.List.{[], _∷_};
 ghost use lib.ListN.{length};
@@ -14,32 +16,7 @@ ghost use Rattle.model.specs.Rule.{all};
 ghost use Rattle.model.specs.Bytes as Model;
 ghost use Rattle.lists.specs.Seen as Seen;
 
-pub const BROKEN: u32 = 1048576;
-
 pub const ALL_PAGES: u32 = 1048575;
-
-// The bit of a control page.
-fn bit_of(page: u8) -> u32
-    requires { ⌜ Map.firstControl ≤ page ⌝ }
-    ensures { λ r. ⌜ (r ≡ 2 ^ (page - Map.firstControl)) × (0 < r) × (r < Seen.broken) ⌝ }
-{
-    1u32 << ((page - map::FIRST_CONTROL) as u32)
-}
-
-// The pages seen, with one page more.
-pub fn see(seen: u32, page: u8) -> u32
-    requires { ⌜ seen < Seen.broken ⌝ }
-    ensures { λ r. ⌜ (r ≡ Seen.see seen page) × (r ≤ Seen.broken) ⌝ }
-{
-    if page < map::FIRST_CONTROL {
-        return BROKEN;
-    }
-    let bit = bit_of(page);
-    if seen / bit % 2 == 1 {
-        return BROKEN;
-    }
-    seen + bit
-}
 
 // With the pages that hang from the cell; where so many are left, the list must end.
 fn see_all(m: &[u8], seen: u32, link: u16, cell: u16, left: u8) -> u32

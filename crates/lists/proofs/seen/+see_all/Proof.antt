@@ -6,7 +6,7 @@ use Rattle.lists.proofs.seen.see_all.Reads as own
 use Rattle.lists.proofs.seen.see_all.Kinds as kinds
 use Rattle.lists.proofs.seen.+see_all.Lts-see_all as lts
 use Rattle.words.proofs.at.Reads as at-reads
-use Rattle.lists.proofs.seen.see.Reads as see-reads
+use Rattle.lists.proofs.page.see.Reads as see-reads
 use Rattle.model.proofs.ControlPage.place.Reads as place-reads
 use Rattle.lists.proofs.seen.+see_all.{statement}
 use Rattle.lists.proofs.seen.+see_all.Tie.{close}

@@ -1,8 +1,8 @@
 use borrow.Author.Needs.{needs}
 use mathlib.Core.Path.{refl}
 use Rattle.lists.proofs.Counting.{bit-value}
-use Rattle.lists.proofs.seen.bit_of.Statement.{statement}
-use Rattle.lists.proofs.seen.bit_of.Tie as tie
+use Rattle.lists.proofs.page.bit_of.Statement.{statement}
+use Rattle.lists.proofs.page.bit_of.Tie as tie
 
 returns : tie.Need-returns
 returns c = bit-value _ _ _ (search needs) (search needs) refl refl
