@@ -1,26 +1,28 @@
 -- The list of a head as the code walks it, and the list of an empty one. Places are as the code reckons them.
-use Prim.Native.Nat.{ℕ, zero, suc, _+_, _*_, _≤_, _<_}
+use Prim.Native.Nat.{ℕ, zero, suc, _<_}
 use mathlib.Core.Path.{_≡_, refl, sym, _∙_}
 use mathlib.Core.Bool.{Bool, true, false, cond}
-use mathlib.Core.List.{List, [], _∷_}
+use mathlib.Core.List.{[]}
 use native.Mathlib.Omega.{arith}
 use lib.ListN.{length}
 use lib.Dec.{eqb}
-use borrow.Author.Tests.{eq-eqb, ne-eqb}
-use Rattle.model.specs.Map.{place, headerAfter, interrupts, listLink, pageQueue, processorList, link}
+use borrow.Author.Tests.{ne-eqb}
+use Rattle.model.specs.Map.{place, headerAfter, interrupts, link, listLink, pageQueue, processorList}
 use Rattle.model.specs.Rule.{Rule, same, each, holds}
 use Rattle.model.specs.Lists as Lists
 use Rattle.model.specs.Lists.{isGrant, linkOf, reach}
 use Rattle.model.specs.Bytes.{Memory, at, walk, lists}
 use Rattle.queues.proofs.Laws.{walk-end, walk-on}
-use Rattle.lists.proofs.Folds.{each-nil, lists-is, lists-each, link-other, left-low}
+use Rattle.lists.specs.Seen.{oneMore}
+use Rattle.lists.proofs.Folds.{each-nil, lists-is, lists-each, link-other}
+use Rattle.lists.proofs.Heads.{near-walk, processors-walk}
 
 -- ---- an empty head
 reach-some : (a : ℕ) → 0 < reach a
 unfolding Lists.reach
 reach-some a = go (isGrant a)
   where
-    go : (b : Bool) → 0 < cond b 1 21
+    go : (b : Bool) → 0 < cond b 1 oneMore
     go true = omega arith
     go false = omega arith
 
@@ -50,10 +52,8 @@ module _ (m : Memory) (j i : ℕ) (f : ℕ → Rule) (ej : j ≡ i) where
   pub header-empty : (w : ℕ) → w ≡ at m (headerAfter j) → w ≡ 0 → true ≡ holds (each (lists m (headerAfter i)) f)
   header-empty w ew z = rw (← ej, head-none m (headerAfter j) w ew z, each-nil f)
 
-  pub header-walk : (r : Bool) → i < interrupts → r ≡ holds (each (walk 21 m link (headerAfter j)) f) → r ≡ holds (each (lists m (headerAfter i)) f)
-  header-walk r h e =
-      rw (← ej)
-      (lists-each m (headerAfter j) 0 21 (link-other (headerAfter j) (λ q. omega (arith, ej, q))) (left-low (headerAfter j) (omega (arith, ej))) f r e)
+  pub header-walk : (r : Bool) → i < interrupts → r ≡ holds (each (walk oneMore m link (headerAfter j)) f) → r ≡ holds (each (lists m (headerAfter i)) f)
+  header-walk r h e = rw (← ej, near-walk m (headerAfter j) (λ q. omega (arith, ej, q)) (omega (arith, ej))) e
 
 -- ---- at a place in a page, and at the head of the page queue and of the processor list
 module _ (m : Memory) (c p k : ℕ) (f : ℕ → Rule) (ec : c ≡ place p k) where
@@ -64,12 +64,10 @@ module _ (m : Memory) (c p k : ℕ) (f : ℕ → Rule) (ec : c ≡ place p k) wh
   place-walk n r h en e = rw (← ec) (lists-each m c 0 n (link-other c (λ q. omega (arith, ec, q))) en f r e)
 
 module _ (m : Memory) (f : ℕ → Rule) (r : Bool) where
-  pub queue-walk : r ≡ holds (each (walk 21 m link pageQueue) f) → r ≡ holds (each (lists m pageQueue) f)
-  unfolding Lists.lists Lists.isGrant Lists.linkOf
-  queue-walk e = e
+  pub queue-walk : r ≡ holds (each (walk oneMore m link pageQueue) f) → r ≡ holds (each (lists m pageQueue) f)
+  queue-walk e = rw (near-walk m pageQueue (λ q. omega (arith, q)) (omega arith)) e
 
-  pub processors-walk : r ≡ holds (each (walk 21 m listLink processorList) f) → r ≡ holds (each (lists m processorList) f)
-  unfolding Lists.lists Lists.isGrant Lists.linkOf
-  processors-walk e = e
+  pub list-walk : r ≡ holds (each (walk oneMore m listLink processorList) f) → r ≡ holds (each (lists m processorList) f)
+  list-walk e = rw (processors-walk m) e
 
-pub ruleset heads = (empty-is, header-empty, header-walk, place-empty, place-walk, queue-walk, processors-walk)
+pub ruleset heads = (empty-is, header-empty, header-walk, place-empty, place-walk, queue-walk, list-walk)

@@ -1,42 +1,40 @@
 -- A law for each way through the rules that read a word or count before they test. Premises stand in the code's order.
-use Prim.Native.Nat.{ℕ, suc, _+_, _/_, _%_, _≤_, _<_}
+use Prim.Native.Nat.{ℕ, suc, _+_, _≤_, _<_}
 use mathlib.Core.Path.{_≡_, refl}
 use mathlib.Core.Bool.{Bool, true, _&&_}
 use mathlib.Core.List.{List}
 use native.Mathlib.Omega.{arith}
 use lib.ListN.{length}
 use lib.Dec.{eqb, leb}
-use Rattle.model.specs.Map.{place, entryAfter, firstUnused, freeList, grantFor, headerAfter, label, lengthIn, less, listLink, longest, notice}
-use Rattle.model.specs.Map.{ownQueue, ownSemaphore, processorList, runningLabel, semaphoreAfter, size}
+use Rattle.model.specs.Map.{place, upper, lower, less, waitIn, waitBit, lengthIn, longest, notice, lastName, lastFlag, lastFault}
+use Rattle.model.specs.Map.{entryAfter, firstUnused, freeList, grantFor, headerAfter, semaphoreAfter, processorList, runningLabel}
+use Rattle.model.specs.Map.{label, listLink, note, ownQueue, ownSemaphore, q1, reason, size, state}
 use Rattle.model.specs.Store.{bytes}
 use Rattle.model.specs.Rule.{same, each, among, holds}
-use Rattle.model.specs.Lists as Lists
 use Rattle.model.specs.Lists.{Lists, count, each-of}
 use Rattle.model.specs.Judge as Judge
 use Rattle.model.specs.Bytes.{Memory, at, word, walk, lists, name}
 use Rattle.lists.specs.Heads.{rule}
+use Rattle.lists.specs.Seen.{oneMore}
 use Rattle.lists.proofs.Folds.{both-yes, both-true, both-is, same-is, most-is, when-yes, when-no, unless-yes, unless-no, least-yes, least-no}
+use Rattle.lists.proofs.Heads.{processors-walk}
 use Rattle.judge.proofs.Heads.{empty-is, head-none, head-some}
 
-pub processors-are : (m : Memory) → walk 21 m listLink processorList ≡ lists m processorList
-unfolding Lists.lists Lists.isGrant Lists.linkOf
-processors-are m = refl
-
 -- ---- reasons
-module _ (m : Memory) (p w : ℕ) (ew : w ≡ word m p 12) where
-  pub quiet-idle : (b : Bool) → w % 128 / 64 ≡ 0 → b ≡ holds (Judge.reasonless bytes m p) → b ≡ holds (Judge.quiet bytes m p)
+module _ (m : Memory) (p w : ℕ) (ew : w ≡ word m p state) where
+  pub quiet-idle : (b : Bool) → waitIn w ≡ 0 → b ≡ holds (Judge.reasonless bytes m p) → b ≡ holds (Judge.quiet bytes m p)
   unfolding Judge.quiet
   quiet-idle b h eb = rw (← ew) (when-yes _ _ _ b h eb)
 
-  pub quiet-waits : (w % 128 / 64 ≡ 0 → ⊥) → true ≡ holds (Judge.quiet bytes m p)
+  pub quiet-waits : (waitIn w ≡ 0 → ⊥) → true ≡ holds (Judge.quiet bytes m p)
   unfolding Judge.quiet
   quiet-waits h = rw (← ew) (when-no _ _ _ h)
 
 -- ---- message waits: x is in the own queue of p
-pub owner-is : (m : Memory) (ps : List ℕ) (L : Lists) (p x w : ℕ) (b d r : Bool) → w ≡ word m p 2 → b ≡ holds (each (L (place p 5)) (Judge.unasked bytes m p))
-    → d ≡ (leb (w % 16) 7 && b) → r ≡ (eqb x p && d) → r ≡ holds (Judge.owner bytes m ps L p x)
+pub owner-is : (m : Memory) (ps : List ℕ) (L : Lists) (p x w : ℕ) (b d r : Bool) → w ≡ word m p reason → b ≡ holds (each (L (place p q1)) (Judge.unasked bytes m p))
+    → d ≡ (leb (lower w) lastFlag && b) → r ≡ (eqb x p && d) → r ≡ holds (Judge.owner bytes m ps L p x)
 unfolding Judge.owner
-owner-is m ps L p x w b d r ew eb ed er = rw (← ew) (both-is _ _ (eqb x p) d r er (same-is x p) (both-is _ _ (leb (w % 16) 7) b d ed (most-is (w % 16) 7) eb))
+owner-is m ps L p x w b d r ew eb ed er = rw (← ew) (both-is _ _ (eqb x p) d r er (same-is x p) (both-is _ _ (leb (lower w) lastFlag) b d ed (most-is (lower w) lastFlag) eb))
 
 -- ---- semaphores
 module _ (m : Memory) (a s : ℕ) where
@@ -58,7 +56,7 @@ module _ (m : Memory) (s : ℕ) (r : Bool) where
   message-semaphore-is p c es ec e = rw (← ec, ← es) e
 
 -- ---- pages
-pub page-wait-is : (m : Memory) (p w i : ℕ) (b c r : Bool) → w ≡ word m p label → i ≡ w % 16 → b ≡ holds (same (at m freeList) 0)
+pub page-wait-is : (m : Memory) (p w i : ℕ) (b c r : Bool) → w ≡ word m p label → i ≡ lower w → b ≡ holds (same (at m freeList) 0)
     → c ≡ holds (same (at m (grantFor i)) 0) → r ≡ (b && c) → r ≡ holds (rule (Judge.pageWait bytes) m p)
 unfolding Judge.pageWait
 page-wait-is m p w i b c r ew ei eb ec er = rw (← ew, ← ei) (both-is _ _ b c r er (empty-is m freeList b eb) (empty-is m (grantFor i) c ec))
@@ -70,12 +68,12 @@ module _ (m : Memory) (k i w : ℕ) (ei : i ≡ k) (ew : w ≡ at m (grantFor i)
       let e : length (lists m (grantFor k)) ≡ 0 = rw (← ei, head-none m (grantFor i) w ew z) in
       unless-yes (length (lists m (grantFor k))) 0 _ e
 
-  pub grant-some : (n : ℕ) (xs : List ℕ) → (w ≡ 0 → ⊥) → n ≡ count k (each-of (name m) xs) → xs ≡ lists m processorList
+  pub grant-some : (n : ℕ) → (w ≡ 0 → ⊥) → n ≡ count k (each-of (name m) (walk oneMore m listLink processorList))
       → eqb n 1 ≡ holds (rule (Judge.grant bytes) m k)
   unfolding Judge.grant
-  grant-some n xs h en ex =
+  grant-some n h en =
       let e : w ≡ at m (grantFor k) = rw ei at ew in
-      rw (← ex, ← en) (unless-no (length (lists m (grantFor k))) 0 _ (eqb n 1) (head-some m (grantFor k) w e h) (same-is n 1))
+      rw (processors-walk m, ← en) (unless-no (length (lists m (grantFor k))) 0 _ (eqb n 1) (head-some m (grantFor k) w e h) (same-is n 1))
 
 -- ---- messages
 pub sized-is : (m : Memory) (q w : ℕ) (r : Bool) → w ≡ word m q size → r ≡ (leb w notice && leb (lengthIn w) longest) → r ≡ holds (Judge.sized bytes m q)
@@ -83,23 +81,23 @@ unfolding Judge.sized
 sized-is m q w r ew er =
     rw (← ew) (both-is _ _ (leb w notice) (leb (lengthIn w) longest) r er (most-is w notice) (most-is (lengthIn w) longest))
 
-pub message-is : (m : Memory) (q w : ℕ) (b c d e r : Bool) → w ≡ word m q 1 → b ≡ holds (among (w / 16) 1 15) → c ≡ holds (among (w % 16) 1 7)
+pub message-is : (m : Memory) (q w : ℕ) (b c d e r : Bool) → w ≡ word m q note → b ≡ holds (among (upper w) 1 lastName) → c ≡ holds (among (lower w) 1 lastFlag)
     → d ≡ holds (Judge.sized bytes m q) → e ≡ (c && d) → r ≡ (b && e) → r ≡ holds (Judge.message bytes m q)
 unfolding Judge.message
 message-is m q w b c d e r ew eb ec ed ee er = rw (← ew) (both-is _ _ b e r er eb (both-is _ _ c d e ee ec ed))
 
 -- ---- who runs
-module _ (m : Memory) (p s : ℕ) (es : s ≡ word m p 12) where
-  pub higher-ready : (w l : ℕ) → s < 64 → w ≡ word m p label → l ≡ at m runningLabel → leb (w / 16) (l / 16) ≡ holds (rule (Judge.notHigher bytes) m p)
+module _ (m : Memory) (p s : ℕ) (es : s ≡ word m p state) where
+  pub higher-ready : (w l : ℕ) → s < waitBit → w ≡ word m p label → l ≡ at m runningLabel → leb (upper w) (upper l) ≡ holds (rule (Judge.notHigher bytes) m p)
   unfolding Judge.notHigher
-  higher-ready w l h ew el = rw (← es, ← ew, ← el) (least-yes (suc s) 64 _ (leb (w / 16) (l / 16)) h (most-is (w / 16) (l / 16)))
+  higher-ready w l h ew el = rw (← es, ← ew, ← el) (least-yes (suc s) waitBit _ (leb (upper w) (upper l)) h (most-is (upper w) (upper l)))
 
-  pub higher-not : 64 ≤ s → true ≡ holds (rule (Judge.notHigher bytes) m p)
+  pub higher-not : waitBit ≤ s → true ≡ holds (rule (Judge.notHigher bytes) m p)
   unfolding Judge.notHigher
-  higher-not h = rw (← es) (least-no (suc s) 64 _ (omega arith))
+  higher-not h = rw (← es) (least-no (suc s) waitBit _ (omega arith))
 
 -- ---- page 9
-pub used-is : (m : Memory) (i j w : ℕ) (b c r : Bool) → j ≡ i → w ≡ at m (entryAfter j) → b ≡ holds (among (w / 16) 1 15) → c ≡ holds (among (w % 16) 1 12)
+pub used-is : (m : Memory) (i j w : ℕ) (b c r : Bool) → j ≡ i → w ≡ at m (entryAfter j) → b ≡ holds (among (upper w) 1 lastName) → c ≡ holds (among (lower w) 1 lastFault)
     → r ≡ (b && c) → r ≡ holds (Judge.used bytes m i)
 unfolding Judge.used
 used-is m i j w b c r ej ew eb ec er = rw (← ej, ← ew) (both-is _ _ b c r er eb ec)
@@ -117,7 +115,6 @@ module _ (m : Memory) (i f j k : ℕ) (ef : f ≡ at m firstUnused) (ej : j ≡ 
       rw (← ef, ← e) (both-yes _ _ true (least-no (i + 2) f _ (omega arith)) (eqb w 0) refl (least-yes f (i + 1) _ (eqb w 0) (omega arith) (same-is w 0)))
 
 pub ruleset sentences = (
-  processors-are,
   quiet-idle,
   quiet-waits,
   owner-is,

@@ -3,23 +3,24 @@ use Prim.Native.Nat.{ℕ, suc}
 use mathlib.Core.Path.{_≡_, refl}
 use mathlib.Core.Bool.{Bool, true, _&&_}
 use lib.Dec.{eqb, ltb}
-use Rattle.model.specs.Map.{label, listLink, processorList, runningLabel, runningPage, state}
+use Rattle.model.specs.Map.{label, listLink, processorList, runningLabel, runningPage, state, waitBit}
 use Rattle.model.specs.Store.{bytes}
 use Rattle.model.specs.Rule.{same, each, holds}
-use Rattle.model.specs.Lists as Lists
 use Rattle.model.specs.Lists.{count}
 use Rattle.model.specs.Judge as Judge
 use Rattle.model.specs.Bytes.{Memory, at, word, walk, lists}
 use Rattle.lists.specs.Heads.{rule}
+use Rattle.lists.specs.Seen.{oneMore}
 use Rattle.lists.proofs.Folds.{both-yes, both-is, same-is, most-is, when-yes, when-no, unless-yes, unless-no}
+use Rattle.lists.proofs.Heads.{processors-walk}
 
-pub runner-is : (m : Memory) (p n l w s : ℕ) (d r : Bool) → n ≡ count p (walk 21 m listLink processorList)
+pub runner-is : (m : Memory) (p n l w s : ℕ) (d r : Bool) → n ≡ count p (walk oneMore m listLink processorList)
     → l ≡ at m runningLabel → w ≡ word m p label → s ≡ word m p state
-    → d ≡ (eqb l w && ltb s 64) → r ≡ (eqb n 1 && d) → r ≡ holds (rule (Judge.runner bytes) m p)
-unfolding Judge.runner Lists.lists Lists.isGrant Lists.linkOf
+    → d ≡ (eqb l w && ltb s waitBit) → r ≡ (eqb n 1 && d) → r ≡ holds (rule (Judge.runner bytes) m p)
+unfolding Judge.runner
 runner-is m p n l w s d r en el ew es ed er =
-    rw (← en, ← el, ← ew, ← es)
-    (both-is _ _ (eqb n 1) d r er (same-is n 1) (both-is _ _ (eqb l w) (ltb s 64) d ed (same-is l w) (most-is (suc s) 64)))
+    rw (processors-walk m, ← en, ← el, ← ew, ← es)
+    (both-is _ _ (eqb n 1) d r er (same-is n 1) (both-is _ _ (eqb l w) (ltb s waitBit) d ed (same-is l w) (most-is (suc s) waitBit)))
 
 module _ (m : Memory) (p : ℕ) (b c r : Bool) (ep : p ≡ at m runningPage) where
   pub running-idle : p ≡ 0 → b ≡ holds (same (at m runningLabel) 0) → c ≡ holds (each (lists m processorList) (rule (Judge.notHigher bytes) m)) → r ≡ (b && c)
