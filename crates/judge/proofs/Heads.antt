@@ -1,5 +1,5 @@
 -- The list of a head as the code walks it, and the list of an empty one. Places are as the code reckons them.
-use Prim.Native.Nat.{ℕ, zero, suc, _<_}
+use Prim.Native.Nat.{ℕ, zero, suc, _≤_, _<_}
 use mathlib.Core.Path.{_≡_, refl, sym, _∙_}
 use mathlib.Core.Bool.{Bool, true, false, cond}
 use mathlib.Core.List.{[]}
@@ -7,7 +7,7 @@ use native.Mathlib.Omega.{arith}
 use lib.ListN.{length}
 use lib.Dec.{eqb}
 use borrow.Author.Tests.{ne-eqb}
-use Rattle.model.specs.Map.{place, headerAfter, interrupts, link, listLink, pageQueue, processorList}
+use Rattle.model.specs.Map.{place, headerAfter, interrupts, link, listLink, pageQueue, processorList, q2}
 use Rattle.model.specs.Rule.{Rule, same, each, holds}
 use Rattle.model.specs.Lists as Lists
 use Rattle.model.specs.Lists.{isGrant, linkOf, reach}
@@ -60,7 +60,7 @@ module _ (m : Memory) (c p k : ℕ) (f : ℕ → Rule) (ec : c ≡ place p k) wh
   pub place-empty : (w : ℕ) → w ≡ at m c → w ≡ 0 → true ≡ holds (each (lists m (place p k)) f)
   place-empty w ew z = rw (← ec, head-none m c w ew z, each-nil f)
 
-  pub place-walk : (n : ℕ) (r : Bool) → k < 16 → n ≡ reach c → r ≡ holds (each (walk n m link c) f) → r ≡ holds (each (lists m (place p k)) f)
+  pub place-walk : (n : ℕ) (r : Bool) → k ≤ q2 → n ≡ reach c → r ≡ holds (each (walk n m link c) f) → r ≡ holds (each (lists m (place p k)) f)
   place-walk n r h en e = rw (← ec) (lists-each m c 0 n (link-other c (λ q. omega (arith, ec, q))) en f r e)
 
 module _ (m : Memory) (f : ℕ → Rule) (r : Bool) where

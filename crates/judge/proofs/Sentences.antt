@@ -31,10 +31,12 @@ module _ (m : Memory) (p w : ℕ) (ew : w ≡ word m p state) where
   quiet-waits h = rw (← ew) (when-no _ _ _ h)
 
 -- ---- message waits: x is in the own queue of p
-pub owner-is : (m : Memory) (ps : List ℕ) (L : Lists) (p x w : ℕ) (b d r : Bool) → w ≡ word m p reason → b ≡ holds (each (L (place p q1)) (Judge.unasked bytes m p))
-    → d ≡ (leb (lower w) lastFlag && b) → r ≡ (eqb x p && d) → r ≡ holds (Judge.owner bytes m ps L p x)
+pub owner-is : (m : Memory) (ps : List ℕ) (L : Lists) (p x w : ℕ) (b d r : Bool) → w ≡ word m p reason
+    → b ≡ holds (each (L (place p q1)) (Judge.unasked bytes m p)) → d ≡ (leb (lower w) lastFlag && b)
+    → r ≡ (eqb x p && d) → r ≡ holds (Judge.owner bytes m ps L p x)
 unfolding Judge.owner
-owner-is m ps L p x w b d r ew eb ed er = rw (← ew) (both-is _ _ (eqb x p) d r er (same-is x p) (both-is _ _ (leb (lower w) lastFlag) b d ed (most-is (lower w) lastFlag) eb))
+owner-is m ps L p x w b d r ew eb ed er =
+    rw (← ew) (both-is _ _ (eqb x p) d r er (same-is x p) (both-is _ _ (leb (lower w) lastFlag) b d ed (most-is (lower w) lastFlag) eb))
 
 -- ---- semaphores
 module _ (m : Memory) (a s : ℕ) where
@@ -97,8 +99,8 @@ module _ (m : Memory) (p s : ℕ) (es : s ≡ word m p state) where
   higher-not h = rw (← es) (least-no (suc s) waitBit _ (omega arith))
 
 -- ---- page 9
-pub used-is : (m : Memory) (i j w : ℕ) (b c r : Bool) → j ≡ i → w ≡ at m (entryAfter j) → b ≡ holds (among (upper w) 1 lastName) → c ≡ holds (among (lower w) 1 lastFault)
-    → r ≡ (b && c) → r ≡ holds (Judge.used bytes m i)
+pub used-is : (m : Memory) (i j w : ℕ) (b c r : Bool) → j ≡ i → w ≡ at m (entryAfter j) → b ≡ holds (among (upper w) 1 lastName)
+    → c ≡ holds (among (lower w) 1 lastFault) → r ≡ (b && c) → r ≡ holds (Judge.used bytes m i)
 unfolding Judge.used
 used-is m i j w b c r ej ew eb ec er = rw (← ej, ← ew) (both-is _ _ b c r er eb ec)
 

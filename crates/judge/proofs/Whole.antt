@@ -81,7 +81,8 @@ module _ (m : Memory) where
   once-good = refl
 
   waits-good :
-      (all (λ p. eqb (sum p (lists m) (queues ps)) (waiting m p)) ps && all (λ z. leb (sum z (lists m) (queues ps)) (count z ps)) (range controlPages 1 firstControl))
+      (all (λ p. eqb (sum p (lists m) (queues ps)) (waiting m p)) ps
+      && all (λ z. leb (sum z (lists m) (queues ps)) (count z ps)) (range controlPages 1 firstControl))
       ≡ waitingBits
   unfolding holds Judge.waitingBits Judge.bit Judge.waiter
   waits-good = sym (both-and (each ps (rule (Judge.bit bytes) m)) (each (range controlPages 1 firstControl) (rule (Judge.waiter bytes) m)))

@@ -9,7 +9,7 @@ use model::map;
 use model::wide;
 use words::at;
 ghost use mathlib.Core.Path.{_≡_};
-ghost use Prim.Native.Nat.{_<_};
+ghost use Prim.Native.Nat.{_<_, _≤_};
 ghost use lib.ListN.{length};
 ghost use Rattle.model.specs.Map as Map;
 ghost use Rattle.model.specs.Store.{bytes};
@@ -86,7 +86,7 @@ fn all_messages(m: &[u8], cell: u16, left: u8) -> bool
 }
 
 fn queued(m: &[u8], p: ControlPage, queue: u16) -> bool
-    requires { ⌜ (length (now m) ≡ 8192) × (queue < 16) ⌝ }
+    requires { ⌜ (length (now m) ≡ 8192) × (queue ≤ Map.q2) ⌝ }
     ensures { λ r. ⌜ r ≡ holds (each (Model.lists (now (m .entry)) (Map.place (p .0) queue)) (Judge.message bytes (now (m .entry)))) ⌝ }
 {
     let head = p.place(queue);

@@ -102,7 +102,7 @@ fn all_quiet(m: &[u8], cell: u16, left: u8) -> bool
 
 // Interrupt k + 1; all of them.
 fn served(m: &[u8], k: u8) -> bool
-    requires { ⌜ (length (now m) ≡ 8192) × (k < 54) ⌝ }
+    requires { ⌜ (length (now m) ≡ 8192) × (k < Map.interrupts) ⌝ }
     ensures { λ r. ⌜ r ≡ holds (rule (Judge.served bytes) (now (m .entry)) k) ⌝ }
 {
     let head = map::HEADERS_AFTER + 2 * wide(k);

@@ -4,16 +4,16 @@ use lib.ListN.{length}
 use borrow.Author.Needs.{needs}
 use Rattle.model.specs.Map.{pageSize}
 use Rattle.model.specs.Store.{bytes}
-use Rattle.model.specs.Rule.{holds, below}
 use Rattle.model.specs.Judge as Judge
 use Rattle.lists.specs.Heads.{rule}
 use Rattle.judge.proofs.Laws.{downward}
+use Rattle.judge.proofs.Ranges.{Decides}
 use Rattle.judge.proofs.records.granted.Statement.{statement}
 use Rattle.judge.proofs.records.granted.Tie as tie
 
 -- what is left to test decides
 abbrev Inv-loop : tie.InvT-loop
-Inv-loop m k₀ k = (length m ≡ 8192) × (k ≤ pageSize) × (holds (below k (rule (Judge.grant bytes) m)) ≡ holds (below pageSize (rule (Judge.grant bytes) m)))
+Inv-loop m k₀ k = (length m ≡ 8192) × (k ≤ pageSize) × Decides (rule (Judge.grant bytes) m) pageSize k
 
 abbrev μ-loop : tie.MeasureT-loop
 μ-loop m k₀ k = k

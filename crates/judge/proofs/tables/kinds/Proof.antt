@@ -4,15 +4,15 @@ use lib.ListN.{length}
 use borrow.Author.Needs.{needs}
 use Rattle.model.specs.Map.{allCodes}
 use Rattle.model.specs.Store.{bytes}
-use Rattle.model.specs.Rule.{holds, below}
 use Rattle.model.specs.Judge as Judge
 use Rattle.judge.proofs.Laws.{downward}
+use Rattle.judge.proofs.Ranges.{Decides}
 use Rattle.judge.proofs.tables.kinds.Statement.{statement}
 use Rattle.judge.proofs.tables.kinds.Tie as tie
 
 -- what is left to test decides
 abbrev Inv-loop : tie.InvT-loop
-Inv-loop m k₀ k = (length m ≡ 8192) × (k ≤ allCodes) × (holds (below k (Judge.kind bytes m)) ≡ holds (below allCodes (Judge.kind bytes m)))
+Inv-loop m k₀ k = (length m ≡ 8192) × (k ≤ allCodes) × Decides (Judge.kind bytes m) allCodes k
 
 abbrev μ-loop : tie.MeasureT-loop
 μ-loop m k₀ k = k
