@@ -5,10 +5,10 @@ use mathlib.Core.Bool.{Bool, true, not, _&&_}
 use mathlib.Core.List.{List}
 use native.Mathlib.Omega.{arith}
 use lib.Dec.{eqb, leb}
-use Rattle.model.specs.Map.{grantFor, label, processorList, runningPage, state}
+use Rattle.model.specs.Map.{upper, lower, grantFor, label, lastName, lastPriority, processorList, runningPage, state}
 use Rattle.model.specs.Store.{bytes}
-use Rattle.model.specs.Rule.{never, holds}
-use Rattle.model.specs.Lists.{count, sum, each-of, queues}
+use Rattle.model.specs.Rule.{never, among, holds}
+use Rattle.model.specs.Lists.{Lists, count, sum, each-of, queues}
 use Rattle.model.specs.Judge as Judge
 use Rattle.model.specs.Classes as Classes
 use Rattle.model.specs.Bytes.{Memory, at, word, name, met}
@@ -29,6 +29,13 @@ pub bit-is : (m : Memory) (p n w v : ℕ) → n ≡ sum p (met m) (queues (met m
     → eqb n v ≡ holds (here (Judge.bit bytes) m p)
 unfolding Judge.bit
 bit-is m p n w v en ew ev = rw (← en, ← ew, ← ev) (same-is n v)
+
+-- ---- names: xs are the processors, as the code walks them
+pub label-is : (m : Memory) (ps xs : List ℕ) (L : Lists) (p w n : ℕ) (b c d r : Bool) → w ≡ word m p label → n ≡ count (lower w) (each-of (name m) xs)
+    → xs ≡ ps → b ≡ holds (among (lower w) 1 lastName) → c ≡ holds (among (upper w) 1 lastPriority) → d ≡ (b && c) → r ≡ (eqb n 1 && d)
+    → r ≡ holds (Judge.label bytes m ps L p)
+unfolding Judge.label
+label-is m ps xs L p w n b c d r ew en ex eb ec ed er = rw (← ew, ← ex, ← en) (both-is _ _ (eqb n 1) d r er (same-is n 1) (both-is _ _ b c d ed eb ec))
 
 -- ---- the grant of name k, at c; xs are the processors, as the code walks them
 module _ (m : Memory) (k c w : ℕ) (ec : c ≡ grantFor k) (ew : w ≡ at m c) where
@@ -58,4 +65,4 @@ module _ (m : Memory) (p s : ℕ) (es : s ≡ word m p state) where
   unfolding Classes.notHigher
   higher-waits h = rw (← es) (least-no (suc s) 64 _ (omega arith))
 
-pub ruleset askings = (asked-is, address-is, bit-is, existing-none, existing-some, higher-is, higher-waits)
+pub ruleset askings = (asked-is, address-is, bit-is, label-is, existing-none, existing-some, higher-is, higher-waits)

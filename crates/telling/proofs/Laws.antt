@@ -1,5 +1,5 @@
 -- The laws that the proofs of the functions search.
-use Rattle.rules.proofs.Laws.{rulings}
+use Rattle.judge.proofs.Laws.{rulings}
 use Rattle.telling.proofs.Walking.{walkings}
 use Rattle.telling.proofs.Asking.{askings}
 use Rattle.telling.proofs.Words.{wordings}

@@ -6,7 +6,7 @@ use Rattle.telling.proofs.asked.all_unasked.Reads as own
 use Rattle.telling.proofs.asked.all_unasked.Kinds as kinds
 use Rattle.telling.proofs.asked.+all_unasked.Lts-all_unasked as lts
 use Rattle.model.proofs.ControlPage.place.Reads as place-reads
-use Rattle.rules.proofs.tests.unasked.Reads as unasked-reads
+use Rattle.judge.proofs.waits.unasked.Reads as unasked-reads
 use Rattle.telling.proofs.walks.control_at.Reads as control-at-reads
 use Rattle.telling.proofs.asked.+all_unasked.{statement}
 use Rattle.telling.proofs.asked.+all_unasked.Tie.{close}
