@@ -9,5 +9,5 @@ see-name-spec = tie.close (tie.spec
     (λ c κs. search needs)
     (λ c. search needs)
     (λ c κs. search needs)
-    (λ c. search (needs, name-yes, name-no))
-    (λ c. search (needs, name-yes, name-no)))
+    (λ c. search (needs, name-yes))
+    (λ c. search (needs, name-no)))

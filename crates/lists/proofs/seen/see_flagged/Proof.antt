@@ -7,5 +7,5 @@ pub see-flagged-spec : {M : Type 1} → statement M
 see-flagged-spec = tie.close (tie.spec
     (λ c κs. search needs)
     (λ c κs. search needs)
-    (λ c. search (needs, flag-yes, flag-no))
-    (λ c. search (needs, flag-yes, flag-no)))
+    (λ c. search (needs, flag-yes))
+    (λ c. search (needs, flag-no)))

@@ -7,7 +7,7 @@ pub see-mail-spec : {M : Type 1} → statement M
 see-mail-spec = tie.close (tie.spec
     (λ c κs. search needs)
     (λ c κs. search needs)
-    (λ c. search (needs, mail-first, mail-both))
+    (λ c. search (needs, mail-first))
     (λ c κs. search needs)
     (λ c κs. search needs)
-    (λ c. search (needs, mail-first, mail-both)))
+    (λ c. search (needs, mail-both)))
