@@ -18,7 +18,7 @@ ghost use Rattle.lists.specs.Seen as Seen;
 
 pub const ALL_PAGES: u32 = 1048575;
 
-// With the pages that hang from the cell; where so many are left, the list must end.
+// With the pages that hang from the cell; so many may come, and then the list must end.
 fn see_all(m: &[u8], seen: u32, link: u16, cell: u16, left: u8) -> u32
     requires { ⌜ (length (now m) ≡ 8192) × (link < 32) × (cell < 8192) × (seen < Seen.broken) ⌝ }
     ensures { λ r. ⌜ (r ≡ Seen.upTo (suc left) seen (Model.walk (suc left) (now (m .entry)) link cell)) × (r ≤ Seen.broken) ⌝ }
