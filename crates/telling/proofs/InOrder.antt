@@ -2,23 +2,30 @@
 use Prim.Native.Nat.{ℕ, min, _≤_, _<_}
 use mathlib.Core.Path.{_≡_, refl, sym, _∙_}
 use mathlib.Core.Bool.{Bool, true}
+use mathlib.Core.Logic.{_⊎_, inl, inr}
 use mathlib.Core.List.{List, [], _∷_}
 use native.Mathlib.Omega.{arith}
 use lib.ListN.{length}
 use Rattle.model.specs.declared.Finding.{Finding}
 use Rattle.model.specs.declared.Finding.the-variants.{Nothing, Broken}
-use Rattle.model.specs.Map.{memorySize}
+use Rattle.model.specs.Map.{memorySize, controlPages, firstControl, processorList}
 use Rattle.model.specs.Store.{bytes}
-use Rattle.model.specs.Lists.{count}
+use Rattle.model.specs.Lists.{count, sum}
 use Rattle.model.specs.Tell.{Row, Class, least, offendingIn, tell, first}
 use Rattle.model.specs.Tell.Class.{class}
 use Rattle.model.specs.Classes as Classes
-use Rattle.model.specs.Bytes.{Memory, judged, toldOf}
+use Rattle.model.specs.Classes.{controls, used}
+use Rattle.model.specs.Bytes.{Memory, judged, toldOf, met}
 use Rattle.laws.specs.Count.{hit-self}
-use Rattle.laws.specs.Tells.{least-low}
+use Rattle.laws.specs.Chain.{Page}
+use Rattle.laws.specs.Heads.{one, page-or, range1-at}
+use Rattle.laws.specs.Met.{met-pages, none-else}
+use Rattle.laws.specs.Tells.{least-low, clear-means-in}
 use Rattle.laws.specs.Exactly.{judged-nothing}
 use Rattle.laws.specs.Addresses.{WithinIn, offending-within-in, all-low}
 use Rattle.telling.specs.Rows.{here}
+use Rattle.telling.specs.Met as Met
+use Rattle.telling.specs.Met.{Single}
 
 module _ (n a : ℕ) (t : Finding) where
   some-told : (l : List ℕ) → ((b : ℕ) → 1 ≤ count b l → b < memorySize) → a ≡ least memorySize l → a < memorySize
@@ -35,6 +42,11 @@ module _ (n a : ℕ) (t : Finding) where
   unfolding tell least
   none-told [] w e h = refl
   none-told (b ∷ bs) w e h = let f = w b (omega (arith, hit-self b)) in absurd (omega (arith, least-low (min memorySize b) bs))
+
+none-offends : (a : ℕ) (l : List ℕ) → ((b : ℕ) → 1 ≤ count b l → b < memorySize) → a ≡ least memorySize l → memorySize ≤ a → l ≡ []
+unfolding least
+none-offends a [] w e h = refl
+none-offends a (b ∷ bs) w e h = let f = w b (omega (arith, hit-self b)) in absurd (omega (arith, least-low (min memorySize b) bs))
 
 module _ (n a : ℕ) (ss : List (List Row)) (cs : List Class) (w : WithinIn memorySize ss) (e : a ≡ least memorySize (offendingIn ss)) where
   pub class-tells : a < memorySize → Broken n a ≡ first (class n ss ∷ cs)
@@ -71,7 +83,18 @@ module _ (m : Memory) where
   unfolding Classes.classes
   counters-low = all-low m .1 .1 .1 .1 .0
 
+  -- where 30 tells nothing, no page is twice on the processor list
+  pub pages-single : (a : ℕ) → a ≡ least memorySize (offendingIn (here (Classes.ofPages bytes) m)) → memorySize ≤ a → Single m
+  unfolding Classes.ofPages Classes.usedOnce Classes.once Met.Single
+  pages-single a e h z =
+      let c = clear-means-in _ (none-offends a _ (offending-within-in memorySize _ pages-low) e h) in
+      go (page-or z) (c .0 .0 z)
+    where
+      go : Page z ⊎ (one z ≡ 0) → (1 ≤ count z controls → sum z (met m) (used (met m processorList)) ≡ 1) → count z (met m processorList) ≤ 1
+      go (inl p) f = omega (arith, f (omega (arith, range1-at controlPages firstControl z (p .0) (omega arith))))
+      go (inr q) f = omega (arith, none-else (met m processorList) (met-pages m processorList) z q)
+
   pub accepted-is : (b : Bool) → length m ≡ memorySize → b ≡ judged m → b ≡ true → Nothing ≡ toldOf m
   accepted-is b l e h = sym (judged-nothing m l (sym e ∙ h))
 
-pub ruleset findings = (class-tells, class-clear, all-clear, pages-low, waits-low, records-low, tables-low, counters-low, accepted-is)
+pub ruleset findings = (class-tells, class-clear, all-clear, pages-low, waits-low, records-low, tables-low, counters-low, pages-single, accepted-is)

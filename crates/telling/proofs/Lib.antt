@@ -1,6 +1,7 @@
+pub mod Digits
 pub mod Walking
-pub mod Asking
-pub mod Words
 pub mod Lows
+pub mod Meeting
+pub mod Asking
 pub mod InOrder
 pub mod Laws

@@ -1,16 +1,18 @@
--- A law for each way through the walks and the counts: a walk ends at the first word that is no control page, and the list of a head is a walk.
+-- A law for each way through the walks: a walk ends at the first word that is no control page, and the list of a head is a walk.
 use Prim.Native.Nat.{ℕ, zero, suc, _+_, _-_, _≤_}
 use mathlib.Core.Path.{_≡_, refl, sym, ap, _∙_}
-use mathlib.Core.Bool.{Bool, true, false, cond}
+use mathlib.Core.Bool.{Bool, true, false, cond, _&&_}
 use mathlib.Core.List.{List, [], _∷_, _++_}
 use native.Mathlib.Omega.{arith}
 use native.Mathlib.Numerals.{sub-one}
 use lib.ListN.{length}
+use lib.Dec.{leb}
+use borrow.Author.Tests.{leb-true}
 use Rattle.model.specs.Map.{place, firstControl, freeList, grantFor, headerAfter, interrupts, lastControl, lastName, listLink, ownQueue, pageQueue}
 use Rattle.model.specs.Map.{processorList, q1}
 use Rattle.model.specs.Rule.{Rule, most, each, among, holds}
 use Rattle.model.specs.Lists as Lists
-use Rattle.model.specs.Lists.{Lists, count, sum, range, mails, owns, queues, linkOf, reach, isGrant}
+use Rattle.model.specs.Lists.{Lists, count, linkOf, reach, isGrant}
 use Rattle.model.specs.Walks as Walks
 use Rattle.model.specs.Walks.{isControl, lastCell}
 use Rattle.model.specs.Classes.{used}
@@ -119,34 +121,25 @@ pub met-each : (m : Memory) (a c k n : ℕ) (f : ℕ → Rule) (r : Bool) → c 
     → r ≡ holds (each (path n m k c) f) → r ≡ holds (each (met m a) f)
 met-each m a c k n f r e ek en er = rw (← e, ← met-is m c k n ek en) er
 
--- ---- sums over the lists of heads, and over those of so many words of each page
-pub no-heads : (n k : ℕ) (xs : List ℕ) → xs ≡ [] → headsOf n k xs ≡ []
-no-heads n k xs e = rw e
+pub control-low : (m : Memory) (a w : ℕ) → w ≡ controlAt m a → (w ≡ 0 → ⊥) → firstControl ≤ w
+unfolding Rows.controlAt Walks.isControl
+control-low m a w e z =
+    let s = some-control (at m a) w e z in
+    let b = and-left (leb firstControl (at m a)) (leb (at m a) lastControl) (s .0) in
+    omega (arith, leb-true firstControl (at m a) b, s .1)
+  where
+    and-left : (b c : Bool) → (b && c) ≡ true → b ≡ true
+    and-left true c e = refl
+    and-left false c e = e
 
-sum-append : (z : ℕ) (L : Lists) (hs ks : List ℕ) → sum z L (hs ++ ks) ≡ sum z L hs + sum z L ks
-sum-append z L [] ks = omega arith
-sum-append z L (a ∷ hs) ks = omega (arith, sum-append z L hs ks)
+-- ---- an empty head
+control-none : (m : Memory) (a w : ℕ) → w ≡ at m a → w ≡ 0 → 0 ≡ controlAt m a
+unfolding Rows.controlAt Walks.isControl
+control-none m a w e z = rw (← e, z)
 
-module _ (z : ℕ) (L : Lists) (xs ys : List ℕ) (w x y : ℕ) where
-  pub sum-none : xs ≡ [] → 0 ≡ sum z L xs
-  sum-none e = rw e
-
-  pub sum-on : xs ≡ w ∷ ys → x ≡ count z (L w) → y ≡ sum z L ys → x + y ≡ sum z L xs
-  sum-on e ex ey = rw (e, ← ex, ← ey)
-
-  pub heads-on : (n k h : ℕ) → xs ≡ w ∷ ys → h ≡ place w k → x ≡ sum z L (range n 1 h) → y ≡ sum z L (headsOf n k ys)
-      → x + y ≡ sum z L (headsOf n k xs)
-  heads-on n k h e eh ex ey = rw (e, sum-append z L (range n 1 (place w k)) (headsOf n k ys), ← eh, ← ex, ← ey)
-
--- xs are the processors, as the code walks them
-module _ (z : ℕ) (L : Lists) (ps xs : List ℕ) (e : xs ≡ ps) where
-  pub uses-is : (p f q g : ℕ) → p ≡ count z (L processorList) → f ≡ count z (L freeList) → q ≡ sum z L (headsOf 2 q1 xs)
-      → g ≡ sum z L (range lastName 1 (grantFor 1)) → p + (f + (q + g)) ≡ sum z L (used ps)
-  uses-is p f q g ep ef eq eg = rw (mails-heads ps, sum-append z L (headsOf 2 q1 ps) (range lastName 1 (grantFor 1)), ← e, ← ep, ← ef, ← eq, ← eg)
-
-  pub waits-is : (a o i : ℕ) → a ≡ count z (L pageQueue) → o ≡ sum z L (headsOf 1 ownQueue xs) → i ≡ sum z L (range interrupts 2 (headerAfter 0))
-      → a + (o + i) ≡ sum z L (queues ps)
-  waits-is a o i ea eo ei = rw (owns-heads ps, sum-append z L (headsOf 1 ownQueue ps) (range interrupts 2 (headerAfter 0)), ← e, ← ea, ← eo, ← ei)
+pub met-empty : (m : Memory) (a w : ℕ) → w ≡ at m a → w ≡ 0 → met m a ≡ []
+unfolding Walks.met
+met-empty m a w e z = path-end (reach a) m (linkOf a) a 0 (control-none m a w e z) refl
 
 pub ruleset walkings = (
   control-yes,
@@ -163,10 +156,6 @@ pub ruleset walkings = (
   met-count,
   met-most,
   met-each,
-  sum-none,
-  sum-on,
-  no-heads,
-  heads-on,
-  uses-is,
-  waits-is,
+  control-low,
+  met-empty,
 )

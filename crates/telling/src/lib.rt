@@ -1,15 +1,20 @@
 // Say what is broken: the class and the lowest address that it tells. Asked class by class only where the judge refuses.
-mod asked;
 mod cells;
+mod counters;
 mod lowest;
-mod sentences;
+mod met;
+mod places;
+mod records;
+mod tables;
+mod uses;
+mod waits;
 mod walks;
 
-use crate::sentences::counters;
-use crate::sentences::pages;
-use crate::sentences::records;
-use crate::sentences::tables;
-use crate::sentences::waits;
+use crate::counters::counters;
+use crate::records::records;
+use crate::tables::tables;
+use crate::uses::pages;
+use crate::waits::waits;
 use judge::judged;
 use model::Finding;
 use model::map;

@@ -1,24 +1,22 @@
-// The lowest of an address and of what is told of those that break a rule: one, those of a range, of a walk, of lists, of the mail.
-use crate::asked::Asked;
-use crate::asked::address;
-use crate::asked::passes;
-use crate::cells::AskedAt;
-use crate::cells::address_at;
-use crate::cells::passes_at;
+// The lowest address that is told: of one rule, and of the ends of lists.
 use crate::walks::control_at;
-use lists::left_of;
-use lists::link_of;
+use crate::walks::end;
+use lists::lies;
 use model::ControlPage;
 use model::map;
+use words::at;
 ghost use mathlib.Core.Path.{_≡_};
+ghost use mathlib.Core.Bool.{cond};
 ghost use mathlib.Core.List.{[], _∷_};
 ghost use Prim.Native.Nat.{_<_, _≤_, _+_, _*_, min};
 ghost use lib.ListN.{length};
 ghost use Rattle.model.specs.Map as Map;
-ghost use Rattle.model.specs.Lists.{range};
-ghost use Rattle.model.specs.Walks.{gather};
+ghost use Rattle.model.specs.Store.{bytes};
+ghost use Rattle.model.specs.Rule.{holds};
+ghost use Rattle.model.specs.Lists.{mails, owns, range};
+ghost use Rattle.model.specs.Classes as Classes;
 ghost use Rattle.model.specs.Bytes as Model;
-ghost use Rattle.telling.specs.Rows.{headsMet, lowestOf, lowestAt};
+ghost use Rattle.telling.specs.Rows.{here, lowestEnd};
 
 fn lower(low: u16, a: u16) -> u16
     ensures { λ r. ⌜ r ≡ min low a ⌝ }
@@ -29,125 +27,102 @@ fn lower(low: u16, a: u16) -> u16
     low
 }
 
-// ---- A page or an index: x; those of a range; those that are met from a cell on; in a list; in so many lists; in the mail.
-fn tell(m: &[u8], asked: Asked, x: u8, low: u16) -> u16
-    requires { ⌜ length (now m) ≡ 8192 ⌝ }
-    ensures { λ r. ⌜ r ≡ lowestOf (now (m .entry)) asked low (x ∷ []) ⌝ }
+// The lower of low and the address that is told, unless the rule holds.
+pub fn unless(holds: bool, told: u16, low: u16) -> u16
+    ensures { λ r. ⌜ r ≡ cond holds low (min low told) ⌝ }
 {
-    if passes(m, asked, x) {
+    if holds {
         return low;
     }
-    lower(low, address(m, asked, x))
+    lower(low, told)
 }
 
-pub fn by_range(m: &[u8], asked: Asked, count: u8, x: u16, low: u16) -> u16
-    requires { ⌜ (length (now m) ≡ 8192) × (x + count ≤ 256) ⌝ }
-    ensures { λ r. ⌜ r ≡ lowestOf (now (m .entry)) asked low (range count 1 x) ⌝ }
-{
-    if count == 0 {
-        return low;
-    }
-    let v = tell(m, asked, x as u8, low);
-    by_range(m, asked, count - 1, x + 1, v)
-}
-
-fn by_path(m: &[u8], asked: Asked, link: u16, cell: u16, left: u8, low: u16) -> u16
-    requires { ⌜ (length (now m) ≡ 8192) × (link < 32) × (cell < 8192) ⌝ }
-    ensures { λ r. ⌜ r ≡ lowestOf (now (m .entry)) asked low (Model.path left (now (m .entry)) link cell) ⌝ }
-{
-    if left == 0 {
-        return low;
-    }
-    let w = control_at(m, cell);
-    if w == 0 {
-        return low;
-    }
-    let v = tell(m, asked, w, low);
-    by_path(m, asked, link, ControlPage(w).place(link), left - 1, v)
-}
-
-pub fn by_list(m: &[u8], asked: Asked, head: u16, low: u16) -> u16
-    requires { ⌜ (length (now m) ≡ 8192) × (head < 8192) ⌝ }
-    ensures { λ r. ⌜ r ≡ lowestOf (now (m .entry)) asked low (Model.met (now (m .entry)) head) ⌝ }
-{
-    by_path(m, asked, link_of(head), head, left_of(head), low)
-}
-
-pub fn by_lists(m: &[u8], asked: Asked, heads: u8, step: u16, head: u16, low: u16) -> u16
-    requires { ⌜ (length (now m) ≡ 8192) × (step ≤ 2) × (head + 2 * heads < 8192) ⌝ }
-    ensures { λ r. ⌜ r ≡ lowestOf (now (m .entry)) asked low (gather (Model.met (now (m .entry))) (range heads step head)) ⌝ }
-{
-    if heads == 0 {
-        return low;
-    }
-    let v = by_list(m, asked, head, low);
-    by_lists(m, asked, heads - 1, step, head + step, v)
-}
-
-pub fn by_mails(m: &[u8], asked: Asked, cell: u16, left: u8, low: u16) -> u16
-    requires { ⌜ (length (now m) ≡ 8192) × (cell < 8192) ⌝ }
-    ensures { λ r. ⌜ r ≡ lowestOf (now (m .entry)) asked low (gather (Model.met (now (m .entry))) (headsMet 2 Map.q1 left (now (m .entry)) cell)) ⌝ }
-{
-    if left == 0 {
-        return low;
-    }
-    let w = control_at(m, cell);
-    if w == 0 {
-        return low;
-    }
-    let v = by_lists(m, asked, 2, 1, ControlPage(w).place(map::Q1), low);
-    by_mails(m, asked, ControlPage(w).place(map::LIST_LINK), left - 1, v)
-}
-
-// ---- A word by its address: a; so many, by steps; so many of each processor that is met from a cell on.
-pub fn tell_at(m: &[u8], asked: AskedAt, a: u16, low: u16) -> u16
+// 0 or a control page.
+pub fn pointer(m: &[u8], a: u16) -> bool
     requires { ⌜ (length (now m) ≡ 8192) × (a < 8192) ⌝ }
-    ensures { λ r. ⌜ r ≡ lowestAt (now (m .entry)) asked low (a ∷ []) ⌝ }
+    ensures { λ r. ⌜ r ≡ holds (here (Classes.pointer bytes) (now (m .entry)) a) ⌝ }
 {
-    if passes_at(m, asked, a) {
-        return low;
+    let w = at(m, a);
+    if w == 0 {
+        return true;
     }
-    lower(low, address_at(m, asked, a))
+    lies(w, map::FIRST_CONTROL, map::LAST_CONTROL)
 }
 
-pub fn by_cells(m: &[u8], asked: AskedAt, count: u8, step: u16, a: u16, low: u16) -> u16
-    requires { ⌜ (length (now m) ≡ 8192) × (step ≤ 2) × (a + 2 * count < 8192) ⌝ }
-    ensures { λ r. ⌜ r ≡ lowestAt (now (m .entry)) asked low (range count step a) ⌝ }
+// By what a cell is told: one on a control page by that page.
+fn told_by(a: u16) -> u16
+    requires { ⌜ a < 8192 ⌝ }
+    ensures { λ r. ⌜ r ≡ Classes.cell a ⌝ }
 {
-    if count == 0 {
-        return low;
+    if a < map::CONTROL_PAGE {
+        return a;
     }
-    let v = tell_at(m, asked, a, low);
-    by_cells(m, asked, count - 1, step, a + step, v)
+    a / map::PAGE_SIZE * map::PAGE_SIZE
 }
 
-pub fn by_heads(
-    m: &[u8],
-    asked: AskedAt,
-    heads: u8,
-    word: u16,
-    cell: u16,
-    left: u8,
-    low: u16,
-) -> u16
-    requires { ⌜ (length (now m) ≡ 8192) × (word + 2 * heads < 32) × (cell < 8192) ⌝ }
-    ensures { λ r. ⌜ r ≡ lowestAt (now (m .entry)) asked low (headsMet heads word left (now (m .entry)) cell) ⌝ }
+// The end of the list of a head; an empty list ends well. Of so many heads, by steps; of the mail of the processors; of their own queues.
+pub fn list_end(m: &[u8], head: u16, low: u16) -> u16
+    requires { ⌜ (length (now m) ≡ 8192) × (head < 8192) ⌝ }
+    ensures { λ r. ⌜ r ≡ lowestEnd (now (m .entry)) low (head ∷ []) ⌝ }
 {
-    if left == 0 {
-        return low;
-    }
-    let w = control_at(m, cell);
+    let w = at(m, head);
     if w == 0 {
         return low;
     }
-    let v = by_cells(m, asked, heads, 1, ControlPage(w).place(word), low);
-    by_heads(
-        m,
-        asked,
-        heads,
-        word,
-        ControlPage(w).place(map::LIST_LINK),
-        left - 1,
-        v,
-    )
+    let e = end(m, head);
+    unless(pointer(m, e), told_by(e), low)
+}
+
+pub fn lists_end(m: &[u8], heads: u8, step: u16, head: u16, low: u16) -> u16
+    requires { ⌜ (length (now m) ≡ 8192) × (step ≤ 2) × (head + 2 * heads < 8192) ⌝ }
+    ensures { λ r. ⌜ r ≡ lowestEnd (now (m .entry)) low (range heads step head) ⌝ }
+{
+    let mut lowest = low;
+    let mut a = head;
+    let mut left = heads;
+    while 0 < left {
+        lowest = list_end(m, a, lowest);
+        left -= 1;
+        a += step;
+    }
+    lowest
+}
+
+pub fn mails_end(m: &[u8], low: u16) -> u16
+    requires { ⌜ length (now m) ≡ 8192 ⌝ }
+    ensures { λ r. ⌜ r ≡ lowestEnd (now (m .entry)) low (mails (Model.met (now (m .entry)) Map.processorList)) ⌝ }
+{
+    let mut lowest = low;
+    let mut cell = map::PROCESSOR_LIST;
+    let mut left = map::ONE_MORE;
+    while 0 < left {
+        let w = control_at(m, cell);
+        if w == 0 {
+            return lowest;
+        }
+        lowest = list_end(m, ControlPage(w).place(map::Q1), lowest);
+        lowest = list_end(m, ControlPage(w).place(map::Q2), lowest);
+        cell = ControlPage(w).place(map::LIST_LINK);
+        left -= 1;
+    }
+    lowest
+}
+
+pub fn owns_end(m: &[u8], low: u16) -> u16
+    requires { ⌜ length (now m) ≡ 8192 ⌝ }
+    ensures { λ r. ⌜ r ≡ lowestEnd (now (m .entry)) low (owns (Model.met (now (m .entry)) Map.processorList)) ⌝ }
+{
+    let mut lowest = low;
+    let mut cell = map::PROCESSOR_LIST;
+    let mut left = map::ONE_MORE;
+    while 0 < left {
+        let w = control_at(m, cell);
+        if w == 0 {
+            return lowest;
+        }
+        lowest = list_end(m, ControlPage(w).place(map::OWN_QUEUE), lowest);
+        cell = ControlPage(w).place(map::LIST_LINK);
+        left -= 1;
+    }
+    lowest
 }

@@ -9,7 +9,7 @@ unfolding Classes.toldOf Classes.classes
 told-spec = tie.close (tie.spec
     (λ c κs. search needs)
     (λ c. search (needs, findings) depth 8)
-    (λ c κs. search needs)
+    (λ c κs. search (needs, findings))
     (λ c. search (needs, findings) depth 8)
     (λ c κs. search needs)
     (λ c. search (needs, findings) depth 8)

@@ -1,0 +1,12 @@
+use borrow.Author.Needs.{needs}
+use Rattle.telling.proofs.Laws.{tellings}
+use Rattle.telling.proofs.counters.shown.Statement.{statement}
+use Rattle.telling.proofs.counters.shown.Tie as tie
+
+pub shown-spec : {M : Type 1} → statement M
+shown-spec = tie.close (tie.spec
+    (λ c κs. search needs)
+    (λ c κs. search needs)
+    (λ c. search (needs, tellings))
+    (λ c κs. search needs)
+    (λ c. search (needs, tellings)))

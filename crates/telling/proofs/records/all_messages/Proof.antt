@@ -1,0 +1,36 @@
+use borrow.Author.Needs.{needs}
+use Rattle.telling.proofs.Lows.{letters}
+use Rattle.telling.proofs.Walking.{control-low}
+use Rattle.model.specs.Classes as Classes
+use Rattle.model.specs.Judge as Judge
+use Rattle.model.specs.Map as Map
+use Rattle.model.specs.Bytes as Model
+use Rattle.model.specs.Store.{bytes}
+use Rattle.telling.specs.Rows.{lowestBy}
+use Rattle.model.specs.Lists.{mails}
+use Rattle.model.specs.Walks.{gather}
+use lib.ListN.{length}
+use mathlib.Core.Path.{_≡_}
+use Prim.Native.Nat.{_<_}
+use Rattle.telling.proofs.records.all_messages.Statement.{statement}
+use Rattle.telling.proofs.records.all_messages.Tie as tie
+
+abbrev Inv-loop : tie.InvT-loop
+Inv-loop m low lowest₀ cell₀ left₀ lowest cell left =
+    (length m ≡ 8192) × (cell < 8192) × (lowestBy Classes.page (Judge.message bytes m) lowest (gather (Model.met m) (mails (Model.path left m Map.listLink cell))) ≡ lowestBy Classes.page (Judge.message bytes m) low (gather (Model.met m) (mails (Model.met m Map.processorList))))
+
+abbrev μ-loop : tie.MeasureT-loop
+μ-loop m low lowest₀ cell₀ left₀ lowest cell left = left
+
+pub all-messages-spec : {M : Type 1} → statement M
+all-messages-spec = tie.close (tie.spec Inv-loop μ-loop
+    (λ c. search (needs, letters))
+    (λ c κs. search (needs, control-low))
+    (λ c. search (needs, letters))
+    (λ c κs. search (needs, control-low))
+    (λ c κs. search (needs, control-low))
+    (λ c κs. search (needs, control-low))
+    (λ c. search needs)
+    (λ c. search needs)
+    (λ c. search (needs, letters))
+    (λ c. search (needs, letters)))

@@ -1,0 +1,10 @@
+use borrow.Author.Needs.{needs}
+use Rattle.telling.proofs.Laws.{tellings}
+use Rattle.telling.proofs.records.messages_in.Statement.{statement}
+use Rattle.telling.proofs.records.messages_in.Tie as tie
+
+pub messages-in-spec : {M : Type 1} → statement M
+messages-in-spec = tie.close (tie.spec
+    (λ c κs. search needs)
+    (λ c κs. search needs)
+    (λ c. search (needs, tellings)))
