@@ -9,7 +9,7 @@ use borrow.Author.Tests.{eq-eqb, ne-eqb, eqb-true}
 use Rattle.model.specs.Map.{controlPages, firstControl, freeList, grants, listLink, pageSize, processorList, wordValues}
 use Rattle.model.specs.Store.{bytes}
 use Rattle.model.specs.Rule.{Rule, both, each, holds, all}
-use Rattle.model.specs.Lists.{count, sum, range, mails, uses, queues}
+use Rattle.model.specs.Lists.{Lists, count, sum, range, mails, uses, queues}
 use Rattle.model.specs.Judge as Judge
 use Rattle.model.specs.Bytes.{Memory, walk, lists, judged, waiting}
 use Rattle.lists.specs.Heads.{rule}
@@ -20,7 +20,7 @@ use Rattle.lists.proofs.Uses.{good, good-parts, used-once, and-true, range-at}
 use Rattle.lists.proofs.Waits.{waits-are}
 use Rattle.lists.proofs.Heads.{processors-walk}
 use Rattle.judge.specs.Tails as Tails
-use Rattle.judge.specs.Tails.{waited}
+use Rattle.judge.specs.Tails.{waited, linked, tabled}
 
 each-append : (f : ℕ → Rule) (xs ys : List ℕ) → holds (each (xs ++ ys) f) ≡ (holds (each xs f) && holds (each ys f))
 each-append f [] ys = rw (each-nil f)
@@ -57,9 +57,9 @@ module _ (m : Memory) where
   unfolding Judge.listed
   listed-and = each-append list (uses ps) (queues ps)
 
-  judged-and : judged m ≡ ((usesListed && queuesListed) && (usedOnce && (names && (waitingBits && rest))))
-  unfolding Judge.judged Judge.wellFormed Tails.waited Tails.paged Tails.mailed Tails.tabled
-  judged-and =
+  linked-and : holds (linked m) ≡ ((usesListed && queuesListed) && (usedOnce && (names && (waitingBits && rest))))
+  unfolding Tails.linked
+  linked-and =
       let bits : Rule = both (rule (Judge.waitingBits bytes) m) (waited m) in
       let named : Rule = both (rule (Judge.names bytes) m) bits in
       let once : Rule = both (rule (Judge.usedOnce bytes) m) named in
@@ -91,9 +91,9 @@ module _ (m : Memory) where
     used-are : eqb u allPages ≡ (usesListed && usedOnce)
     used-are = rw eu (used-once (lists m) (uses ps) ∙ rw (list-good (uses ps), once-good))
 
-    pub judged-unused : (u ≡ allPages → ⊥) → false ≡ judged m
-    judged-unused n =
-        no usesListed queuesListed usedOnce (names && (waitingBits && rest)) (sym used-are ∙ ne-eqb u allPages n) ∙ sym judged-and
+    pub linked-unused : (u ≡ allPages → ⊥) → false ≡ holds (linked m)
+    linked-unused n =
+        no usesListed queuesListed usedOnce (names && (waitingBits && rest)) (sym used-are ∙ ne-eqb u allPages n) ∙ sym linked-and
       where
         no : (a c b r : Bool) → (a && b) ≡ false → false ≡ ((a && c) && (b && r))
         no true true true r e = cc
@@ -124,9 +124,9 @@ module _ (m : Memory) where
             let e : f ≡ flags (waiting m) 0 ps = rw (processors-walk m) ef in
             rw (ew, e) (waits-are (lists m) (queues ps) ps (waiting m) (λ z. omega arith) full-pages single ∙ rw (list-good (queues ps), waits-good))
 
-        pub judged-unwaited : (w ≡ f → ⊥) → false ≡ judged m
-        judged-unwaited n =
-            no usesListed queuesListed usedOnce names waitingBits rest (sym waited-are ∙ ne-eqb w f n) ∙ sym judged-and
+        pub linked-unwaited : (w ≡ f → ⊥) → false ≡ holds (linked m)
+        linked-unwaited n =
+            no usesListed queuesListed usedOnce names waitingBits rest (sym waited-are ∙ ne-eqb w f n) ∙ sym linked-and
           where
             no : (a c b k d r : Bool) → (c && d) ≡ false → false ≡ ((a && c) && (b && (k && (d && r))))
             no true true true true true r e = cc
@@ -136,9 +136,56 @@ module _ (m : Memory) where
             no true false b k d r e = refl
             no false c b k d r e = refl
 
-        pub judged-rest : (b c r : Bool) → w ≡ f → b ≡ names → c ≡ rest → r ≡ (b && c) → r ≡ judged m
-        judged-rest b c r h eb ec er =
+        pub linked-rest : (r : Bool) → w ≡ f → r ≡ (names && rest) → r ≡ holds (linked m)
+        linked-rest r h er =
             let q = and-true queuesListed waitingBits (sym waited-are ∙ eq-eqb w f h) in
-            er ∙ rw (eb, ec, judged-and, parts .0, parts .1, q .0, q .1)
+            er ∙ rw (linked-and, parts .0, parts .1, q .0, q .1)
 
-pub ruleset whole = (judged-unused, full-pages, judged-unwaited, judged-rest)
+-- two parts, the second asked only where the first holds
+module _ (b x : Bool) (e : b ≡ x) where
+  pub and-yes : (c y : Bool) → b ≡ true → c ≡ y → c ≡ (x && y)
+  and-yes c y h k = rw (← e, h) k
+
+  pub and-no : (y : Bool) → b ≡ false → false ≡ (x && y)
+  and-no y h = rw (← e, h)
+
+-- ---- what needs no list stands last, and is asked first
+out : (r s x : Rule) (t : Bool) → holds x ≡ (holds s && t) → holds (both r x) ≡ (holds (both r s) && t)
+out r s x t e = rw (both-and r x, both-and r s, e) (sym (and-assoc (holds r) (holds s) t))
+
+module _ (m : Memory) where
+  abbrev at-lists : (Memory → List ℕ → Lists → Rule) → Rule
+  at-lists f = rule f m
+
+  judged-and : judged m ≡ (holds (linked m) && holds (tabled m))
+  unfolding Judge.judged Judge.wellFormed Tails.linked Tails.waited Tails.paged Tails.mailed Tails.tabled
+  judged-and =
+      let t = holds (tabled m) in
+      let e0 = both-and (at-lists (Judge.running bytes)) (tabled m) in
+      let e1 = out (at-lists (Judge.messages bytes)) _ _ t e0 in
+      let e2 = out (at-lists (Judge.granted bytes)) _ _ t e1 in
+      let e3 = out (at-lists (Judge.pageWaits bytes)) _ _ t e2 in
+      let e4 = out (at-lists (Judge.semaphores bytes)) _ _ t e3 in
+      let e5 = out (at-lists (Judge.messageWaits bytes)) _ _ t e4 in
+      let e6 = out (at-lists (Judge.reasons bytes)) _ _ t e5 in
+      let e7 = out (at-lists (Judge.waitingBits bytes)) _ _ t e6 in
+      let e8 = out (at-lists (Judge.names bytes)) _ _ t e7 in
+      let e9 = out (at-lists (Judge.usedOnce bytes)) _ _ t e8 in
+      out (at-lists (Judge.listed bytes)) _ _ t e9
+
+  module _ (b : Bool) (e : b ≡ holds (tabled m)) where
+    pub judged-no : b ≡ false → false ≡ judged m
+    judged-no h = go (holds (linked m)) ∙ sym judged-and
+      where
+        go : (x : Bool) → false ≡ (x && holds (tabled m))
+        go true = sym h ∙ e
+        go false = refl
+
+    pub judged-yes : (r : Bool) → b ≡ true → r ≡ holds (linked m) → r ≡ judged m
+    judged-yes r h k = k ∙ go (holds (linked m)) ∙ sym judged-and
+      where
+        go : (x : Bool) → x ≡ (x && holds (tabled m))
+        go true = sym h ∙ e
+        go false = refl
+
+pub ruleset whole = (linked-unused, full-pages, linked-unwaited, linked-rest, and-yes, and-no, judged-no, judged-yes)

@@ -1,6 +1,6 @@
 use borrow.Author.Needs.{needs}
 use Rattle.judge.specs.Tails as Tails
-use Rattle.judge.proofs.Laws.{rulings}
+use Rattle.judge.proofs.Laws.{shortened}
 use Rattle.judge.proofs.mailed.Statement.{statement}
 use Rattle.judge.proofs.mailed.Tie as tie
 
@@ -9,7 +9,5 @@ unfolding Tails.mailed
 mailed-spec = tie.close (tie.spec
     (λ c κs. search needs)
     (λ c κs. search needs)
-    (λ c κs. search needs)
-    (λ c κs. search needs)
-    (λ c κs. search needs)
-    (λ c. search (needs, rulings)))
+    (λ c. search (needs, shortened))
+    (λ c. search (needs, shortened)))
