@@ -170,13 +170,7 @@ pub const LAST_CONTROL: u8 = 255;
 
 pub const CONTROL_PAGES: u8 = 20;
 
-pub const CONTROL_PAGES_WIDE: u16 = 20;
-
 pub const ONE_MORE: u8 = 21;
-
-pub const MARKS: usize = 21;
-
-pub const NO_CONTROL: usize = 20;
 
 // "Processor page: 0 link, 1 list link, 2 reason for waiting, 3 and 4 semaphore and header of its own message wait, 5 and 6 message queues Q1
 // and Q2, 7 priority*16+name, 8 A, 9 S, 10 P Z CI then LR's high five bits, 11 LR's low bits, 12" its state, "13-15 and 16-31 keep words 4-6
