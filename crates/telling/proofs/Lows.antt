@@ -258,4 +258,22 @@ pub ruleset heads = (mails-all, mails-done, mails-end, mails-told, owns-all, own
 
 pub ruleset letters = (letters-all, letters-done, letters-end, letters-told)
 
-pub ruleset lows = (rule-kept, rule-broken, tell-is, low-none, low-append, low-cons, low-on, path-told, list-is, head-is, place-is, range-one, range-two, row-last, row-next, sentence-last, sentence-next)
+pub ruleset lows = (
+  rule-kept,
+  rule-broken,
+  tell-is,
+  low-none,
+  low-append,
+  low-cons,
+  low-on,
+  path-told,
+  list-is,
+  head-is,
+  place-is,
+  range-one,
+  range-two,
+  row-last,
+  row-next,
+  sentence-last,
+  sentence-next,
+)

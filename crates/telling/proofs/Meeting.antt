@@ -140,7 +140,9 @@ title-count m k [] = refl
 title-count m k (p ∷ ps) = rw (title-count m k ps, same (eqb k (name m p)) refl)
   where
     same : (b : Bool) → eqb k (name m p) ≡ b → eqb (firstControl + k) (firstControl + name m p) ≡ eqb k (name m p)
-    same true e = ap (λ (x : ℕ). eqb (firstControl + k) (firstControl + x)) (sym (eqb-true k (name m p) e)) ∙ eq-eqb (firstControl + k) (firstControl + k) refl ∙ sym e
+    same true e =
+        ap (λ (x : ℕ). eqb (firstControl + k) (firstControl + x)) (sym (eqb-true k (name m p) e)) ∙ eq-eqb (firstControl + k) (firstControl + k) refl
+        ∙ sym e
     same false e = ne-eqb (firstControl + k) (firstControl + name m p) (λ q. eqb-false k (name m p) e (omega arith)) ∙ sym e
 
 title-pages : (m : Memory) (ps : List ℕ) → Pages (titles m ps)
@@ -310,7 +312,8 @@ module _ (m : Memory) where
       → r ≡ markedLists o (met m) (range interrupts 2 (headerAfter 0)) → r ≡ waitMarks m
   unfolding Met.waitMarks
   waits-is q o r eq eo er =
-      let s : waitMarks m ≡ markedLists (markedAll 0 (met m pageQueue)) (met m) (owns (met m processorList) ++ range interrupts 2 (headerAfter 0)) = refl in
+      let s : waitMarks m
+      ≡ markedLists (markedAll 0 (met m pageQueue)) (met m) (owns (met m processorList) ++ range interrupts 2 (headerAfter 0)) = refl in
       er ∙ sym (s ∙ rw (← eq, lists-app (met m) q (owns (met m processorList)) (range interrupts 2 (headerAfter 0)), ← eo))
 
   pub listed-is : (r : ℕ) → r ≡ markedAll 0 (met m processorList) → r ≡ listMarks m

@@ -101,7 +101,8 @@ fn not_higher(m: &[u8], p: ControlPage) -> bool
 
 fn none_higher(m: &[u8], low: u16) -> u16
     requires { ⌜ length (now m) ≡ 8192 ⌝ }
-    ensures { λ r. ⌜ r ≡ lowestBy (λ p. Map.runningPage) (here (Classes.notHigher bytes) (now (m .entry))) low (Model.met (now (m .entry)) Map.processorList) ⌝ }
+    ensures { λ r. ⌜ r ≡ lowestBy (λ p. Map.runningPage) (here (Classes.notHigher bytes) (now (m .entry)))
+        low (Model.met (now (m .entry)) Map.processorList) ⌝ }
 {
     let mut lowest = low;
     let mut cell = map::PROCESSOR_LIST;

@@ -5,6 +5,7 @@ mod lowest;
 mod met;
 mod places;
 mod records;
+mod semaphores;
 mod tables;
 mod uses;
 mod waits;

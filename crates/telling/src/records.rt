@@ -171,7 +171,8 @@ fn messages_in(m: &[u8], p: ControlPage, word: u16, low: u16) -> u16
 
 fn all_messages(m: &[u8], low: u16) -> u16
     requires { ⌜ length (now m) ≡ 8192 ⌝ }
-    ensures { λ r. ⌜ r ≡ lowestBy Classes.page (Judge.message bytes (now (m .entry))) low (gather (Model.met (now (m .entry))) (mails (Model.met (now (m .entry)) Map.processorList))) ⌝ }
+    ensures { λ r. ⌜ r ≡ lowestBy Classes.page (Judge.message bytes (now (m .entry)))
+        low (gather (Model.met (now (m .entry))) (mails (Model.met (now (m .entry)) Map.processorList))) ⌝ }
 {
     let mut lowest = low;
     let mut cell = map::PROCESSOR_LIST;

@@ -14,7 +14,9 @@ use Rattle.telling.proofs.counters.none_higher.Tie as tie
 
 abbrev Inv-loop : tie.InvT-loop
 Inv-loop m low lowest₀ cell₀ left₀ lowest cell left =
-    (length m ≡ 8192) × (cell < 8192) × (lowestBy (λ p. Map.runningPage) (here (Classes.notHigher bytes) m) lowest (Model.path left m Map.listLink cell) ≡ lowestBy (λ p. Map.runningPage) (here (Classes.notHigher bytes) m) low (Model.met m Map.processorList))
+    (length m ≡ 8192) × (cell < 8192)
+    × (lowestBy (λ p. Map.runningPage) (here (Classes.notHigher bytes) m) lowest (Model.path left m Map.listLink cell)
+    ≡ lowestBy (λ p. Map.runningPage) (here (Classes.notHigher bytes) m) low (Model.met m Map.processorList))
 
 abbrev μ-loop : tie.MeasureT-loop
 μ-loop m low lowest₀ cell₀ left₀ lowest cell left = left

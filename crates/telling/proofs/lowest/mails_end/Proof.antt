@@ -13,7 +13,9 @@ use Rattle.telling.proofs.lowest.mails_end.Tie as tie
 
 abbrev Inv-loop : tie.InvT-loop
 Inv-loop m low lowest₀ cell₀ left₀ lowest cell left =
-    (length m ≡ 8192) × (cell < 8192) × (lowestEnd m lowest (mails (Model.path left m Map.listLink cell)) ≡ lowestEnd m low (mails (Model.met m Map.processorList)))
+    (length m ≡ 8192) × (cell < 8192)
+    × (lowestEnd m lowest (mails (Model.path left m Map.listLink cell))
+    ≡ lowestEnd m low (mails (Model.met m Map.processorList)))
 
 abbrev μ-loop : tie.MeasureT-loop
 μ-loop m low lowest₀ cell₀ left₀ lowest cell left = left

@@ -12,7 +12,9 @@ use Rattle.telling.proofs.met.mark_lists.Tie as tie
 
 abbrev Inv-loop : tie.InvT-loop
 Inv-loop m marks heads step head t₀ a₀ left₀ t a left =
-    (length m ≡ 8192) × (step ≤ 2) × (a + 2 * left < 8192) × (t < 2 ^ 40) × (markedLists t (Model.met m) (range left step a) ≡ markedLists marks (Model.met m) (range heads step head))
+    (length m ≡ 8192) × (step ≤ 2) × (a + 2 * left < 8192) × (t < 2 ^ 40)
+    × (markedLists t (Model.met m) (range left step a)
+    ≡ markedLists marks (Model.met m) (range heads step head))
 
 abbrev μ-loop : tie.MeasureT-loop
 μ-loop m marks heads step head t₀ a₀ left₀ t a left = left

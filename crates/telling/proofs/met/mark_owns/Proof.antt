@@ -13,7 +13,9 @@ use Rattle.telling.proofs.met.mark_owns.Tie as tie
 
 abbrev Inv-loop : tie.InvT-loop
 Inv-loop m marks t₀ cell₀ left₀ t cell left =
-    (length m ≡ 8192) × (cell < 8192) × (t < 2 ^ 40) × (markedLists t (Model.met m) (owns (Model.path left m Map.listLink cell)) ≡ markedLists marks (Model.met m) (owns (Model.met m Map.processorList)))
+    (length m ≡ 8192) × (cell < 8192) × (t < 2 ^ 40)
+    × (markedLists t (Model.met m) (owns (Model.path left m Map.listLink cell))
+    ≡ markedLists marks (Model.met m) (owns (Model.met m Map.processorList)))
 
 abbrev μ-loop : tie.MeasureT-loop
 μ-loop m marks t₀ cell₀ left₀ t cell left = left

@@ -15,7 +15,9 @@ use Rattle.telling.proofs.records.all_existing.Tie as tie
 
 abbrev Inv-loop : tie.InvT-loop
 Inv-loop m marks low lowest₀ x₀ left₀ lowest x left =
-    (length m ≡ 8192) × (marks ≡ Met.nameMarks m) × (x + left ≡ 16) × (lowestBy Map.grantFor (here (Classes.existing bytes) m) lowest (range left 1 x) ≡ lowestBy Map.grantFor (here (Classes.existing bytes) m) low (range 15 1 1))
+    (length m ≡ 8192) × (marks ≡ Met.nameMarks m) × (x + left ≡ 16)
+    × (lowestBy Map.grantFor (here (Classes.existing bytes) m) lowest (range left 1 x)
+    ≡ lowestBy Map.grantFor (here (Classes.existing bytes) m) low (range 15 1 1))
 
 abbrev μ-loop : tie.MeasureT-loop
 μ-loop m marks low lowest₀ x₀ left₀ lowest x left = left

@@ -16,7 +16,9 @@ use Rattle.telling.proofs.records.all_labels.Tie as tie
 
 abbrev Inv-loop : tie.InvT-loop
 Inv-loop m marks low lowest₀ cell₀ left₀ lowest cell left =
-    (length m ≡ 8192) × (marks ≡ Met.nameMarks m) × (cell < 8192) × (lowestBy Classes.page (here (Judge.label bytes) m) lowest (Model.path left m Map.listLink cell) ≡ lowestBy Classes.page (here (Judge.label bytes) m) low (Model.met m Map.processorList))
+    (length m ≡ 8192) × (marks ≡ Met.nameMarks m) × (cell < 8192)
+    × (lowestBy Classes.page (here (Judge.label bytes) m) lowest (Model.path left m Map.listLink cell)
+    ≡ lowestBy Classes.page (here (Judge.label bytes) m) low (Model.met m Map.processorList))
 
 abbrev μ-loop : tie.MeasureT-loop
 μ-loop m marks low lowest₀ cell₀ left₀ lowest cell left = left

@@ -17,7 +17,9 @@ use Rattle.telling.proofs.records.all_messages.Tie as tie
 
 abbrev Inv-loop : tie.InvT-loop
 Inv-loop m low lowest₀ cell₀ left₀ lowest cell left =
-    (length m ≡ 8192) × (cell < 8192) × (lowestBy Classes.page (Judge.message bytes m) lowest (gather (Model.met m) (mails (Model.path left m Map.listLink cell))) ≡ lowestBy Classes.page (Judge.message bytes m) low (gather (Model.met m) (mails (Model.met m Map.processorList))))
+    (length m ≡ 8192) × (cell < 8192)
+    × (lowestBy Classes.page (Judge.message bytes m) lowest (gather (Model.met m) (mails (Model.path left m Map.listLink cell)))
+    ≡ lowestBy Classes.page (Judge.message bytes m) low (gather (Model.met m) (mails (Model.met m Map.processorList))))
 
 abbrev μ-loop : tie.MeasureT-loop
 μ-loop m low lowest₀ cell₀ left₀ lowest cell left = left

@@ -15,7 +15,9 @@ use Rattle.telling.proofs.records.all_zero_bits.Tie as tie
 
 abbrev Inv-loop : tie.InvT-loop
 Inv-loop m low lowest₀ cell₀ left₀ lowest cell left =
-    (length m ≡ 8192) × (cell < 8192) × (lowestBy Classes.page (Judge.zeroBits bytes m) lowest (Model.path left m Map.listLink cell) ≡ lowestBy Classes.page (Judge.zeroBits bytes m) low (Model.met m Map.processorList))
+    (length m ≡ 8192) × (cell < 8192)
+    × (lowestBy Classes.page (Judge.zeroBits bytes m) lowest (Model.path left m Map.listLink cell)
+    ≡ lowestBy Classes.page (Judge.zeroBits bytes m) low (Model.met m Map.processorList))
 
 abbrev μ-loop : tie.MeasureT-loop
 μ-loop m low lowest₀ cell₀ left₀ lowest cell left = left

@@ -13,7 +13,9 @@ use Rattle.telling.proofs.records.rest_nought.Tie as tie
 
 abbrev Inv-loop : tie.InvT-loop
 Inv-loop m low lowest₀ x₀ left₀ lowest x left =
-    (length m ≡ 8192) × (x + left ≡ 352) × (lowestBy Classes.itself (here (Classes.nought bytes) m) lowest (range left 1 x) ≡ lowestBy Classes.itself (here (Classes.nought bytes) m) low (range 16 1 336))
+    (length m ≡ 8192) × (x + left ≡ 352)
+    × (lowestBy Classes.itself (here (Classes.nought bytes) m) lowest (range left 1 x)
+    ≡ lowestBy Classes.itself (here (Classes.nought bytes) m) low (range 16 1 336))
 
 abbrev μ-loop : tie.MeasureT-loop
 μ-loop m low lowest₀ x₀ left₀ lowest x left = left

@@ -14,7 +14,9 @@ use Rattle.telling.proofs.uses.each_once.Tie as tie
 
 abbrev Inv-loop : tie.InvT-loop
 Inv-loop m marks low lowest₀ x₀ left₀ lowest x left =
-    (length m ≡ 8192) × (marks ≡ Met.usedMarks m) × (left ≤ 20) × (x + left ≡ 256) × (lowestBy Classes.page (here (Classes.once bytes) m) lowest (range left 1 x) ≡ lowestBy Classes.page (here (Classes.once bytes) m) low (range 20 1 236))
+    (length m ≡ 8192) × (marks ≡ Met.usedMarks m) × (left ≤ 20) × (x + left ≡ 256)
+    × (lowestBy Classes.page (here (Classes.once bytes) m) lowest (range left 1 x)
+    ≡ lowestBy Classes.page (here (Classes.once bytes) m) low (range 20 1 236))
 
 abbrev μ-loop : tie.MeasureT-loop
 μ-loop m marks low lowest₀ x₀ left₀ lowest x left = left

@@ -13,7 +13,9 @@ use Rattle.telling.proofs.uses.grants_point.Tie as tie
 
 abbrev Inv-loop : tie.InvT-loop
 Inv-loop m low lowest₀ x₀ left₀ lowest x left =
-    (length m ≡ 8192) × (x + left ≡ 336) × (lowestBy Classes.itself (here (Classes.pointer bytes) m) lowest (range left 1 x) ≡ lowestBy Classes.itself (here (Classes.pointer bytes) m) low (range 15 1 321))
+    (length m ≡ 8192) × (x + left ≡ 336)
+    × (lowestBy Classes.itself (here (Classes.pointer bytes) m) lowest (range left 1 x)
+    ≡ lowestBy Classes.itself (here (Classes.pointer bytes) m) low (range 15 1 321))
 
 abbrev μ-loop : tie.MeasureT-loop
 μ-loop m low lowest₀ x₀ left₀ lowest x left = left

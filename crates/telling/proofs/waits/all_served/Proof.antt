@@ -16,7 +16,9 @@ use Rattle.telling.proofs.waits.all_served.Tie as tie
 
 abbrev Inv-loop : tie.InvT-loop
 Inv-loop m low lowest₀ head₀ left₀ lowest head left =
-    (length m ≡ 8192) × (head + 2 * left ≡ 240) × (lowestBy Classes.page (Judge.reasoned bytes m) lowest (gather (Model.met m) (range left 2 head)) ≡ lowestBy Classes.page (Judge.reasoned bytes m) low (gather (Model.met m) (range 54 2 132)))
+    (length m ≡ 8192) × (head + 2 * left ≡ 240)
+    × (lowestBy Classes.page (Judge.reasoned bytes m) lowest (gather (Model.met m) (range left 2 head))
+    ≡ lowestBy Classes.page (Judge.reasoned bytes m) low (gather (Model.met m) (range 54 2 132)))
 
 abbrev μ-loop : tie.MeasureT-loop
 μ-loop m low lowest₀ head₀ left₀ lowest head left = left

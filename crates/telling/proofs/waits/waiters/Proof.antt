@@ -15,7 +15,9 @@ use Rattle.telling.proofs.waits.waiters.Tie as tie
 
 abbrev Inv-loop : tie.InvT-loop
 Inv-loop m marks listed low lowest₀ x₀ left₀ lowest x left =
-    (length m ≡ 8192) × (marks ≡ Met.waitMarks m) × (listed ≡ Met.listMarks m) × Met.Single m × (left ≤ 20) × (x + left ≡ 256) × (lowestBy Classes.page (here (Judge.waiter bytes) m) lowest (range left 1 x) ≡ lowestBy Classes.page (here (Judge.waiter bytes) m) low (range 20 1 236))
+    (length m ≡ 8192) × (marks ≡ Met.waitMarks m) × (listed ≡ Met.listMarks m) × Met.Single m × (left ≤ 20) × (x + left ≡ 256)
+    × (lowestBy Classes.page (here (Judge.waiter bytes) m) lowest (range left 1 x)
+    ≡ lowestBy Classes.page (here (Judge.waiter bytes) m) low (range 20 1 236))
 
 abbrev μ-loop : tie.MeasureT-loop
 μ-loop m marks listed low lowest₀ x₀ left₀ lowest x left = left

@@ -1,7 +1,7 @@
 use borrow.Author.Needs.{needs}
 use Rattle.telling.proofs.Laws.{tellings}
-use Rattle.telling.proofs.waits.tell_page_semaphore.Statement.{statement}
-use Rattle.telling.proofs.waits.tell_page_semaphore.Tie as tie
+use Rattle.telling.proofs.semaphores.tell_page_semaphore.Statement.{statement}
+use Rattle.telling.proofs.semaphores.tell_page_semaphore.Tie as tie
 
 pub tell-page-semaphore-spec : {M : Type 1} → statement M
 tell-page-semaphore-spec = tie.close (tie.spec

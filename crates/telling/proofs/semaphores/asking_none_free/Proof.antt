@@ -1,7 +1,7 @@
 use borrow.Author.Needs.{needs}
 use Rattle.telling.proofs.Laws.{tellings}
-use Rattle.telling.proofs.waits.asking_none_free.Statement.{statement}
-use Rattle.telling.proofs.waits.asking_none_free.Tie as tie
+use Rattle.telling.proofs.semaphores.asking_none_free.Statement.{statement}
+use Rattle.telling.proofs.semaphores.asking_none_free.Tie as tie
 
 pub asking-none-free-spec : {M : Type 1} → statement M
 asking-none-free-spec = tie.close (tie.spec

@@ -1,8 +1,8 @@
 use borrow.Author.Needs.{needs}
 use Rattle.model.specs.Judge as Judge
 use Rattle.model.specs.Rule as Rule
-use Rattle.telling.proofs.waits.message_semaphore.Statement.{statement}
-use Rattle.telling.proofs.waits.message_semaphore.Tie as tie
+use Rattle.telling.proofs.semaphores.message_semaphore.Statement.{statement}
+use Rattle.telling.proofs.semaphores.message_semaphore.Tie as tie
 
 returns : tie.Need-returns
 unfolding Judge.messageSemaphore Rule.holds

@@ -2,8 +2,8 @@ use borrow.Author.Needs.{needs}
 use Rattle.model.specs.Classes as Classes
 use Rattle.model.specs.Judge as Judge
 use Rattle.model.specs.Rule as Rule
-use Rattle.telling.proofs.waits.page_semaphore.Statement.{statement}
-use Rattle.telling.proofs.waits.page_semaphore.Tie as tie
+use Rattle.telling.proofs.semaphores.page_semaphore.Statement.{statement}
+use Rattle.telling.proofs.semaphores.page_semaphore.Tie as tie
 
 returns : tie.Need-returns
 unfolding Classes.pageSemaphore Judge.pageSemaphore Rule.holds

@@ -3,29 +3,26 @@ use Rattle.telling.proofs.Laws.{tellings}
 use Rattle.telling.proofs.Walking.{control-low}
 use Prim.Native.Nat.{ℕ, _<_}
 use borrow.Fn.PlainCycle.{Measures, is, falls, and}
-use Rattle.telling.proofs.waits.no_grant_from.Reads as own
-use Rattle.telling.proofs.waits.no_grant_from.Kinds as kinds
-use Rattle.telling.proofs.waits.+no_grant_from.Lts-no_grant_from as lts
+use Rattle.telling.proofs.semaphores.none_free_from.Reads as own
+use Rattle.telling.proofs.semaphores.none_free_from.Kinds as kinds
+use Rattle.telling.proofs.semaphores.+none_free_from.Lts-none_free_from as lts
 use Rattle.model.proofs.ControlPage.place.Reads as place-reads
 use Rattle.telling.proofs.lowest.unless.Reads as unless-reads
-use Rattle.telling.proofs.waits.grant_of.Reads as grant-of-reads
-use Rattle.telling.proofs.waits.no_grant.Reads as no-grant-reads
+use Rattle.telling.proofs.semaphores.none_free.Reads as none-free-reads
 use Rattle.telling.proofs.walks.control_at.Reads as control-at-reads
-use Rattle.telling.proofs.waits.+no_grant_from.{statement}
-use Rattle.telling.proofs.waits.+no_grant_from.Tie.{close}
+use Rattle.telling.proofs.semaphores.+none_free_from.{statement}
+use Rattle.telling.proofs.semaphores.+none_free_from.Tie.{close}
 
 -- what is left falls
 abbrev μ : Measures 1 kinds.ps ℕ
 μ κs a = a .1 .1 .0
 
-pub +no-grant-from-spec : {M : Type 1} → statement M
-+no-grant-from-spec = close μ λ t. lts.spec (
+pub +none-free-from-spec : {M : Type 1} → statement M
++none-free-from-spec = close μ λ t. lts.spec (
   control-at-reads.Asked,
   control-at-reads.Learnt,
-  no-grant-reads.Asked,
-  no-grant-reads.Learnt,
-  grant-of-reads.Asked,
-  grant-of-reads.Learnt,
+  none-free-reads.Asked,
+  none-free-reads.Learnt,
   unless-reads.Asked,
   unless-reads.Learnt,
   place-reads.Asked,
@@ -38,7 +35,6 @@ pub +no-grant-from-spec : {M : Type 1} → statement M
     (λ c. search (needs, tellings))
     (λ c κs. search (needs, control-low))
     (λ c. search (needs, tellings))
-    (λ c κs. search (needs, control-low))
     (λ c κs. search (needs, control-low))
     (λ c κs. search (needs, control-low))
     (λ c κs. search (needs, control-low))

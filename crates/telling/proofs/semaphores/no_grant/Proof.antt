@@ -1,7 +1,7 @@
 use borrow.Author.Needs.{needs}
 use Rattle.telling.proofs.Laws.{tellings}
-use Rattle.telling.proofs.waits.no_grant.Statement.{statement}
-use Rattle.telling.proofs.waits.no_grant.Tie as tie
+use Rattle.telling.proofs.semaphores.no_grant.Statement.{statement}
+use Rattle.telling.proofs.semaphores.no_grant.Tie as tie
 
 pub no-grant-spec : {M : Type 1} → statement M
 no-grant-spec = tie.close (tie.spec

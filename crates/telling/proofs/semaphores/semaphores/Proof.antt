@@ -1,8 +1,8 @@
 use borrow.Author.Needs.{needs}
 use Rattle.model.specs.Classes as Classes
 use Rattle.telling.proofs.Lows.{lows}
-use Rattle.telling.proofs.waits.semaphores.Statement.{statement}
-use Rattle.telling.proofs.waits.semaphores.Tie as tie
+use Rattle.telling.proofs.semaphores.semaphores.Statement.{statement}
+use Rattle.telling.proofs.semaphores.semaphores.Tie as tie
 
 pub semaphores-spec : {M : Type 1} → statement M
 unfolding Classes.semaphores

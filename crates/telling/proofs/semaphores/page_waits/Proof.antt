@@ -1,8 +1,8 @@
 use borrow.Author.Needs.{needs}
 use Rattle.model.specs.Classes as Classes
 use Rattle.telling.proofs.Lows.{lows}
-use Rattle.telling.proofs.waits.page_waits.Statement.{statement}
-use Rattle.telling.proofs.waits.page_waits.Tie as tie
+use Rattle.telling.proofs.semaphores.page_waits.Statement.{statement}
+use Rattle.telling.proofs.semaphores.page_waits.Tie as tie
 
 pub page-waits-spec : {M : Type 1} → statement M
 unfolding Classes.pageWaits

@@ -10,12 +10,14 @@ use Rattle.telling.specs.Rows.{here, lowestBy}
 use lib.ListN.{length}
 use mathlib.Core.Path.{_≡_}
 use Prim.Native.Nat.{_<_}
-use Rattle.telling.proofs.waits.message_semaphores.Statement.{statement}
-use Rattle.telling.proofs.waits.message_semaphores.Tie as tie
+use Rattle.telling.proofs.semaphores.message_semaphores.Statement.{statement}
+use Rattle.telling.proofs.semaphores.message_semaphores.Tie as tie
 
 abbrev Inv-loop : tie.InvT-loop
 Inv-loop m low lowest₀ cell₀ left₀ lowest cell left =
-    (length m ≡ 8192) × (cell < 8192) × (lowestBy Classes.semaphore (here (Judge.messageSemaphore bytes) m) lowest (Model.path left m Map.listLink cell) ≡ lowestBy Classes.semaphore (here (Judge.messageSemaphore bytes) m) low (Model.met m Map.processorList))
+    (length m ≡ 8192) × (cell < 8192)
+    × (lowestBy Classes.semaphore (here (Judge.messageSemaphore bytes) m) lowest (Model.path left m Map.listLink cell)
+    ≡ lowestBy Classes.semaphore (here (Judge.messageSemaphore bytes) m) low (Model.met m Map.processorList))
 
 abbrev μ-loop : tie.MeasureT-loop
 μ-loop m low lowest₀ cell₀ left₀ lowest cell left = left

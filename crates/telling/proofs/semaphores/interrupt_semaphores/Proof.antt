@@ -9,12 +9,14 @@ use Rattle.model.specs.Lists.{range}
 use lib.ListN.{length}
 use mathlib.Core.Path.{_≡_}
 use Prim.Native.Nat.{_+_}
-use Rattle.telling.proofs.waits.interrupt_semaphores.Statement.{statement}
-use Rattle.telling.proofs.waits.interrupt_semaphores.Tie as tie
+use Rattle.telling.proofs.semaphores.interrupt_semaphores.Statement.{statement}
+use Rattle.telling.proofs.semaphores.interrupt_semaphores.Tie as tie
 
 abbrev Inv-loop : tie.InvT-loop
 Inv-loop m low lowest₀ x₀ left₀ lowest x left =
-    (length m ≡ 8192) × (x + left ≡ 54) × (lowestBy Map.semaphoreAfter (here (Judge.interruptSemaphore bytes) m) lowest (range left 1 x) ≡ lowestBy Map.semaphoreAfter (here (Judge.interruptSemaphore bytes) m) low (range 54 1 0))
+    (length m ≡ 8192) × (x + left ≡ 54)
+    × (lowestBy Map.semaphoreAfter (here (Judge.interruptSemaphore bytes) m) lowest (range left 1 x)
+    ≡ lowestBy Map.semaphoreAfter (here (Judge.interruptSemaphore bytes) m) low (range 54 1 0))
 
 abbrev μ-loop : tie.MeasureT-loop
 μ-loop m low lowest₀ x₀ left₀ lowest x left = left
