@@ -1,8 +1,5 @@
--- The laws that the proofs of the functions search.
+-- The laws that the proofs of message waits search: the judge's, and those of a walk.
 use Rattle.judge.proofs.Laws.{rulings}
 use Rattle.telling.proofs.Walking.{walkings}
-use Rattle.telling.proofs.Asking.{askings}
-use Rattle.telling.proofs.Meeting.{markings, byMarks}
-use Rattle.telling.proofs.Lows.{lows}
 
-pub ruleset tellings = (rulings, walkings, askings, markings, byMarks, lows)
+pub ruleset tellings = (rulings, walkings)

@@ -1,6 +1,6 @@
 use borrow.Author.Needs.{needs}
-use Rattle.telling.proofs.Laws.{tellings}
-use Rattle.telling.proofs.Walking.{control-low}
+use Rattle.telling.proofs.Meeting.{marks-none, marks-on}
+use Rattle.telling.proofs.Walking.{control-low, path-none, path-end, path-on}
 use Prim.Native.Nat.{ℕ, _<_}
 use borrow.Fn.PlainCycle.{Measures, is, falls, and}
 use Rattle.telling.proofs.met.mark_path.Reads as own
@@ -29,11 +29,11 @@ pub +mark-path-spec : {M : Type 1} → statement M
 )
     (and 1 kinds.ps (is 1 kinds.ps μ t) own.Pre)
     own.Post
-    (λ c. (search (needs, tellings), search (needs, tellings)))
+    (λ c. (search (needs, marks-none, marks-on, path-none, path-end, path-on), search (needs, marks-none, marks-on, path-none, path-end, path-on)))
     (λ c κs. search (needs, control-low))
-    (λ c. (search (needs, tellings), search (needs, tellings)))
+    (λ c. (search (needs, marks-none, marks-on, path-none, path-end, path-on), search (needs, marks-none, marks-on, path-none, path-end, path-on)))
     (λ c κs. search (needs, control-low))
     (λ c κs. search (needs, control-low))
     (λ c. search needs)
     (λ c κs. search (needs, control-low))
-    (λ c. (search (needs, tellings), search (needs, tellings)))
+    (λ c. (search (needs, marks-none, marks-on, path-none, path-end, path-on), search (needs, marks-none, marks-on, path-none, path-end, path-on)))

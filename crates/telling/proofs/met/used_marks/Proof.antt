@@ -1,5 +1,5 @@
 use borrow.Author.Needs.{needs}
-use Rattle.telling.proofs.Laws.{tellings}
+use Rattle.telling.proofs.Meeting.{used-is}
 use Rattle.telling.proofs.met.used_marks.Statement.{statement}
 use Rattle.telling.proofs.met.used_marks.Tie as tie
 
@@ -10,4 +10,4 @@ used-marks-spec = tie.close (tie.spec
     (λ c κs. search needs)
     (λ c. search needs)
     (λ c κs. search needs)
-    (λ c. search (needs, tellings)))
+    (λ c. search (needs, used-is)))

@@ -1,5 +1,5 @@
 use borrow.Author.Needs.{needs}
-use Rattle.telling.proofs.Laws.{tellings}
+use Rattle.telling.proofs.Meeting.{waits-is}
 use Rattle.telling.proofs.met.wait_marks.Statement.{statement}
 use Rattle.telling.proofs.met.wait_marks.Tie as tie
 
@@ -8,4 +8,4 @@ wait-marks-spec = tie.close (tie.spec
     (λ c κs. search needs)
     (λ c κs. search needs)
     (λ c κs. search needs)
-    (λ c. search (needs, tellings)))
+    (λ c. search (needs, waits-is)))

@@ -1,5 +1,5 @@
 use borrow.Author.Needs.{needs}
-use Rattle.telling.proofs.Laws.{tellings}
+use Rattle.telling.proofs.Meeting.{bit-by}
 use Rattle.telling.proofs.waits.bit.Statement.{statement}
 use Rattle.telling.proofs.waits.bit.Tie as tie
 
@@ -8,4 +8,4 @@ bit-spec = tie.close (tie.spec
     (λ c κs. search needs)
     (λ c κs. search needs)
     (λ c. search needs)
-    (λ c. search (needs, tellings)))
+    (λ c. search (needs, bit-by)))

@@ -1,5 +1,5 @@
 use borrow.Author.Needs.{needs}
-use Rattle.telling.proofs.Laws.{tellings}
+use Rattle.telling.proofs.Meeting.{waiter-by}
 use Rattle.telling.proofs.waits.waiter.Statement.{statement}
 use Rattle.telling.proofs.waits.waiter.Tie as tie
 
@@ -7,4 +7,4 @@ pub waiter-spec : {M : Type 1} → statement M
 waiter-spec = tie.close (tie.spec
     (λ c κs. search needs)
     (λ c κs. search needs)
-    (λ c. search (needs, tellings)))
+    (λ c. search (needs, waiter-by)))

@@ -1,5 +1,5 @@
 use borrow.Author.Needs.{needs}
-use Rattle.telling.proofs.Laws.{tellings}
+use Rattle.telling.proofs.Walking.{walkings}
 use Prim.Native.Nat.{ℕ, _<_}
 use borrow.Fn.PlainCycle.{Measures, is, falls, and}
 use Rattle.telling.proofs.walks.last_cell.Reads as own
@@ -25,10 +25,10 @@ pub +last-cell-spec : {M : Type 1} → statement M
 )
     (and 1 kinds.ps (is 1 kinds.ps μ t) own.Pre)
     own.Post
-    (λ c. (search (needs, tellings), search needs))
+    (λ c. (search (needs, walkings), search needs))
     (λ c κs. search needs)
-    (λ c. (search (needs, tellings), search needs))
+    (λ c. (search (needs, walkings), search needs))
     (λ c κs. search needs)
     (λ c. search needs)
     (λ c κs. search needs)
-    (λ c. (search (needs, tellings), search needs))
+    (λ c. (search (needs, walkings), search needs))
