@@ -149,7 +149,7 @@ module _ (b x : Bool) (e : b ≡ x) where
   pub and-no : (y : Bool) → b ≡ false → false ≡ (x && y)
   and-no y h = rw (← e, h)
 
--- ---- what needs no list stands last, and is asked first
+-- ---- the tables stand last, and are asked first
 out : (r s x : Rule) (t : Bool) → holds x ≡ (holds s && t) → holds (both r x) ≡ (holds (both r s) && t)
 out r s x t e = rw (both-and r x, both-and r s, e) (sym (and-assoc (holds r) (holds s) t))
 

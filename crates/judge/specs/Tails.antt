@@ -1,4 +1,4 @@
--- "Well-formed" as the code asks it: what needs no list, from codes on; and the rest, whose tails go from messages on up to all of it.
+-- "Well-formed" as the code asks it: the tables, from codes on; and the rest, whose tails go from messages on up to all of it.
 use Rattle.model.specs.Store.{bytes}
 use Rattle.model.specs.Rule.{Rule, both}
 use Rattle.model.specs.Judge as Judge

@@ -1,5 +1,4 @@
-// Fresh start and well-formed memory: the judge, a function for each rule, in document 01's order, equal to the rules on every memory of
-// 8,192 words.
+// Fresh start and well-formed memory: the judge, a function for each rule, equal to the rules on every memory of 8,192 words.
 pub mod records;
 pub mod running;
 pub mod tables;
@@ -32,8 +31,8 @@ ghost use Rattle.model.specs.Store.{bytes};
 ghost use Rattle.model.specs.Judge as Judge;
 ghost use Rattle.judge.specs.Tails as Tails;
 
-// A rule that does not hold ends the judging. What needs no list, from codes on, is asked first; then of the rest: from messages on, from page waits
-// on, from reasons on, all.
+// A rule that does not hold ends the judging. The tables, from codes on, are asked first, since that costs least; then of the rest: from messages on, from
+// page waits on, from reasons on, all.
 fn tabled(m: &[u8]) -> bool
     requires { ⌜ length (now m) ≡ 8192 ⌝ }
     ensures { λ r. ⌜ r ≡ holds (Tails.tabled (now (m .entry))) ⌝ }

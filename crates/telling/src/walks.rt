@@ -1,4 +1,4 @@
-// Walks on any memory: which control pages are met, where a walk ends, and how often a page or a name is met.
+// Walks on any memory: which control pages are met, where a walk ends, and how often a page is met.
 use lists::left_of;
 use lists::lies;
 use lists::link_of;
