@@ -32,7 +32,7 @@ use Rattle.telling.proofs.Lows.{fold-none, fold-on, range-end, range-ne
 use Rattle.telling.proofs.Walking.{path-none, path-end, path-on, met-is, met-empty, processors-met}
 
 -- ---- what a mark weighs, as it is shifted
-pub unit-is : (x k r : ℕ) → 236 ≤ x → x < 256 → k ≡ 2 * (x - 236) → r ≡ (1 * 2 ^ k) % 2 ^ 64 → (r ≡ 2 ^ (2 * (x - 236))) × (0 < r) × (r < most)
+pub unit-is : (x k r : ℕ) → firstControl ≤ x → x < 256 → k ≡ 2 * (x - firstControl) → r ≡ (1 * 2 ^ k) % 2 ^ 64 → (r ≡ 2 ^ (2 * (x - firstControl))) × (0 < r) × (r < most)
 unit-is x k r lo hi ek er =
     let l : 2 ^ k < 2 ^ 40 = pow-lt {i = k} {j = 40} (omega arith) in
     let p = pow-pos k in
@@ -44,7 +44,7 @@ unfolding Met.times
 times-digit t z = digit-is (z - firstControl) t
 
 -- ---- one page more
-module _ (t x u : ℕ) (eu : u ≡ 2 ^ (2 * (x - 236))) where
+module _ (t x u : ℕ) (eu : u ≡ 2 ^ (2 * (x - firstControl))) where
   pub times-is : t / u % 4 ≡ times t x
   unfolding Met.times
   times-is = rw eu
@@ -57,13 +57,13 @@ module _ (t x u : ℕ) (eu : u ≡ 2 ^ (2 * (x - 236))) where
   unfolding Met.marked
   mark-full h = rw (← times-is, le-ltb (t / u % 4) 2 h)
 
-  pub mark-below : 236 ≤ x → x < 256 → t < most → t / u % 4 < 2 → t + u < most
+  pub mark-below : firstControl ≤ x → x < 256 → t < most → t / u % 4 < 2 → t + u < most
   mark-below lo hi b h =
       let q = times-is in
-      rw eu (digit-below 20 (x - 236) t b (omega arith) (omega (arith, times-digit t x)))
+      rw eu (digit-below 20 (x - firstControl) t b (omega arith) (omega (arith, times-digit t x)))
 
 -- the mark of page z, with page x once more
-mark-times : (t x z : ℕ) → 236 ≤ x → 236 ≤ z → times t z ≤ 2 → times (marked t x) z ≡ min 2 (times t z + hit (eqb z x))
+mark-times : (t x z : ℕ) → firstControl ≤ x → firstControl ≤ z → times t z ≤ 2 → times (marked t x) z ≡ min 2 (times t z + hit (eqb z x))
 unfolding Met.marked
 mark-times t x z lx lz h = go (eqb z x) refl (ltb (times t x) 2) refl
   where
@@ -87,7 +87,7 @@ mark-times t x z lx lz h = go (eqb z x) refl (ltb (times t x) 2) refl
         omega (arith, times-digit t z, times-digit (t + 2 ^ (2 * (x - firstControl))) z)
     go false e false k = omega arith
 
-title-low : (k : ℕ) → 236 ≤ title k
+title-low : (k : ℕ) → firstControl ≤ title k
 unfolding Met.title
 title-low k = omega arith
 
@@ -97,14 +97,14 @@ digit-zero zero = refl
 digit-zero (suc k) = digit-zero k
 
 -- ---- a list of control pages
-all-times : (t z : ℕ) (xs : List ℕ) → Pages xs → 236 ≤ z → times t z ≤ 2 → times (markedAll t xs) z ≡ min 2 (times t z + count z xs)
+all-times : (t z : ℕ) (xs : List ℕ) → Pages xs → firstControl ≤ z → times t z ≤ 2 → times (markedAll t xs) z ≡ min 2 (times t z + count z xs)
 all-times t z [] p lz h = omega arith
 all-times t z (x ∷ xs) p lz h =
     let e = mark-times t x z (p .0 .0) lz h in
     let i = all-times (marked t x) z xs (p .1) lz (omega arith) in
     omega arith
 
-lists-times : (t z : ℕ) (L : Lists) (hs : List ℕ) → ((a : ℕ) → Pages (L a)) → 236 ≤ z → times t z ≤ 2
+lists-times : (t z : ℕ) (L : Lists) (hs : List ℕ) → ((a : ℕ) → Pages (L a)) → firstControl ≤ z → times t z ≤ 2
     → times (markedLists t L hs) z ≡ min 2 (times t z + sum z L hs)
 lists-times t z L [] p lz h = omega arith
 lists-times t z L (a ∷ hs) p lz h =
@@ -120,7 +120,7 @@ none-yet z = go (z - firstControl)
     go : (k : ℕ) → 0 / 2 ^ (2 * k) % 4 ≡ 0
     go k = digit-is k 0 ∙ digit-zero k
 
-module _ (m : Memory) (z : ℕ) (lz : 236 ≤ z) where
+module _ (m : Memory) (z : ℕ) (lz : firstControl ≤ z) where
   used-times : times (usedMarks m) z ≡ min 2 (sum z (met m) (used (met m processorList)))
   unfolding Met.usedMarks
   used-times = lists-times 0 z (met m) (used (met m processorList)) (met-pages m) lz (omega (arith, none-yet z)) ∙ ap (min 2) (omega (arith, none-yet z))
@@ -185,7 +185,7 @@ some-eq n = go (leb 1 n) refl
     go true e = le-leb 1 (min 2 n) (omega (arith, leb-true 1 n e))
     go false e = lt-leb 1 (min 2 n) (omega (arith, leb-false 1 n e))
 
-module _ (m : Memory) (t z n : ℕ) (lz : 236 ≤ z) where
+module _ (m : Memory) (t z n : ℕ) (lz : firstControl ≤ z) where
   pub once-by : t ≡ usedMarks m → n ≡ times t z → eqb n 1 ≡ holds (here (Classes.once bytes) m z)
   unfolding Classes.once
   once-by et en = rw (en, et, used-times m z lz) (once-eq (sum z (met m) (used (met m processorList))) ∙ same-is (sum z (met m) (used (met m processorList))) 1)
@@ -338,7 +338,7 @@ module _ (m : Memory) where
   unfolding Met.nameMarks
   titles-all = ap (λ (ps : List ℕ). markedAll 0 (titles m ps)) (processors-met m)
 
-pub title-is : (n : ℕ) → 236 + n ≡ title n
+pub title-is : (n : ℕ) → firstControl + n ≡ title n
 unfolding Met.title
 title-is n = refl
 

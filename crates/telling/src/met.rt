@@ -19,15 +19,15 @@ pub type Marks = u64;
 
 // What a page's mark weighs.
 fn unit(page: u8) -> u64
-    requires { ⌜ 236 ≤ page ⌝ }
-    ensures { λ r. ⌜ (r ≡ 2 ^ (2 * (page - 236))) × (0 < r) × (r < Met.most) ⌝ }
+    requires { ⌜ Map.firstControl ≤ page ⌝ }
+    ensures { λ r. ⌜ (r ≡ 2 ^ (2 * (page - Map.firstControl))) × (0 < r) × (r < Met.most) ⌝ }
 {
     1u64 << ((2 * (page - map::FIRST_CONTROL)) as u64)
 }
 
 // How often the page is met.
 pub fn times(marks: Marks, page: u8) -> u64
-    requires { ⌜ 236 ≤ page ⌝ }
+    requires { ⌜ Map.firstControl ≤ page ⌝ }
     ensures { λ r. ⌜ r ≡ Met.times marks page ⌝ }
 {
     let u = unit(page);
@@ -36,7 +36,7 @@ pub fn times(marks: Marks, page: u8) -> u64
 
 // The page is met once more.
 fn mark(marks: Marks, page: u8) -> Marks
-    requires { ⌜ (236 ≤ page) × (marks < Met.most) ⌝ }
+    requires { ⌜ (Map.firstControl ≤ page) × (marks < Met.most) ⌝ }
     ensures { λ r. ⌜ (r ≡ Met.marked marks page) × (r < Met.most) ⌝ }
 {
     let u = unit(page);
@@ -158,7 +158,7 @@ pub fn list_marks(m: &[u8]) -> Marks
 // The page whose mark a name has; the marks of the processors' names.
 pub fn title(name: u8) -> u8
     requires { ⌜ name < 16 ⌝ }
-    ensures { λ r. ⌜ (r ≡ Met.title name) × (236 ≤ r) ⌝ }
+    ensures { λ r. ⌜ (r ≡ Met.title name) × (Map.firstControl ≤ r) ⌝ }
 {
     map::FIRST_CONTROL + name
 }

@@ -108,7 +108,7 @@ fn existing(m: &[u8], marks: Marks, name: u8) -> bool
 
 fn all_existing(m: &[u8], marks: Marks, low: u16) -> u16
     requires { ⌜ (length (now m) ≡ 8192) × (marks ≡ Met.nameMarks (now m)) ⌝ }
-    ensures { λ r. ⌜ r ≡ lowestBy Map.grantFor (here (Classes.existing bytes) (now (m .entry))) low (range 15 1 1) ⌝ }
+    ensures { λ r. ⌜ r ≡ lowestBy Map.grantFor (here (Classes.existing bytes) (now (m .entry))) low (range Map.lastName 1 1) ⌝ }
 {
     let mut lowest = low;
     let mut x = 1u8;
@@ -123,7 +123,7 @@ fn all_existing(m: &[u8], marks: Marks, low: u16) -> u16
 
 fn rest_nought(m: &[u8], low: u16) -> u16
     requires { ⌜ length (now m) ≡ 8192 ⌝ }
-    ensures { λ r. ⌜ r ≡ lowestBy Classes.itself (here (Classes.nought bytes) (now (m .entry))) low (range 16 1 336) ⌝ }
+    ensures { λ r. ⌜ r ≡ lowestBy Classes.itself (here (Classes.nought bytes) (now (m .entry))) low (range 16 1 (Map.grantFor 16)) ⌝ }
 {
     let mut lowest = low;
     let mut x = map::GRANTS + 16;
@@ -163,7 +163,7 @@ fn messages_from(m: &[u8], cell: u16, left: u8, low: u16) -> u16
 }
 
 fn messages_in(m: &[u8], p: ControlPage, word: u16, low: u16) -> u16
-    requires { ⌜ (length (now m) ≡ 8192) × (236 ≤ p .0) × (word < 32) ⌝ }
+    requires { ⌜ (length (now m) ≡ 8192) × (Map.firstControl ≤ p .0) × (word < 32) ⌝ }
     ensures { λ r. ⌜ r ≡ lowestBy Classes.page (Judge.message bytes (now (m .entry))) low (Model.met (now (m .entry)) (Map.place (p .0) word)) ⌝ }
 {
     messages_from(m, p.place(word), map::ONE_MORE, low)

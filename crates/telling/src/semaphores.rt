@@ -41,7 +41,7 @@ fn interrupt_semaphore(m: &[u8], k: u8) -> bool
 
 fn interrupt_semaphores(m: &[u8], low: u16) -> u16
     requires { ⌜ length (now m) ≡ 8192 ⌝ }
-    ensures { λ r. ⌜ r ≡ lowestBy Map.semaphoreAfter (here (Judge.interruptSemaphore bytes) (now (m .entry))) low (range 54 1 0) ⌝ }
+    ensures { λ r. ⌜ r ≡ lowestBy Map.semaphoreAfter (here (Judge.interruptSemaphore bytes) (now (m .entry))) low (range Map.interrupts 1 0) ⌝ }
 {
     let mut lowest = low;
     let mut x = 0u8;

@@ -21,7 +21,7 @@ ghost use Rattle.telling.specs.Rows.{here, lowestBy};
 
 fn kinds(m: &[u8], low: u16) -> u16
     requires { ⌜ length (now m) ≡ 8192 ⌝ }
-    ensures { λ r. ⌜ r ≡ lowestBy Map.codeWord (Judge.kind bytes (now (m .entry))) low (range 16 1 0) ⌝ }
+    ensures { λ r. ⌜ r ≡ lowestBy Map.codeWord (Judge.kind bytes (now (m .entry))) low (range Map.allCodes 1 0) ⌝ }
 {
     let mut lowest = low;
     let mut x = 0u8;
@@ -60,7 +60,7 @@ fn codes(m: &[u8], low: u16) -> u16
 
 fn all_entries(m: &[u8], low: u16) -> u16
     requires { ⌜ length (now m) ≡ 8192 ⌝ }
-    ensures { λ r. ⌜ r ≡ lowestBy Map.entryAfter (Judge.entry bytes (now (m .entry))) low (range 31 1 0) ⌝ }
+    ensures { λ r. ⌜ r ≡ lowestBy Map.entryAfter (Judge.entry bytes (now (m .entry))) low (range Map.entries 1 0) ⌝ }
 {
     let mut lowest = low;
     let mut x = 0u8;

@@ -12,9 +12,9 @@ ghost use mathlib.Core.Path.{_≡_};
 ghost use mathlib.Core.List.{[], _∷_};
 ghost use Prim.Native.Nat.{_≤_};
 ghost use lib.ListN.{length};
+ghost use Rattle.model.specs.Map as Map;
 ghost use Rattle.model.specs.Store.{bytes};
 ghost use Rattle.model.specs.Rule.{holds};
-ghost use Rattle.model.specs.Lists.{range};
 ghost use Rattle.model.specs.Tell.{least, offending, offendingIn};
 ghost use Rattle.model.specs.Classes as Classes;
 ghost use Rattle.telling.specs.Rows.{here, lowestBy};
@@ -22,7 +22,7 @@ ghost use Rattle.telling.specs.Met as Met;
 
 // The page is used once, by the marks of all that is used.
 fn once(m: &[u8], marks: Marks, page: u8) -> bool
-    requires { ⌜ (236 ≤ page) × (marks ≡ Met.usedMarks (now m)) ⌝ }
+    requires { ⌜ (Map.firstControl ≤ page) × (marks ≡ Met.usedMarks (now m)) ⌝ }
     ensures { λ r. ⌜ r ≡ holds (here (Classes.once bytes) (now (m .entry)) page) ⌝ }
 {
     let n = times(marks, page);
@@ -30,7 +30,7 @@ fn once(m: &[u8], marks: Marks, page: u8) -> bool
 }
 
 fn tell_once(m: &[u8], marks: Marks, page: u8, low: u16) -> u16
-    requires { ⌜ (236 ≤ page) × (marks ≡ Met.usedMarks (now m)) ⌝ }
+    requires { ⌜ (Map.firstControl ≤ page) × (marks ≡ Met.usedMarks (now m)) ⌝ }
     ensures { λ r. ⌜ r ≡ lowestBy Classes.page (here (Classes.once bytes) (now (m .entry))) low (page ∷ []) ⌝ }
 {
     unless(
@@ -42,7 +42,7 @@ fn tell_once(m: &[u8], marks: Marks, page: u8, low: u16) -> u16
 
 fn each_once(m: &[u8], marks: Marks, low: u16) -> u16
     requires { ⌜ (length (now m) ≡ 8192) × (marks ≡ Met.usedMarks (now m)) ⌝ }
-    ensures { λ r. ⌜ r ≡ lowestBy Classes.page (here (Classes.once bytes) (now (m .entry))) low (range 20 1 236) ⌝ }
+    ensures { λ r. ⌜ r ≡ lowestBy Classes.page (here (Classes.once bytes) (now (m .entry))) low Classes.controls ⌝ }
 {
     let mut lowest = low;
     let mut x = map::FIRST_CONTROL_WIDE;
@@ -66,7 +66,7 @@ fn used_once(m: &[u8], low: u16) -> u16
 // A grant is 0 or a control page.
 fn grants_point(m: &[u8], low: u16) -> u16
     requires { ⌜ length (now m) ≡ 8192 ⌝ }
-    ensures { λ r. ⌜ r ≡ lowestBy Classes.itself (here (Classes.pointer bytes) (now (m .entry))) low (range 15 1 321) ⌝ }
+    ensures { λ r. ⌜ r ≡ lowestBy Classes.itself (here (Classes.pointer bytes) (now (m .entry))) low Classes.holders ⌝ }
 {
     let mut lowest = low;
     let mut x = map::GRANTS + 1;

@@ -27,7 +27,6 @@ ghost use lib.ListN.{length};
 ghost use Rattle.model.specs.Map as Map;
 ghost use Rattle.model.specs.Store.{bytes};
 ghost use Rattle.model.specs.Rule.{holds, each};
-ghost use Rattle.model.specs.Lists.{range};
 ghost use Rattle.model.specs.Walks.{gather};
 ghost use Rattle.model.specs.Tell.{least, offending, offendingIn};
 ghost use Rattle.model.specs.Judge as Judge;
@@ -47,7 +46,7 @@ fn queues_end(m: &[u8], low: u16) -> u16
 
 // The waiting bit of a processor, and who waits is a processor, by the marks of all that wait and of the processors.
 fn bit(m: &[u8], marks: Marks, p: ControlPage) -> bool
-    requires { ⌜ (length (now m) ≡ 8192) × (236 ≤ p .0) × (marks ≡ Met.waitMarks (now m)) ⌝ }
+    requires { ⌜ (length (now m) ≡ 8192) × (Map.firstControl ≤ p .0) × (marks ≡ Met.waitMarks (now m)) ⌝ }
     ensures { λ r. ⌜ r ≡ holds (here (Judge.bit bytes) (now (m .entry)) (p .0)) ⌝ }
 {
     let n = times(marks, p.0);
@@ -76,7 +75,7 @@ fn bits(m: &[u8], marks: Marks, low: u16) -> u16
 }
 
 fn waiter(m: &[u8], marks: Marks, listed: Marks, page: u8) -> bool
-    requires { ⌜ (236 ≤ page) × (marks ≡ Met.waitMarks (now m)) × (listed ≡ Met.listMarks (now m)) × Met.Single (now m) ⌝ }
+    requires { ⌜ (Map.firstControl ≤ page) × (marks ≡ Met.waitMarks (now m)) × (listed ≡ Met.listMarks (now m)) × Met.Single (now m) ⌝ }
     ensures { λ r. ⌜ r ≡ holds (here (Judge.waiter bytes) (now (m .entry)) page) ⌝ }
 {
     let n = times(marks, page);
@@ -85,7 +84,7 @@ fn waiter(m: &[u8], marks: Marks, listed: Marks, page: u8) -> bool
 }
 
 fn tell_waiter(m: &[u8], marks: Marks, listed: Marks, page: u8, low: u16) -> u16
-    requires { ⌜ (236 ≤ page) × (marks ≡ Met.waitMarks (now m)) × (listed ≡ Met.listMarks (now m)) × Met.Single (now m) ⌝ }
+    requires { ⌜ (Map.firstControl ≤ page) × (marks ≡ Met.waitMarks (now m)) × (listed ≡ Met.listMarks (now m)) × Met.Single (now m) ⌝ }
     ensures { λ r. ⌜ r ≡ lowestBy Classes.page (here (Judge.waiter bytes) (now (m .entry))) low (page ∷ []) ⌝ }
 {
     unless(
@@ -97,7 +96,7 @@ fn tell_waiter(m: &[u8], marks: Marks, listed: Marks, page: u8, low: u16) -> u16
 
 fn waiters(m: &[u8], marks: Marks, listed: Marks, low: u16) -> u16
     requires { ⌜ (length (now m) ≡ 8192) × (marks ≡ Met.waitMarks (now m)) × (listed ≡ Met.listMarks (now m)) × Met.Single (now m) ⌝ }
-    ensures { λ r. ⌜ r ≡ lowestBy Classes.page (here (Judge.waiter bytes) (now (m .entry))) low (range 20 1 236) ⌝ }
+    ensures { λ r. ⌜ r ≡ lowestBy Classes.page (here (Judge.waiter bytes) (now (m .entry))) low Classes.controls ⌝ }
 {
     let mut lowest = low;
     let mut x = map::FIRST_CONTROL_WIDE;
@@ -138,7 +137,7 @@ fn reasoned_from(m: &[u8], cell: u16, left: u8, low: u16) -> u16
 }
 
 fn served(m: &[u8], head: u16, low: u16) -> u16
-    requires { ⌜ (length (now m) ≡ 8192) × (head < 247) ⌝ }
+    requires { ⌜ (length (now m) ≡ 8192) × (head < Map.processorList) ⌝ }
     ensures { λ r. ⌜ r ≡ lowestBy Classes.page (Judge.reasoned bytes (now (m .entry))) low (Model.met (now (m .entry)) head) ⌝ }
 {
     let w = at(m, head);
@@ -150,7 +149,7 @@ fn served(m: &[u8], head: u16, low: u16) -> u16
 
 fn all_served(m: &[u8], low: u16) -> u16
     requires { ⌜ length (now m) ≡ 8192 ⌝ }
-    ensures { λ r. ⌜ r ≡ lowestBy Classes.page (Judge.reasoned bytes (now (m .entry))) low (gather (Model.met (now (m .entry))) (range 54 2 132)) ⌝ }
+    ensures { λ r. ⌜ r ≡ lowestBy Classes.page (Judge.reasoned bytes (now (m .entry))) low (gather (Model.met (now (m .entry))) Classes.lines) ⌝ }
 {
     let mut lowest = low;
     let mut head = map::HEADERS_AFTER;
