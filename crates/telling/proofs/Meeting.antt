@@ -32,7 +32,8 @@ use Rattle.telling.proofs.Lows.{fold-none, fold-on, range-end, range-ne
 use Rattle.telling.proofs.Walking.{path-none, path-end, path-on, met-is, met-empty, processors-met}
 
 -- ---- what a mark weighs, as it is shifted
-pub unit-is : (x k r : ℕ) → firstControl ≤ x → x < 256 → k ≡ 2 * (x - firstControl) → r ≡ (1 * 2 ^ k) % 2 ^ 64 → (r ≡ 2 ^ (2 * (x - firstControl))) × (0 < r) × (r < most)
+pub unit-is : (x k r : ℕ) → firstControl ≤ x → x < 256 → k ≡ 2 * (x - firstControl) → r ≡ (1 * 2 ^ k) % 2 ^ 64
+    → (r ≡ 2 ^ (2 * (x - firstControl))) × (0 < r) × (r < most)
 unit-is x k r lo hi ek er =
     let l : 2 ^ k < 2 ^ 40 = pow-lt {i = k} {j = 40} (omega arith) in
     let p = pow-pos k in
