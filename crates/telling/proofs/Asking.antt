@@ -119,25 +119,3 @@ divider-is m end low v xs e ee = rw ee at e
 pub none-free : (m : Memory) (p : ℕ) (b : Bool) → b ≡ eqb (length (met m freeList)) 0 → b ≡ holds (here (Classes.noneFree bytes) m p)
 unfolding Classes.noneFree holds
 none-free m p b e = e
-
-pub ruleset askings = (
-  cell-low,
-  cell-high,
-  pointer-none,
-  pointer-some,
-  runner-none,
-  runner-some,
-  shown-none,
-  shown-some,
-  ends-is,
-  false-end,
-  higher-is,
-  higher-waits,
-  empty-ends,
-  semaphore-none,
-  semaphore-some,
-  none-free,
-  length-none,
-  no-grant,
-  divider-is,
-)

@@ -27,6 +27,12 @@ use Rattle.telling.specs.Rows.{here}
 use Rattle.telling.specs.Met as Met
 use Rattle.telling.specs.Met.{Single}
 
+-- what tells 8,192 tells nothing
+none-offends : (a : ℕ) (l : List ℕ) → ((b : ℕ) → 1 ≤ count b l → b < memorySize) → a ≡ least memorySize l → memorySize ≤ a → l ≡ []
+unfolding least
+none-offends a [] w e h = refl
+none-offends a (b ∷ bs) w e h = let f = w b (omega (arith, hit-self b)) in absurd (omega (arith, least-low (min memorySize b) bs))
+
 module _ (n a : ℕ) (t : Finding) where
   some-told : (l : List ℕ) → ((b : ℕ) → 1 ≤ count b l → b < memorySize) → a ≡ least memorySize l → a < memorySize
       → Broken n a ≡ tell n l t
@@ -39,14 +45,8 @@ module _ (n a : ℕ) (t : Finding) where
       rw (← k)
 
   none-told : (l : List ℕ) → ((b : ℕ) → 1 ≤ count b l → b < memorySize) → a ≡ least memorySize l → memorySize ≤ a → t ≡ tell n l t
-  unfolding tell least
-  none-told [] w e h = refl
-  none-told (b ∷ bs) w e h = let f = w b (omega (arith, hit-self b)) in absurd (omega (arith, least-low (min memorySize b) bs))
-
-none-offends : (a : ℕ) (l : List ℕ) → ((b : ℕ) → 1 ≤ count b l → b < memorySize) → a ≡ least memorySize l → memorySize ≤ a → l ≡ []
-unfolding least
-none-offends a [] w e h = refl
-none-offends a (b ∷ bs) w e h = let f = w b (omega (arith, hit-self b)) in absurd (omega (arith, least-low (min memorySize b) bs))
+  unfolding tell
+  none-told l w e h = rw (none-offends a l w e h)
 
 module _ (n a : ℕ) (ss : List (List Row)) (cs : List Class) (w : WithinIn memorySize ss) (e : a ≡ least memorySize (offendingIn ss)) where
   pub class-tells : a < memorySize → Broken n a ≡ first (class n ss ∷ cs)

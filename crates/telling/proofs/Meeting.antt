@@ -343,20 +343,6 @@ pub title-is : (n : ℕ) → firstControl + n ≡ title n
 unfolding Met.title
 title-is n = refl
 
-pub ruleset markings = (
-  times-is,
-  mark-new,
-  mark-full,
-  mark-below,
-  marks-none,
-  marks-on,
-  marks-list,
-  title-is,
-  used-is,
-  waits-is,
-  listed-is,
-)
-
 pub ruleset marchings = (
   cells-done,
   cells-turn,
@@ -373,5 +359,3 @@ pub ruleset marchings = (
   titles-end,
   titles-turn,
 )
-
-pub ruleset byMarks = (once-by, bit-by, waiter-by, label-by, existing-none, existing-by)
