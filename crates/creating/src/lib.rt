@@ -131,7 +131,7 @@ fn head(m: &mut [u8], page: ControlPage, name: Name, priority: u8, w: u8, addres
     r.hand_back(m, page);
 }
 
-fn create(m: &mut [u8], page: ControlPage, name: Name, priority: u8, w: u8, address: u16)
+pub fn create(m: &mut [u8], page: ControlPage, name: Name, priority: u8, w: u8, address: u16)
     requires { ⌜ (List.length (now m) ≡ 8192) × (name .0 < 16) × (priority < 16) ⌝ }
     ensures { λ _. ⌜ now (m .exit) ≡ Model.created (now (m .entry)) (page .0) (name .0) priority w address ⌝ }
 {

@@ -7,19 +7,25 @@ use fresh::start;
 use fresh::startable;
 use model::Answer;
 use model::Finding;
+use model::Fit;
 use model::Held;
 use model::Registers;
 use model::Verdict;
+use model::Writing;
 use model::map;
 use model::refusals;
 use processors::lr;
 use processors::running;
+use settings::file::newest;
+use settings::file::of_file;
+use settling::settle;
 use words::low;
 ghost use mathlib.Core.Path.{_≡_};
 ghost use lib.ListN.{length};
-ghost use Rattle.model.specs.Answer.{numbers, heldNumbers, verdictNumbers};
+ghost use Rattle.model.specs.Answer.{numbers, heldNumbers, verdictNumbers, writingNumbers};
 ghost use Rattle.model.specs.Answer.Outcome.{gives};
 ghost use Rattle.model.specs.Bytes as Model;
+ghost use Rattle.model.specs.Settings as Settings;
 ghost use Rattle.kernel.specs.Spoken.{spoken};
 
 // The fresh start, on any memory of 8,192 words.
@@ -35,6 +41,33 @@ pub fn fresh(m: &mut [u8], line: u16, divider: u16) -> Answer
         return Answer::Done;
     }
     Answer::Refused(refusals::OUT_OF_RANGE)
+}
+
+// The fresh start from a file of settings, on any memory of 8,192 words and any bytes.
+pub fn fresh_from_settings(m: &mut [u8], file: &[u8]) -> Answer
+    ensures { λ r. ⌜ gives r (now (m .exit)) ≡ Model.fromSettings (now (m .entry)) (now (file .entry)) ⌝ }
+    ensures { λ r. ⌜ gives (numbers r) (now (m .exit)) ≡ spoken numbers (Model.fromSettings (now (m .entry)) (now (file .entry))) ⌝ }
+{
+    if m.len() != map::MEMORY_WORDS {
+        return Answer::Refused(refusals::WRONG_LENGTH);
+    }
+    match of_file(file) {
+        Fit::Good => {
+            settle(m, newest(file));
+            Answer::Done
+        }
+        Fit::Refused(refusal) => Answer::Refused(refusal),
+        Fit::RefusedAt(refusal, version) => Answer::RefusedAt(refusal, version),
+    }
+}
+
+// Settings are written into a lent buffer of which so many bytes are in use: a block, behind the older ones.
+pub fn write_settings(buffer: &mut [u8], used: usize, block: &[u8]) -> Writing
+    ensures { λ r. ⌜ gives r (now (buffer .exit)) ≡ Settings.writeSettings (now (buffer .entry)) used (now (block .entry)) ⌝ }
+    ensures { λ r. ⌜ gives (writingNumbers r) (now (buffer .exit))
+        ≡ spoken writingNumbers (Settings.writeSettings (now (buffer .entry)) used (now (block .entry))) ⌝ }
+{
+    settings::write::write_settings(buffer, used, block)
 }
 
 // What is found before any other call goes on.

@@ -7,6 +7,8 @@ use Rattle.model.specs.declared.Held.{Held}
 use Rattle.model.specs.declared.Held.the-variants as Held
 use Rattle.model.specs.declared.Verdict.{Verdict}
 use Rattle.model.specs.declared.Verdict.the-variants as Verdict
+use Rattle.model.specs.declared.Writing.{Writing}
+use Rattle.model.specs.declared.Writing.the-variants as Writing
 use Rattle.model.specs.Store.{Store}
 use Rattle.model.specs.Processor.{running, advance, setLr}
 use Rattle.model.specs.Wait.{putToWait}
@@ -45,6 +47,17 @@ outOfRange = 26
 -- ---- document 02, 2/13: "A longer or odd list is refused by 27"
 abbrev pub wrongList : ℕ
 wrongList = 27
+
+-- ---- document 02, 5/13: "a version above the reader's own is refused by 29 with that version, any other break of layout .. by 28"; "by 35 if the lent buffer
+-- is too short"
+abbrev pub brokenLayout : ℕ
+brokenLayout = 28
+
+abbrev pub tooNew : ℕ
+tooNew = 29
+
+abbrev pub noRoom : ℕ
+noRoom = 35
 
 -- ---- document 02, 1/13, for 21: "30 a control page used twice or not at all, 31 a wait queue or semaphore, 32 a processor or message record, 33
 -- the code or error table, 34 counters and the running entry"
@@ -111,6 +124,10 @@ waitsNumber = 60
 abbrev pub handedOutNumber : ℕ
 handedOutNumber = 61
 
+-- of settings: written, with the new length
+abbrev pub writtenNumber : ℕ
+writtenNumber = 62
+
 -- ---- the number of each answer, then its values
 unfoldable pub numbers : Answer → List ℕ
 numbers Done = doneNumber ∷ []
@@ -129,6 +146,11 @@ unfoldable pub verdictNumbers : Verdict → List ℕ
 verdictNumbers Verdict.WellFormed = doneNumber ∷ []
 verdictNumbers (Verdict.Refused k) = k ∷ []
 verdictNumbers (Verdict.RefusedAt k a) = k ∷ a ∷ []
+
+unfoldable pub writingNumbers : Writing → List ℕ
+writingNumbers (Writing.Written n) = writtenNumber ∷ n ∷ []
+writingNumbers (Writing.Refused k) = k ∷ []
+writingNumbers (Writing.RefusedAt k v) = k ∷ v ∷ []
 
 module _ (S : Store) where
   -- what an instruction, fresh, an interrupt and setting registers give

@@ -8,6 +8,8 @@ use Rattle.model.specs.declared.Held.{Held}
 use Rattle.model.specs.declared.Verdict.{Verdict}
 use Rattle.model.specs.declared.Finding.{Finding}
 use Rattle.model.specs.declared.Checked.{Checked}
+use Rattle.model.specs.declared.Entry.{Entry}
+use Rattle.model.specs.declared.Fit.{Fit}
 use Rattle.model.specs.declared.Context.{Context}
 use Rattle.model.specs.Page.{Taken}
 use Rattle.model.specs.Mail.{Tested}
@@ -33,6 +35,7 @@ use Rattle.model.specs.Judge as Judge
 use Rattle.model.specs.Walks as Walks
 use Rattle.model.specs.Classes as Classes
 use Rattle.model.specs.Burst as Burst
+use Rattle.model.specs.Settings as Settings
 use Rattle.model.specs.Answer as Answer
 use Rattle.model.specs.Fault as Fault
 use Rattle.model.specs.Execute as Execute
@@ -597,6 +600,21 @@ burstJudged = Burst.burstJudged bytes
 
 abbrev pub burst : Memory → List ℕ → Step
 burst = Burst.burst bytes
+
+abbrev pub made : Memory → Entry → Memory
+made = Settings.made bytes
+
+abbrev pub allMade : Memory → List Entry → Memory
+allMade = Settings.allMade bytes
+
+abbrev pub settled : Memory → List ℕ → Memory
+settled = Settings.settled bytes
+
+abbrev pub heedsFile : Fit → Memory → List ℕ → Step
+heedsFile = Settings.heedsFile bytes
+
+abbrev pub fromSettings : Memory → List ℕ → Step
+fromSettings = Settings.fromSettings bytes
 
 abbrev pub refused : Memory → ℕ → Step
 refused = Answer.refused bytes

@@ -26,6 +26,9 @@ pub mod Tell
 pub mod Classes
 -- A burst from the line card (document 02, 2/13)
 pub mod Burst
+-- Settings that survive a box swap (document 02, 5/13)
+pub mod Layout
+pub mod Settings
 -- Refusals and faults
 pub mod Answer
 pub mod Fault

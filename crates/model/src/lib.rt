@@ -1,6 +1,7 @@
 // The kernel's types, and the methods of the register record. What they mean is in specs/.
 pub mod faults;
 pub mod instructions;
+pub mod layout;
 pub mod map;
 pub mod refusals;
 
@@ -45,7 +46,7 @@ pub struct Arguments {
 }
 
 // What a call answers. Handed out: the program's address, and that of n+1 or of the arguments. Fault: its number, and the name. Refused: its
-// number, and with 30-34 the address, with 24 and 25 of a burst the place of the bad pair.
+// number, and with 30-34 the address, with 24 and 25 of a burst the place of the bad pair, with 29 of settings the version.
 pub enum Answer {
     Done,
     Waits,
@@ -80,6 +81,35 @@ pub enum Finding {
 pub enum Checked {
     Good,
     Bad(u8, u16),
+}
+
+// Settings: a further processor, as an entry of a block names it.
+pub struct Entry {
+    pub name: u8,
+    pub priority: u8,
+    pub w: u8,
+    pub address: u16,
+}
+
+// What a trailer says: how far back the newest block begins, its version, and how many entries it has.
+pub struct Trailer {
+    pub distance: u16,
+    pub version: u8,
+    pub count: u8,
+}
+
+// The verdict of a block or of a file: it is good, or the number that refuses it, and with 29 the version.
+pub enum Fit {
+    Good,
+    Refused(u8),
+    RefusedAt(u8, u16),
+}
+
+// What writing settings answers: the new length of the file, or the number that refuses it, and with 29 the version.
+pub enum Writing {
+    Written(usize),
+    Refused(u8),
+    RefusedAt(u8, u16),
 }
 
 impl ControlPage {

@@ -223,6 +223,8 @@ pub const HEAD_WORDS: u8 = 3;
 pub const HEAD_WORDS_WIDE: u16 = 3;
 
 // "names 1-15, priorities 1-15, flags 1-7, faults 1-12".
+pub const FIRST_NAME: u8 = 1;
+
 pub const LAST_NAME: u8 = 15;
 
 pub const LAST_PRIORITY: u8 = 15;

@@ -96,8 +96,12 @@ module _ (S : Store) where
       Classes.semaphores Classes.noneFree Classes.noGrant Classes.pageWaits Classes.ofWaits Classes.labels Classes.existing Classes.nought
       Classes.granted Classes.messages Classes.ofRecords Classes.isBuiltIn Classes.isForeign Classes.codes Classes.inRange Classes.faults
       Classes.ofTables Classes.outer Classes.below Classes.positive Classes.clock Classes.runner Classes.notHigher Classes.shown Classes.running
-      Classes.ofCounters Classes.classes Classes.toldOf Burst.isList Burst.tested Burst.arrived Burst.burstJudged Burst.burst Answer.answerOf
-      Answer.memoryOf Answer.numbers Answer.heldNumbers Answer.verdictNumbers Answer.done Answer.jumps Answer.waits Fault.entered Fault.fault
+      Classes.ofCounters Classes.classes Classes.toldOf Burst.isList Burst.tested Burst.arrived Burst.burstJudged Burst.burst Layout.headBytes
+      Layout.entryAt Layout.entriesFrom Layout.isLetter Layout.isZeros Layout.isLabel Layout.isLaidOut Layout.isBlock Layout.isRanged Layout.isEntry
+      Layout.areEntries Layout.bears Layout.namesDiffer Layout.inBounds Layout.ofBlock Layout.trailerIn Layout.begins Layout.pointsBack
+      Layout.isTrailer Layout.ofFile Layout.isGood Settings.made Settings.allMade Settings.settled Settings.fromSettings Settings.trailerFor
+      Settings.written Settings.weight Settings.worse Settings.ofUsed Settings.writes Settings.writeSettings Answer.answerOf Answer.memoryOf
+      Answer.numbers Answer.heldNumbers Answer.verdictNumbers Answer.writingNumbers Answer.done Answer.jumps Answer.waits Fault.entered Fault.fault
       Execute.run Execute.foreign Execute.isForeign Execute.argumentFault Execute.argued Execute.exi Execute.taken Execute.decoded Execute.coded
       Execute.fetched Store.tget Store.tput Store.tzero Store.getT Store.putT Store.sizeT Store.trees Rule.all Rule.every Rule.holds sameWords
       writes looks
