@@ -56,7 +56,8 @@ fn is_zeros(block: &[u8], at: usize, left: usize) -> bool
     if left == 0 {
         return true;
     }
-    if block[at] == 0 {
+    let byte = block[at];
+    if byte == 0 {
         return is_zeros(block, at + 1, left - 1);
     }
     false
@@ -110,7 +111,7 @@ fn is_block(block: &[u8]) -> bool
 
 // Whether every value is in range, and no name stands twice.
 fn in_bounds(block: &[u8]) -> bool
-    requires { ⌜ Layout.isBlock (now block) ≡ true ⌝ }
+    requires { ⌜ (4 ≤ length (now block)) × (Layout.isBlock (now block) ≡ true) ⌝ }
     ensures { λ r. ⌜ r ≡ Layout.inBounds (now (block .entry)) ⌝ }
 {
     let count = block[layout::COUNT];

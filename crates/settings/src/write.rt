@@ -46,6 +46,13 @@ fn of_used(file: &[u8]) -> Fit
     of_file(file)
 }
 
+// The verdict of both.
+fn of_both(file: &[u8], block: &[u8]) -> Fit
+    ensures { λ r. ⌜ r ≡ Settings.worse (Settings.ofUsed (now (file .entry))) (Layout.ofBlock (now (block .entry))) ⌝ }
+{
+    worse(of_used(file), of_block(block))
+}
+
 // Where the block goes: to the old trailer's place, or to the start.
 fn place_for(used: usize) -> usize
     ensures { λ r. ⌜ (r ≡ Settings.placeFor used) × (r ≤ used) ⌝ }
@@ -97,8 +104,7 @@ pub fn write_settings(buffer: &mut [u8], used: usize, block: &[u8]) -> Writing
     if buffer.len() < used {
         return Writing::Refused(refusals::NO_ROOM);
     }
-    let fit = worse(of_used(&buffer[0..used]), of_block(block));
-    match fit {
+    match of_both(&buffer[0..used], block) {
         Fit::Good => write(buffer, used, block),
         Fit::Refused(refusal) => Writing::Refused(refusal),
         Fit::RefusedAt(refusal, version) => Writing::RefusedAt(refusal, version),
