@@ -135,17 +135,21 @@ module _ (l b : List ℕ) (used : ℕ) where
   unfolding Settings.writeSettings
   over-room h = rw (lt-ltb (length l) used h)
 
-  module _ (w : Fit) (h : used ≤ length l) (ew : w ≡ worse (ofUsed (take used l)) (ofBlock b)) where
+  -- the bytes in use, as the code takes them
+  module _ (w : Fit) (h : used ≤ length l) (ew : w ≡ worse (ofUsed (take (used - 0) (drop 0 l))) (ofBlock b)) where
+    both : w ≡ worse (ofUsed (take used l)) (ofBlock b)
+    both = let z : used - 0 ≡ used = omega arith in rw z at ew
+
     pub write-good : (r : Writing) (l₁ : List ℕ) → w ≡ Good → gives r l₁ ≡ writes l used b → gives r l₁ ≡ writeSettings l used b
     unfolding Settings.writeSettings
-    write-good r l₁ z e = rw (le-ltb (length l) used h, ← ew, z) e
+    write-good r l₁ z e = rw (le-ltb (length l) used h, ← both, z) e
 
     pub write-refused : (k : ℕ) → w ≡ Refused k → gives (Writing.Refused k) l ≡ writeSettings l used b
     unfolding Settings.writeSettings
-    write-refused k z = rw (le-ltb (length l) used h, ← ew, z)
+    write-refused k z = rw (le-ltb (length l) used h, ← both, z)
 
     pub write-at : (k v : ℕ) → w ≡ RefusedAt k v → gives (Writing.RefusedAt k v) l ≡ writeSettings l used b
     unfolding Settings.writeSettings
-    write-at k v z = rw (le-ltb (length l) used h, ← ew, z)
+    write-at k v z = rw (le-ltb (length l) used h, ← both, z)
 
 pub ruleset writing = (good-least, good-most, both-are, over-room, write-good, write-refused, write-at)

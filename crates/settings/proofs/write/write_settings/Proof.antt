@@ -1,5 +1,5 @@
 use borrow.Author.Needs.{needs}
-use Rattle.settings.proofs.Writes.{writing, write-good}
+use Rattle.settings.proofs.Writes.{writing}
 use Rattle.settings.proofs.write.write_settings.Statement.{statement}
 use Rattle.settings.proofs.write.write_settings.Tie as tie
 
@@ -15,7 +15,7 @@ write-settings-spec = tie.close (tie.spec
     (λ c. search needs)
     (λ c. search needs)
     (λ c. search needs)
-    (λ c. write-good _ _ _ _ (search needs) (search needs) _ _ (search needs) (search needs))
+    (λ c. search (needs, writing))
     (λ c. search needs)
     (λ c. search (needs, writing))
     (λ c. search needs)
