@@ -307,6 +307,17 @@ module _ (b : List ℕ) (l d k : ℕ) (x y : Bool) (el : l ≡ getD b 2 0) (ed :
     unfolding Layout.inBounds
     bounds-names a g ea = rw (← el, ← ed, ← ex, h, ← ek, ← ey, g) ea
 
+-- what values in range say
+pub bounds-in : (b : List ℕ) → inBounds b ≡ true → (startable (getD b 2 0) (getD b 3 0) ≡ true) × (areEntries (entriesOf b) ≡ true) × (namesDiffer (entriesOf b) ≡ true)
+unfolding Layout.inBounds
+bounds-in b h = go (startable (getD b 2 0) (getD b 3 0)) (areEntries (entriesOf b)) refl refl
+  where
+    go : (x y : Bool) → startable (getD b 2 0) (getD b 3 0) ≡ x → areEntries (entriesOf b) ≡ y
+        → (startable (getD b 2 0) (getD b 3 0) ≡ true) × (areEntries (entriesOf b) ≡ true) × (namesDiffer (entriesOf b) ≡ true)
+    go false y e f = let c = rw e at h in let k : _≡_ {A = ℕ} 0 1 = cc in absurd (omega arith)
+    go true false e f = let c = rw (e, f) at h in let k : _≡_ {A = ℕ} 0 1 = cc in absurd (omega arith)
+    go true true e f = (e, f, rw (e, f) at h)
+
 pub ruleset blocks = (
   laid-label,
   laid-bare,

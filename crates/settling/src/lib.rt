@@ -47,7 +47,7 @@ fn make_all(m: &mut [u8], block: &[u8], cursor: Cursor, left: u8)
 
 // The fresh start with the settings of a good block.
 pub fn settle(m: &mut [u8], block: &[u8])
-    requires { ⌜ (length (now m) ≡ 8192) × (Layout.isGood (Layout.ofBlock (now block)) ≡ true) ⌝ }
+    requires { ⌜ (length (now m) ≡ 8192) × (4 ≤ length (now block)) × (Layout.isGood (Layout.ofBlock (now block)) ≡ true) ⌝ }
     ensures { λ _. ⌜ now (m .exit) ≡ Model.settled (now (m .entry)) (now (block .entry)) ⌝ }
 {
     start(m, block[layout::LINE], block[layout::DIVIDER]);
