@@ -45,6 +45,11 @@ void order_interrupt(unsigned number, unsigned class_number);
 unsigned burst_text(const struct list *list, char text[LONGEST_LINE + 1]);
 void order_burst(const struct list *list);
 void order_burst_as(const char *line, const struct list *list);
+void order_settings(unsigned address, unsigned length);
+struct writing {
+    unsigned file, room, used, block, length;
+};
+void order_write(const struct writing *w);
 void order_registers(void);
 void order_set(const struct registers *registers);
 void order_judge(void);
@@ -132,6 +137,13 @@ unsigned long bursts_refused_at(unsigned place);
 void reach_burst(const uint8_t *before, const uint8_t *list, unsigned count, const struct answer *answer);
 void write_bursts(void);
 
+/* filed.c: what settings reached; a part of the words that goes past 8,200 is not allowed */
+void reach_parts(unsigned end, bool allowed);
+void reach_settings(const uint8_t *before, unsigned address, const uint8_t *file, unsigned length,
+                    const struct answer *answer);
+void reach_write(const uint8_t *file, const struct writing *w, const uint8_t *block, const struct answer *answer);
+void write_settings_reached(void);
+
 /* plan.c: one instruction, direct or by EXI, put at LR and run */
 struct plan {
     unsigned code;
@@ -169,7 +181,11 @@ void any_burst(void);
 bool burst_for_waiters(void);
 void burst_on(unsigned number);
 
-/* scenes.c, interrupts.c, crowd.c, namesakes.c, broken.c, harmless.c, lines.c, bursts.c: plays of some orders each */
+/* swap.c: settings, good and bad; the memory may have any length and be broken */
+void any_settings(void);
+void start_from_settings(void);
+
+/* scenes.c, interrupts.c, crowd.c, namesakes.c, broken.c, harmless.c, lines.c, bursts.c, swap.c: plays of some orders each */
 void scene_single(void);
 void scene_calls(void);
 void scene_interrupts(void);
@@ -205,6 +221,10 @@ void scene_lines(void);
 void scene_bursts(void);
 void scene_bad_bursts(void);
 void scene_muster(void);
+void scene_starts(void);
+void scene_damages(void);
+void scene_writes(void);
+void scene_parts(void);
 void write_ways(void);  /* how memories were broken */
 void unstick(void);
 void opening(void);

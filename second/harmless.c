@@ -224,10 +224,13 @@ static unsigned some_divider(void)
     return chance(80) ? from_to(1, 4) : chance(25) ? 255 : from_to(1, 255);
 }
 
-/* A fresh start with some line, often the first or the last. */
+/* A fresh start with some line, often the first or the last; or one from settings. */
 static void start_afresh(unsigned divider)
 {
-    order_fresh(chance(20) ? 16 : chance(20) ? 47 : from_to(16, 47), divider);
+    if (kind != KIND_CLOCK && chance(30))
+        start_from_settings();
+    else
+        order_fresh(chance(20) ? 16 : chance(20) ? 47 : from_to(16, 47), divider);
 }
 
 /*
@@ -261,7 +264,7 @@ void scene_length(void)
 
     order_length(lengths[below(5)]);
     for (unsigned left = from_to(1, 4); left > 0; left--) {
-        unsigned choice = below(9), low = chance(50) ? 0 : below(3);
+        unsigned choice = below(10), low = chance(50) ? 0 : below(3);
 
         switch (choice) {
         case 0: order_step(); break;
@@ -271,9 +274,12 @@ void scene_length(void)
         case 4: order_fresh(from_to(15, 47), low); break;
         case 5: order_fresh(chance(50) ? 15 : 48, low); break;
         case 6: case 7: any_burst(); break;
+        case 8: any_settings(); break;
         default: order_judge(); break;
         }
     }
+    if (chance(20))
+        scene_writes();
     if (chance(20))
         order_length(chance(50) ? 8201 : 65535);
     maybe_changes(50);
@@ -287,6 +293,8 @@ void opening(void)
         scene_calls();
     if (chance(15))
         any_burst();
+    if (chance(10))
+        any_settings();
     if (chance(25))
         scene_length();
     start_afresh(kind == KIND_CLOCK ? from_to(1, 2) : some_divider());

@@ -17,6 +17,12 @@ static const char *const odd[] = {
     "burst 65536", "burst 16 0 16 65536", "burst 65536 0 x", "burst 16 -0", "burst 16,0", "Burst", "BURST 16 0",
     "bursts 16 0", "burs", "burst16 0", "burst\t16 0", "burst 16\t0", "burst 16 0 x", "burst 16 0\r", "burst burst",
     "burst 16.0", "burst 0x10 0", "burst +16 0", "burst 99999999999999999999", "burst 16 0 99999", "burst 16 0; step",
+    "settings", "settings 1000", "settings 1000 13 1", "settings 65536 1", "settings 1000 65536", "settings 1000 -1",
+    "Settings 1000 13", "setting 1000 13", "settings1000 13", "settings 1000 #13", "settings 1000 x",
+    "settings 1000\t13", "settings 1000 13\r", "settings 99999999999999999999 0", "write", "write 1000 100 13 2000",
+    "write 1000 100 13 2000 5 6", "write 65536 0 0 0 0", "write 0 65536 0 0 0", "write 0 0 65536 0 0",
+    "write 0 0 0 65536 0", "write 0 0 0 0 65536", "write 1000 100 13 2000 5x", "writes 1000 100 13 2000 5",
+    "WRITE 1000 100 13 2000 5", "write 1000 100 13 2000 #5", "write 1000,100 13 2000 5", "write 1 2 3", "write 1",
     "interrupt #16", "put 400 #1", "set 1 2 3 4 5 6# 7", "fresh 16 #1", "words 400 #", "length #5"
 };
 
@@ -26,6 +32,10 @@ static const char *const forbidden[] = {
     "put 8192 1", "put 8199 1", "put 8200 1", "put 65535 1", "put 400 256", "put 400 1 2 65535", "put 31 1 256",
     "break 8200 1", "break 8199 1 2", "break 65535 1", "break 400 256", "break 8000 1 2 999", "length 8201",
     "length 65535", "words 8200 1", "words 8199 2", "words 0 0", "words 0 33", "words 65535 32", "words 8169 32",
+    "settings 8200 1", "settings 8201 0", "settings 0 8201", "settings 8199 2", "settings 65535 65535",
+    "settings 8192 9", "settings 1 65535", "write 8200 1 0 0 0", "write 0 8201 0 0 0", "write 0 0 0 8200 1",
+    "write 8201 0 0 0 0", "write 0 0 0 8201 0", "write 0 0 0 0 8201", "write 8192 9 0 0 0", "write 0 0 0 8192 9",
+    "write 65535 65535 65535 65535 65535", "write 0 1 2 65535 1", "write 8199 2 1 400 4", "write 400 8 0 8197 4",
     "words 400 65535", "words 8200 0", "put 100 1 1 1 1 1 1 1 1 1 1 1 1 1 1 1 1 1 1 1 1 1 1 1 1 1 1 1 1 1"
 };
 

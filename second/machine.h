@@ -72,7 +72,9 @@ enum {
 enum {
     REFUSE_LENGTH = 20, REFUSE_IDLE = 22, REFUSE_NOT_224, REFUSE_INTERRUPT, REFUSE_CLASS, REFUSE_VALUE,
     REFUSE_LIST,  /* a burst that is odd or too long */
-    REFUSE_USES = 30, REFUSE_WAITS, REFUSE_RECORDS, REFUSE_TABLES, REFUSE_RUNNING  /* memory not well-formed */
+    REFUSE_LAYOUT, REFUSE_VERSION,  /* of settings: a break of layout, a version above the reader's own */
+    REFUSE_USES = 30, REFUSE_WAITS, REFUSE_RECORDS, REFUSE_TABLES, REFUSE_RUNNING,  /* memory not well-formed */
+    REFUSE_ROOM  /* a buffer too short for the settings to be written */
 };
 
 /* The address of a word of a page. */
@@ -125,6 +127,7 @@ bool is_ready(const uint8_t *m, unsigned page);
 unsigned find_processor(const uint8_t *m, unsigned name);
 unsigned get_lr(const uint8_t *m, unsigned page);
 void set_lr(uint8_t *m, unsigned page, unsigned lr);
+void set_up_processor(uint8_t *m, unsigned page, unsigned name, unsigned priority, unsigned w, unsigned lr);
 void who_runs(uint8_t *m);
 
 /* wait.c */

@@ -202,7 +202,7 @@ static unsigned start_at(struct runner *r, const struct arguments *g)
     return OUTCOME_DONE;
 }
 
-/* CRP: "created stopped, all else zero" */
+/* CRP: the name and the priority are tested before a page is needed. */
 static unsigned create_processor(struct runner *r, const struct arguments *g)
 {
     uint8_t *m = r->m;
@@ -215,12 +215,7 @@ static unsigned create_processor(struct runner *r, const struct arguments *g)
     page = take_page(m, r->name);
     if (page == 0)
         return wait_for_page(r);
-    for (unsigned word = 0; word < PAGE_WORDS; word++)
-        store(m, at(page, word), 0);
-    store(m, at(page, WHO), g->priority * 16 + g->field);
-    store(m, at(page, STATE), STOPPED + g->w);
-    set_lr(m, page, g->address);
-    queue_join(m, PROCESSOR_LIST, LIST_LINK, page);
+    set_up_processor(m, page, g->field, g->priority, g->w, g->address);
     return OUTCOME_DONE;
 }
 

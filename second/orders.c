@@ -168,6 +168,52 @@ void order_burst_as(const char *line, const struct list *list)
     call_burst(list, list->count);
 }
 
+static bool is_part(unsigned address, unsigned count)
+{
+    bool allowed = address + count <= BUFFER;
+
+    reach_parts(address + count, allowed);
+    if (!allowed)
+        mark(MARK_NOT_ALLOWED);
+    return allowed;
+}
+
+void order_settings(unsigned address, unsigned length)
+{
+    uint8_t before[BUFFER], file[BUFFER];
+    char text[64];
+
+    if (full())
+        return;
+    snprintf(text, sizeof text, "settings %u %u", address, length);
+    write_order(text);
+    if (!is_part(address, length))
+        return;
+    memcpy(before, world, sizeof before);
+    memcpy(file, world + address, length);
+    answered(kernel_fresh_from_settings(world, lent, file, length));
+    reach_settings(before, address, file, length, &last);
+}
+
+void order_write(const struct writing *w)
+{
+    uint8_t before[BUFFER], file[BUFFER], block[BUFFER];
+    char text[96];
+
+    if (full())
+        return;
+    snprintf(text, sizeof text, "write %u %u %u %u %u", w->file, w->room, w->used, w->block, w->length);
+    write_order(text);
+    if (!is_part(w->file, w->room) || !is_part(w->block, w->length))
+        return;
+    memcpy(file, world + w->file, w->room);
+    memcpy(before, file, w->room);
+    memcpy(block, world + w->block, w->length);
+    answered(kernel_write_settings(file, w->room, w->used, block, w->length));
+    memcpy(world + w->file, file, w->room);
+    reach_write(before, w, block, &last);
+}
+
 void order_registers(void)
 {
     struct registers ignored;

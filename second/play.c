@@ -61,7 +61,9 @@ static const struct {
     { scene_bad_bursts, { 38, 24, 16, 20, 18 } },
     { scene_muster, { 21, 14, 9, 8, 12 } },   { scene_lives, { 15, 9, 4, 4, 4 } },
     { scene_heirs, { 10, 6, 2, 2, 2 } },      { scene_estate, { 9, 6, 2, 2, 2 } },
-    { scene_keepsakes, { 12, 9, 2, 3, 3 } },  { scene_forge, { 0, 20, 14, 0, 0 } }
+    { scene_keepsakes, { 12, 9, 2, 3, 3 } },  { scene_forge, { 0, 20, 14, 0, 0 } },
+    { scene_starts, { 3, 3, 6, 2, 3 } },      { scene_damages, { 34, 30, 44, 13, 24 } },
+    { scene_writes, { 34, 30, 44, 13, 24 } }, { scene_parts, { 8, 8, 14, 4, 7 } }
 };
 enum { SCENES = sizeof scenes / sizeof scenes[0] };
 

@@ -43,6 +43,17 @@ void set_lr(uint8_t *m, unsigned page, unsigned lr)
     store(m, at(page, LR_LOW), lr);
 }
 
+/* "created stopped, all else zero"; it joins the processor list. */
+void set_up_processor(uint8_t *m, unsigned page, unsigned name, unsigned priority, unsigned w, unsigned lr)
+{
+    for (unsigned word = 0; word < PAGE_WORDS; word++)
+        store(m, at(page, word), 0);
+    store(m, at(page, WHO), priority * 16 + name);
+    store(m, at(page, STATE), STOPPED + w);
+    set_lr(m, page, lr);
+    queue_join(m, PROCESSOR_LIST, LIST_LINK, page);
+}
+
 /* "13-15 and 16-31 keep words 4-6 and 16-31 of page 0 while another runs" */
 static unsigned kept_word(unsigned word)
 {

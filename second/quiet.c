@@ -95,6 +95,28 @@ void order_burst_as(const char *line, const struct list *list)
     order_burst(list);
 }
 
+void order_settings(unsigned address, unsigned length)
+{
+    uint8_t file[BUFFER];
+
+    if (address + length > BUFFER)
+        return;
+    memcpy(file, world + address, length);
+    last = kernel_fresh_from_settings(world, lent, file, length);
+}
+
+void order_write(const struct writing *w)
+{
+    uint8_t file[BUFFER], block[BUFFER];
+
+    if (w->file + w->room > BUFFER || w->block + w->length > BUFFER)
+        return;
+    memcpy(file, world + w->file, w->room);
+    memcpy(block, world + w->block, w->length);
+    last = kernel_write_settings(file, w->room, w->used, block, w->length);
+    store_words(w->file, file, w->room);
+}
+
 void order_registers(void)
 {
     struct registers ignored;

@@ -4,7 +4,7 @@
 
 #include "generate.h"
 
-enum { WAIT_KINDS = 7, FAULT_NUMBERS = 13, REFUSALS = 35 };
+enum { WAIT_KINDS = 7, FAULT_NUMBERS = 13, REFUSALS = 36 };
 
 static const char *const mark_names[MARKS] = {
     "grants given", "grants used", "grants used by another instruction than the one that waited",
@@ -294,8 +294,8 @@ void write_reached(void)
     write_codes();
     for (unsigned n = 1; n < FAULT_NUMBERS; n++)
         printf("# reached fault %u: %lu\n", n, faults[n]);
-    for (unsigned n = REFUSE_LENGTH; n <= REFUSE_RUNNING; n++)
-        if (n == REFUSE_LENGTH || (n >= REFUSE_IDLE && n <= REFUSE_LIST) || n >= REFUSE_USES)
+    for (unsigned n = REFUSE_LENGTH; n <= REFUSE_ROOM; n++)
+        if (n == REFUSE_LENGTH || n >= REFUSE_IDLE)
             printf("# reached refusal %u: %lu\n", n, refusals[n]);
     for (unsigned n = 0; n < WAIT_KINDS; n++)
         printf("# reached waits, %s: %lu\n", wait_names[n], waits[n]);
@@ -308,6 +308,7 @@ void write_reached(void)
     printf("# reached most processors: %u\n", most_processors);
     printf("# reached most page waiters: %u\n", most_page_waiters);
     write_bursts();
+    write_settings_reached();
     write_told();
     write_ways();
     write_faults_by_code();

@@ -29,12 +29,15 @@ static void print_answer(const struct answer *answer)
     case ANSWER_FAULT:
         printf("fault %u by %u\n", (unsigned)answer->number, (unsigned)answer->name);
         break;
+    case ANSWER_WRITTEN: printf("written %zu\n", answer->written); break;
     case ANSWER_REFUSED:
         printf("refused %u", (unsigned)answer->number);
         if (answer->number >= REFUSE_USES && answer->number <= REFUSE_RUNNING)
             printf(" at %u", (unsigned)answer->address);
         if (answer->place != 0)
             printf(" at %u", (unsigned)answer->place);
+        if (answer->number == REFUSE_VERSION)
+            printf(" at %u", (unsigned)answer->version);
         putchar('\n');
         break;
     }
@@ -187,6 +190,45 @@ static void do_changes(const uint32_t *n, unsigned count)
     memcpy(compared, memory, BUFFER);
 }
 
+static bool is_part(uint32_t address, uint32_t count)
+{
+    return address + count <= BUFFER;
+}
+
+/* The file is copied out first: the fresh start clears words that it may stand in. */
+static void do_settings(const uint32_t *n, unsigned count)
+{
+    uint8_t file[BUFFER];
+    struct answer answer;
+
+    (void)count;
+    if (!is_part(n[0], n[1])) {
+        not_allowed();
+        return;
+    }
+    memcpy(file, memory + n[0], n[1]);
+    answer = kernel_fresh_from_settings(memory, lent, file, n[1]);
+    print_answer(&answer);
+}
+
+/* FILE ROOM USED BLOCK LENGTH; the two parts may overlap, what is lent to the call does not. */
+static void do_write(const uint32_t *n, unsigned count)
+{
+    uint8_t file[BUFFER], block[BUFFER];
+    struct answer answer;
+
+    (void)count;
+    if (!is_part(n[0], n[1]) || !is_part(n[3], n[4])) {
+        not_allowed();
+        return;
+    }
+    memcpy(file, memory + n[0], n[1]);
+    memcpy(block, memory + n[3], n[4]);
+    answer = kernel_write_settings(file, n[1], n[2], block, n[4]);
+    memcpy(memory + n[0], file, n[1]);
+    print_answer(&answer);
+}
+
 static void do_show(const uint32_t *n, unsigned count)
 {
     (void)n;
@@ -205,7 +247,8 @@ static const struct {
     { "put", 2, 33, do_put },            { "break", 2, 33, do_break },
     { "length", 1, 1, do_length },       { "words", 2, 2, do_words },
     { "changes", 0, 0, do_changes },     { "show", 0, 0, do_show },
-    { "burst", 0, MOST_NUMBERS, do_burst },
+    { "burst", 0, MOST_NUMBERS, do_burst }, { "settings", 2, 2, do_settings },
+    { "write", 5, 5, do_write },
 };
 
 struct word {

@@ -135,7 +135,7 @@ void reach_told(const uint8_t *m, const struct answer *answer)
 {
     struct survey s;
 
-    if (answer->kind != ANSWER_REFUSED || answer->number < REFUSE_USES)
+    if (answer->kind != ANSWER_REFUSED || answer->number < REFUSE_USES || answer->number > REFUSE_RUNNING)
         return;
     survey(&s, m);
     count_rules(&s, answer);

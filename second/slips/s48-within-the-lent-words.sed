@@ -1,0 +1,3 @@
+# file: script.c
+# says: `settings` takes only words that are lent
+s/return address + count <= BUFFER;/return address + count <= lent;/
