@@ -1,5 +1,5 @@
-/* A small weighbridge house: a ledger, a scale reader and a barrier as three virtual processors on one memory. The host loads their program, delivers
- * the interrupts of a night and prints what the ledger was sent. The program in words is that of examples/harvest-night.script, without its twelve desks.
+/* A small weighbridge house: a ledger, a scale reader and a barrier as three virtual processors on one memory. The host writes the settings of the site,
+ * starts from them, loads the programs, delivers the interrupts of a night and prints what the ledger was sent. The program in words is that of examples/harvest-night.script, without its twelve desks.
  * Build and run: ./host examples/host.c */
 #include <stdio.h>
 #include <stdlib.h>
@@ -8,7 +8,7 @@
 #include "wik.h"
 
 enum {
-    LEDGER = 1, SCALE = 2, BARRIER = 3,                     /* names; the priorities are 1, 3 and 2 */
+    LEDGER = 1, SCALE = 2, BARRIER = 3,                     /* names; the priorities are 1, and in the settings 3 and 2 */
     CLOCK = 16, ON_SCALE = 17, BARRIER_OPEN = 18,           /* interrupts */
     LEDGER_AT = 2752, SCALE_AT = 3000, BARRIER_AT = 3200,   /* programs */
     READING = 3500, OPEN = 3530,                            /* messages that wait to be sent: a length, then the text */
@@ -24,7 +24,6 @@ static void word(unsigned value) { memory[at++] = (uint8_t)value; }
 static void code(unsigned number, unsigned field) { word(224); word(number * 16 + field); }
 static void address(unsigned above, unsigned a) { word(above * 32 + a / 256); word(a % 256); }
 
-static void create(unsigned name, unsigned priority, unsigned program) { code(11, name); word(priority * 16); address(0, program); }
 static void start(unsigned name) { code(8, name); }
 static void wait_for_interrupt(unsigned number) { code(3, 0); word(number); word(1); }
 static void send_to(unsigned name, unsigned flag, unsigned message) { code(4, name); address(flag, message); }
@@ -34,8 +33,6 @@ static void jump(unsigned to) { code(13, 0); address(4, to); }
 
 static void load(void) {
     at = LEDGER_AT;
-    create(SCALE, 3, SCALE_AT);
-    create(BARRIER, 2, BARRIER_AT);
     start(SCALE);
     start(BARRIER);
     unsigned books = at;
@@ -78,7 +75,7 @@ static void print_entry(void) {
     printf("ledger: from %u, flag %u: %.*s\n", memory[ENTRY], memory[ENTRY + 1], memory[ENTRY + 2], (const char *)memory + ENTRY + 3);
 }
 
-/* Runs until nobody is ready, at most so many instructions; the ledger has read an entry when its jump comes next. */
+/* Runs until nobody is ready, at most so many instructions; the ledger has read an entry when its jump comes next, behind two starts, a wait and a read. */
 static void run(unsigned most) {
     for (unsigned i = 0; i < most; i++) {
         uint64_t answer = wik_instruction(memory, sizeof memory);
@@ -86,7 +83,7 @@ static void run(unsigned most) {
         if (number == WIK_IDLE) { puts("all wait"); return; }
         if (number == WIK_WAITS) continue;
         if (number != WIK_DONE) { printf("answer %u, %u\n", number, wik_first(answer)); exit(1); }
-        if (runner() == LEDGER_AT + 21) print_entry();
+        if (runner() == LEDGER_AT + 11) print_entry();
     }
 }
 
@@ -121,8 +118,45 @@ static void spoil(unsigned place, uint8_t value) {
     memory[place] = good;
 }
 
+/* ---- the settings of the site: what would stand in a file that comes along when a box is swapped */
+static uint8_t file[128];
+static size_t used;
+
+static void settings(const char *what, const uint8_t *block, size_t length) {
+    uint64_t answer = wik_write_settings(file, sizeof file, used, block, length);
+    printf("%s: %s", what, wik_text(answer));
+    if (wik_number(answer) == WIK_WRITTEN) {
+        used = wik_new_length(used, length);
+        printf(", %zu bytes", used);
+    }
+    if (wik_number(answer) == WIK_TOO_NEW) printf(", version %u", wik_version(answer));
+    puts("");
+}
+
+/* A file that is damaged on the way is refused, and the memory stays as it is. */
+static void damage(size_t place, uint8_t value) {
+    uint8_t good = file[place];
+    file[place] = value;
+    uint64_t answer = wik_fresh_from_settings(memory, sizeof memory, file, used);
+    printf("byte %zu of the settings is %u: answer %u, %s\n", place, value, wik_number(answer), wik_text(answer));
+    file[place] = good;
+}
+
 int main(void) {
-    expect("fresh", wik_fresh(memory, sizeof memory, CLOCK, 5));
+    const uint8_t quiet[] = { 1, 0, CLOCK, 5 };
+    const uint8_t house[] = {
+        3, 2, CLOCK, 5, 7, 'P', 'o', 'z', 'n', 'a', 'n', 0, 0, 0, 0, 0, 0,
+        SCALE, 3, 0, SCALE_AT / 256, SCALE_AT % 256,
+        BARRIER, 2, 0, BARRIER_AT / 256, BARRIER_AT % 256
+    };
+    const uint8_t newer[] = { 4, 0, CLOCK, 5 };
+    settings("settings of an empty house", quiet, sizeof quiet);
+    settings("settings of this house", house, sizeof house);
+    settings("settings of a newer box", newer, sizeof newer);
+    damage(used - 3, 28);               /* how far back the block begins */
+    damage(used - 2, 9);                /* its version */
+    damage(used - 9, SCALE);            /* the barrier's name */
+    expect("fresh", wik_fresh_from_settings(memory, sizeof memory, file, used));
     load();
     message(OPEN, "open");
     run(100);

@@ -1,79 +1,56 @@
--- Fresh start: processor 1 alone lives, and nothing waits for it, whatever the memory held before. Assumes nothing.
-use mathlib.Core.Path.{_≡_, refl, sym, _∙_, subst}
+-- Fresh start, from settings or not: nothing waits for anybody who lives, whatever the memory held before. Assumes nothing.
+use mathlib.Core.Path.{_≡_}
 use mathlib.Core.Logic.{_≢_, _⊎_, inl, inr}
 use mathlib.Core.Bool.{true}
 use mathlib.Core.List.{List, [], _∷_}
-use Prim.Native.Nat.{ℕ, _≤_}
+use Prim.Native.Nat.{ℕ, _+_, _≤_}
 use native.Mathlib.Omega.{arith}
 use lib.ListN.{length}
-use Rattle.model.specs.Map.{firstControl, memorySize, place, processorList, q1, q2}
-use Rattle.model.specs.Store.{Store, bytes, trees, tget, tput, tzero, getT, putT, sizeT}
-use Rattle.model.specs.Same.{trees-is-bytes}
-use Rattle.model.specs.Address as Address
-use Rattle.model.specs.Queue as Queue
-use Rattle.model.specs.Processor as Processor
-use Rattle.model.specs.Turn as Turn
-use Rattle.model.specs.Fresh as Fresh
+use Rattle.model.specs.Map.{controlPages, firstControl, link, memorySize, place, q1, q2}
+use Rattle.model.specs.declared.Entry.{Entry}
+use Rattle.model.specs.declared.Fit.the-variants.{Good}
 use Rattle.model.specs.Fresh.{startable}
+use Rattle.model.specs.Layout.{ofFile}
+use Rattle.model.specs.Answer as Answer
 use Rattle.model.specs.Answer.{memoryOf}
-use Rattle.model.specs.Bytes.{lists, started, fresh, processors}
+use Rattle.model.specs.Bytes.{fresh, fromSettings, processors, queue, word}
 use Rattle.model.specs.Lists.{count}
 use Rattle.laws.specs.Count.{hit-other, hit-or}
-use Rattle.laws.specs.Inv.{Base, noOne, view}
-use Rattle.laws.specs.Judged.{invariant}
-use Rattle.laws.specs.Frames.{base-kept}
-use Rattle.laws.specs.Start.{Args, zeros-size, zeros-fresh, agree-started, agree-kept}
-use Rattle.laws.specs.Who.{listed}
-use Rattle.laws.specs.Mails.{mail-queue}
-use Rattle.laws.specs.Calls.{args-of}
+use Rattle.laws.specs.Chain.{walk-chain}
+use Rattle.laws.specs.Words.{Small}
+use Rattle.laws.specs.Start.{args-of}
+use Rattle.laws.specs.Settle.{Rows, Settled, pages, fresh-settled, from-settings}
+use Rattle.laws.specs.Settle.Rows.{none, one}
 use Rattle.laws.specs.Witness.{fresh-is}
 use Rattle.history.specs.Letter.{waitingFor}
 
--- what is computed, from zeros, with the line and the divider open
-record Empty (line divider : ℕ) (S : Store) : Type 0 where
-  procs : Queue.processors S (Fresh.started S (S .zeros) line divider) ≡ firstControl ∷ []
-  first : Queue.queue S (Fresh.started S (S .zeros) line divider) (place firstControl q1) ≡ []
-  second : Queue.queue S (Fresh.started S (S .zeros) line divider) (place firstControl q2) ≡ []
+-- the heads of Q1 and Q2 of each of ps are 0
+abbrev Bare : List ℕ → List ℕ → Type 0
+Bare m ps = (p : ℕ) → 1 ≤ count p ps → (j : ℕ) → q1 ≤ j → j ≤ q2 → word m p j ≡ 0
 
-at-trees : (line divider : ℕ) → Empty line divider trees
-unfolding trees tget tput tzero getT putT sizeT Queue.walk Address.zeroed Processor.setFlagsLr Processor.setRegistersOf Processor.handBack Turn.runs
-    Fresh.cleared Fresh.timed Fresh.firstProcessor Fresh.chained Fresh.freed Fresh.allBuiltIn Fresh.started
-at-trees line divider = record { procs = refl; first = refl; second = refl }
+bare-cons : (m : List ℕ) (q : ℕ) (ps : List ℕ) → ((j : ℕ) → q1 ≤ j → j ≤ q2 → word m q j ≡ 0) → Bare m ps → Bare m (q ∷ ps)
+bare-cons m q ps f g p h j l u = go (hit-or p q)
+  where
+    go : (p ≡ q) ⊎ (p ≢ q) → word m p j ≡ 0
+    go (inl e) = rw e (f j l u)
+    go (inr d) = g p (omega (arith, hit-other p q d)) j l u
 
-computed : (line divider : ℕ) → Empty line divider bytes
-computed line divider = subst (λ (S : Store). Empty line divider S) trees-is-bytes (at-trees line divider)
+rows-bare : {m : List ℕ} (ps : List ℕ) (es : List Entry) → Rows m ps es → Bare m ps
+rows-bare _ _ none = λ p h. absurd (omega arith)
+rows-bare {m} _ _ (one p e ps es s r) = bare-cons m p ps (s .mail) (rows-bare ps es r)
 
-module _ (m : List ℕ) (line d : ℕ) (l : length m ≡ memorySize) (a : Args line d) where
-  abbrev m0 : List ℕ
-  m0 = started (bytes .zeros) line d
-
-  b0 : Base m0 (lists m0 processorList) (lists m0) (view m0) [] noOne
-  b0 = invariant (zeros-fresh line d a) .base
-
-  b1 : Base (started m line d) (lists m0 processorList) (lists m0) (view m0) [] noOne
-  b1 = base-kept (agree-kept (agree-started (bytes .zeros) m line d zeros-size l)) b0
-
-  one : lists m0 processorList ≡ firstControl ∷ []
-  one = sym (listed b0) ∙ computed line d .procs
-
-  is-one : (p : ℕ) → 1 ≤ count p (firstControl ∷ []) → p ≡ firstControl
-  is-one p h = go (hit-or p firstControl)
-    where
-      go : (p ≡ firstControl) ⊎ (p ≢ firstControl) → p ≡ firstControl
-      go (inl e) = e
-      go (inr n) = absurd (omega (arith, hit-other p firstControl n))
-
-  started-empty : (p : ℕ) → 1 ≤ count p (processors (started m line d)) → waitingFor (started m line d) p ≡ []
-  unfolding waitingFor
-  started-empty p h =
-      let e = is-one p (rw (listed b1, one) at h) in
-      let i : 1 ≤ count firstControl (lists m0 processorList) = rw (listed b1, e) at h in
-      let f5 = mail-queue b1 firstControl q1 i (omega arith) (omega arith) ∙ sym (mail-queue b0 firstControl q1 i (omega arith) (omega arith))
-      ∙ computed line d .first in
-      let f6 = mail-queue b1 firstControl q2 i (omega arith) (omega arith) ∙ sym (mail-queue b0 firstControl q2 i (omega arith) (omega arith))
-      ∙ computed line d .second in
-      rw (e, f5, f6)
+settled-empty : {m : List ℕ} {es : List Entry} → Settled m es → (p : ℕ) → 1 ≤ count p (processors m) → waitingFor m p ≡ []
+unfolding waitingFor
+settled-empty {m} {es} t p h =
+    let b = bare-cons m firstControl (pages (length es) (firstControl + 1)) (t .first .mail) (rows-bare _ es (t .rows)) p (rw (t .procs) at h) in
+    let e : (j : ℕ) → q1 ≤ j → j ≤ q2 → queue m (place p j) ≡ [] = λ j l u. walk-chain controlPages m link (place p j) [] (b j l u) (omega arith) in
+    rw (e q1 (omega arith) (omega arith), e q2 (omega arith) (omega arith))
 
 pub fresh-empty : (m : List ℕ) (line d : ℕ) → length m ≡ memorySize → startable line d ≡ true → (p : ℕ) → 1 ≤ count p (processors (memoryOf (fresh m line d)))
     → waitingFor (memoryOf (fresh m line d)) p ≡ []
-fresh-empty m line d l s p = rw (fresh-is m line d l s) (started-empty m line d l (args-of line d s) p)
+fresh-empty m line d l s = rw (fresh-is m line d l s) (settled-empty (fresh-settled m line d l (args-of line d s)))
+
+pub settings-empty : (m f : List ℕ) → length m ≡ memorySize → Small m → ofFile f ≡ Good → (p : ℕ) → 1 ≤ count p (processors (memoryOf (fromSettings m f)))
+    → waitingFor (memoryOf (fromSettings m f)) p ≡ []
+unfolding Answer.memoryOf
+settings-empty m f l s g = let t = from-settings m l s f g in rw (t .done) (settled-empty (t .settled))

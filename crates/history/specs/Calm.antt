@@ -2,33 +2,30 @@
 use mathlib.Core.Path.{_≡_, refl, sym, ap}
 use mathlib.Core.Logic.{_≢_, _⊎_, inl, inr}
 use mathlib.Core.Bool.{Bool, true, false}
-use mathlib.Core.List.{List, [], _∷_, _++_}
+use mathlib.Core.List.{List, _∷_, _++_}
 use Prim.Native.Nat.{ℕ, _+_, _-_, _*_, _≤_, _<_}
 use native.Mathlib.Omega.{arith}
 use lib.ListN.{getD, set}
 use lib.Dec.{ltb}
 use borrow.Author.Tests.{ltb-true, ltb-false}
 use Rattle.model.specs.Map as Map
-use Rattle.model.specs.Map.{flagsKept, freeList, freeSemaphore, grantFor, guardedLast, high, highLr, keeps, keptCount, label, link, listLink, lowLr}
+use Rattle.model.specs.Map.{flagsKept, freeList, grantFor, guardedLast, high, highLr, keeps, keptCount, label, link, listLink, lowLr}
 use Rattle.model.specs.Map.{lowered, memorySize, ownQueue, ownSemaphore, pageQueue, pageSize, place, processorList, q1, q2, reason, runningLabel}
 use Rattle.model.specs.Map.{runningPage, state, waitSet, wordA, zeroPlace}
-use Rattle.model.specs.Bytes.{running, store, word, wake, putToWait, takeFree, giveBack, whoRuns, setLr}
+use Rattle.model.specs.Bytes.{running, store, word, wake, putToWait, giveBack, whoRuns, setLr}
 use Rattle.model.specs.Wait as Wait
-use Rattle.model.specs.Page as Page
 use Rattle.model.specs.Processor as Processor
 use Rattle.model.specs.Lists.{count, Lists, uses, queues}
 use Rattle.laws.specs.Count.{hit-or, count-ne}
-use Rattle.laws.specs.Chain.{Page}
 use Rattle.laws.specs.Heads.{Seat, seat-of, sum-two, one-le}
 use Rattle.laws.specs.Heads.Seat.{line, page, own}
 use Rattle.laws.specs.Uses.{Head, Sep, proc-page}
-use Rattle.laws.specs.Places.{in-free, in-q, q-free, q-once, free-once, grant-low, wait-page}
+use Rattle.laws.specs.Places.{in-q, q-free, q-once, free-once, wait-page}
 use Rattle.laws.specs.Inv.{View, Mem, Base}
 use Rattle.laws.specs.Frames.{other, Only}
 use Rattle.laws.specs.Unmoved.{turn-frame, Unmoved}
 use Rattle.laws.specs.Stores.{sem-mem, state-mem, reason-mem}
-use Rattle.laws.specs.JoinLeave.{join-frame, leave-frame}
-use Rattle.laws.specs.Changes.{page-sem}
+use Rattle.laws.specs.JoinLeave.{join-frame}
 use Rattle.laws.specs.Wake.{seat-head, not-procs, wake-frame}
 use Rattle.laws.specs.Hands.{in-hand}
 use Rattle.laws.specs.Grants.{give-frame}
@@ -210,22 +207,6 @@ module _ {m : List ℕ} {ps : List ℕ} {L : Lists} {W : View} (s : Sep ps L) (x
         at = λ c i.
             join-frame s x3 (a + 1) (seat-head s a h) (λ d. not-procs s a h (sym d)) p pg new c (ours-seat s i a h .1) (λ z j. ours-wait s i a z h j)
             (ours-proc s i p link hp (omega arith) (omega arith) (omega arith) (omega arith) (omega arith));
-      })
-
-  -- the first free page
-  pub calm-take : (q : ℕ) (fs : List ℕ) → L freeList ≡ q ∷ fs → Same ps L m (takeFree m q)
-  unfolding Page.takeFree
-  calm-take q fs e =
-      let v = lowered (getD m freeSemaphore 0) in
-      let m1 = set m freeSemaphore v in
-      let x1 = sem-mem s x freeSemaphore v (page-sem ps) in
-      let c1 : Same ps L m m1 = calm-low s m freeSemaphore v (omega arith) (omega arith) in
-      same-on c1 (record {
-        at = λ c i.
-            leave-frame s x1 freeList (
-              in-free ps,
-              grant-low freeList (omega arith),
-            ) (omega arith) q [] fs e c (ours-low s i freeList (omega arith) (omega arith)) (λ z j. ours-free s i z j);
       })
 
 -- ---- a page given back

@@ -33,6 +33,8 @@ use Rattle.model.specs.Fault as Fault
 use Rattle.model.specs.Execute as Execute
 use Rattle.model.specs.Call as Call
 use Rattle.model.specs.Burst as Burst
+use Rattle.model.specs.Layout as Layout
+use Rattle.model.specs.Settings as Settings
 use Rattle.model.specs.Answer as Answer
 use Rattle.model.specs.Answer.{memoryOf}
 use Rattle.model.specs.Rule.{all}

@@ -9,22 +9,27 @@ use lib.ListN.{length}
 use lib.Dec.{eqb, leb}
 use borrow.Author.Tests.{leb-true, leb-false, le-leb}
 use Rattle.model.specs.Map.{memorySize}
+use Rattle.model.specs.declared.Fit.the-variants.{Good}
 use Rattle.model.specs.Fresh.{startable}
+use Rattle.model.specs.Layout.{isGood, ofFile}
 use Rattle.model.specs.Answer.{memoryOf}
 use Rattle.model.specs.Bytes.{fresh, processors, running}
+use Rattle.model.specs.Bytes.{fromSettings}
 use Rattle.model.specs.Lists.{count}
 use Rattle.laws.specs.Words.{Small}
+use Rattle.laws.specs.Fits.{good-is}
 use Rattle.laws.specs.Calls as Calls
 use Rattle.laws.specs.Calls.{Sound, Host, Act, after, Reached, reached-sound}
-use Rattle.laws.specs.Calls.Act.{fresh-start, instruct, signal, signals, set, read, judge-it}
+use Rattle.laws.specs.Calls.Act.{fresh-start, fresh-from, instruct, signal, signals, set, read, judge-it}
 use Rattle.history.specs.Order.{only, only-append}
 use Rattle.history.specs.Letter.{Letter, key, waitingFor}
 use Rattle.history.specs.Put.{Mailed, nothing, of, mailed}
 use Rattle.history.specs.Told.{Told, stands-none}
 use Rattle.history.specs.Whole.{instruction-lawful}
 use Rattle.history.specs.Traced.{Lawful, still-traced}
-use Rattle.history.specs.Others.{Passing, interrupt-passes, burst-passes, set-passes, read-passes, judge-passes, refused-passes, host-passes}
-use Rattle.history.specs.Begin.{fresh-empty}
+use Rattle.history.specs.Others.{Passing, interrupt-passes, burst-passes, set-passes, read-passes, judge-passes, refused-passes, unsettled-passes}
+use Rattle.history.specs.Others.{host-passes}
+use Rattle.history.specs.Begin.{fresh-empty, settings-empty}
 
 -- ---- a life: a processor is named by its page, and one page may hold one after the other; so a life is a page, and the call in which it began
 pub record Life : Type 0 where
@@ -74,6 +79,7 @@ grown m m′ e h = record {
 -- a call puts and reads nothing unless it is an instruction
 unfoldable pub mailBy : Act → List ℕ → Mailed
 mailBy (fresh-start line d) m = nothing
+mailBy (fresh-from f) m = nothing
 mailBy instruct m = mailed m
 mailBy (signal k c) m = nothing
 mailBy (signals l) m = nothing
@@ -84,6 +90,7 @@ mailBy judge-it m = nothing
 -- a fresh start that is not refused ends all lives
 unfoldable pub restarts : Act → Bool
 restarts (fresh-start line d) = startable line d
+restarts (fresh-from f) = isGood (ofFile f)
 restarts instruct = false
 restarts (signal k c) = false
 restarts (signals l) = false
@@ -94,20 +101,23 @@ restarts judge-it = false
 unfoldable pub later : Act → List ℕ → Past → Past
 later a m h = cond (restarts a) noneYet (grown m (after a m) (mailBy a m) h)
 
--- ---- a run: a fresh start of any memory of 8,192 words of 8 bits, then any calls, and changes by the host between them
+-- ---- a run: a fresh start of any memory of 8,192 words of 8 bits, from settings or not, then any calls, and changes by the host between them
 pub data Run : List ℕ → Past → Type 0 where
   start : (m : List ℕ) (line d : ℕ) → length m ≡ memorySize → Small m → startable line d ≡ true → Run (memoryOf (fresh m line d)) noneYet
+  settle : (m f : List ℕ) → length m ≡ memorySize → Small m → ofFile f ≡ Good → Run (memoryOf (fromSettings m f)) noneYet
   call : (m : List ℕ) (h : Past) (a : Act) → Run m h → Run (after a m) (later a m h)
   host : (m m′ : List ℕ) (h : Past) → Host m m′ → Run m h → Run m′ (grown m m′ nothing h)
 
 -- these are all the runs there are
 pub run-reached : (m : List ℕ) (h : Past) → Run m h → Reached m
 run-reached _ _ (start m line d l s e) = Calls.Reached.start m line d l s e
+run-reached _ _ (settle m f l s e) = Calls.Reached.settle m f l s e
 run-reached _ _ (call m h a r) = Calls.Reached.call m a (run-reached m h r)
 run-reached _ _ (host m m′ h k r) = Calls.Reached.host m m′ k (run-reached m h r)
 
 pub reached-run : (m : List ℕ) → Reached m → (h : Past) × Run m h
 reached-run _ (Calls.Reached.start m line d l s e) = (noneYet, start m line d l s e)
+reached-run _ (Calls.Reached.settle m f l s e) = (noneYet, settle m f l s e)
 reached-run _ (Calls.Reached.call m a r) = let t = reached-run m r in (later a m (t .0), call m (t .0) a (t .1))
 reached-run _ (Calls.Reached.host m m′ k r) = let t = reached-run m r in (grown m m′ nothing (t .0), host m m′ (t .0) k (t .1))
 
@@ -146,6 +156,7 @@ passing-lawful {m′ = m′} t = record { told = t .told; stands = stands-none m
 pub call-lawful : {m : List ℕ} → Sound m → (a : Act) → restarts a ≡ false → Lawful m (after a m) (mailBy a m)
 unfolding Calls.after mailBy restarts
 call-lawful k (fresh-start line d) e = passing-lawful (refused-passes k line d e)
+call-lawful k (fresh-from f) e = passing-lawful (unsettled-passes k f e)
 call-lawful k instruct e = instruction-lawful k
 call-lawful k (signal n c) e = passing-lawful (interrupt-passes k n c)
 call-lawful k (signals l) e = passing-lawful (burst-passes k l)
@@ -153,13 +164,13 @@ call-lawful k (set r) e = passing-lawful (set-passes k r)
 call-lawful k read e = passing-lawful (read-passes k)
 call-lawful k judge-it e = passing-lawful (judge-passes k)
 
--- ---- what a fresh start has, and each call and change by the host keeps, every run has
-module _ (P : List ℕ → Past → Type 0)
-    (begins : (m : List ℕ) (line d : ℕ) → length m ≡ memorySize → startable line d ≡ true → P (memoryOf (fresh m line d)) noneYet)
+-- ---- what every memory has where nothing waits for anybody, as after a fresh start, and each call and change by the host keeps, every run has
+module _ (P : List ℕ → Past → Type 0) (begins : (m : List ℕ) → ((p : ℕ) → Living m p → waitingFor m p ≡ []) → P m noneYet)
     (keeps : (m m′ : List ℕ) (e : Mailed) → Sound m → Lawful m m′ e → (h : Past) → P m h → P m′ (grown m m′ e h)) where
   restart-has : {m : List ℕ} → Sound m → (a : Act) → restarts a ≡ true → P (after a m) noneYet
   unfolding Calls.after restarts
-  restart-has {m} k (fresh-start line d) e = begins m line d (k .size) e
+  restart-has {m} k (fresh-start line d) e = begins (memoryOf (fresh m line d)) (fresh-empty m line d (k .size) e)
+  restart-has {m} k (fresh-from f) e = begins (memoryOf (fromSettings m f)) (settings-empty m f (k .size) (k .small) (good-is (ofFile f) e))
   restart-has k instruct e = let z : _≡_ {A = ℕ} 0 1 = cc in absurd (omega arith)
   restart-has k (signal n c) e = let z : _≡_ {A = ℕ} 0 1 = cc in absurd (omega arith)
   restart-has k (signals l) e = let z : _≡_ {A = ℕ} 0 1 = cc in absurd (omega arith)
@@ -176,7 +187,8 @@ module _ (P : List ℕ → Past → Type 0)
       go false e = rw e (keeps m (after a m) (mailBy a m) k (call-lawful k a e) h q)
 
   pub run-has : (m : List ℕ) (h : Past) → Run m h → P m h
-  run-has _ _ (start m line d l s e) = begins m line d l e
+  run-has _ _ (start m line d l s e) = begins (memoryOf (fresh m line d)) (fresh-empty m line d l e)
+  run-has _ _ (settle m f l s e) = begins (memoryOf (fromSettings m f)) (settings-empty m f l s e)
   run-has _ _ (call m h a r) = later-has (reached-sound m (run-reached m h r)) h (run-has m h r) a
   run-has _ _ (host m m′ h k r) =
       let s = reached-sound m (run-reached m h r) in keeps m m′ nothing s (passing-lawful (host-passes s k)) h (run-has m h r)
@@ -184,4 +196,4 @@ module _ (P : List ℕ → Past → Type 0)
 -- ---- the order of mail
 pub nothing-lost : (m : List ℕ) (h : Past) → Run m h → (p : ℕ) → 1 ≤ count p (processors m) → (s f : ℕ)
     → only (key s f) (h .read p ++ waitingFor m p) ≡ only (key s f) (h .put p)
-nothing-lost = run-has Kept (λ m line d l e p i s f. rw (fresh-empty m line d l e p i)) (λ m m′ e k t h q. grown-kept (t .told) h q)
+nothing-lost = run-has Kept (λ m e p i s f. rw (e p i)) (λ m m′ e k t h q. grown-kept (t .told) h q)

@@ -1,32 +1,27 @@
 -- Instructions: CRP puts and reads nothing; Q1 and Q2 of every processor stay, and the new one has nothing. Assumes nothing.
-use mathlib.Core.Path.{_≡_, refl, sym, ap, _∙_}
+use mathlib.Core.Path.{_≡_, refl, ap, _∙_}
 use mathlib.Core.Logic.{_≢_, _⊎_, inl, inr}
 use mathlib.Core.List.{List, [], _∷_, _++_, append-nil}
 use Prim.Native.Nat.{ℕ, _≤_, _<_}
 use native.Mathlib.Omega.{arith}
-use lib.ListN.{length, getD, set}
+use lib.ListN.{getD}
 use Rattle.model.specs.Map.{controlPages, label, lastName, lastPriority, link, listLink, place, processorList, q1, q2}
-use Rattle.model.specs.Bytes.{running, store, word, lists, processors, pageOf, queue, created, waitsForPage}
-use Rattle.model.specs.Operate as Operate
+use Rattle.model.specs.Bytes.{running, word, lists, processors, pageOf, queue, created, waitsForPage}
 use Rattle.model.specs.Answer.{memoryOf}
 use Rattle.model.specs.Bytes as Model
 use Rattle.model.specs.Lists.{count, Lists}
 use Rattle.laws.specs.Count.{hit-other, hit-or, count-append, count-mid}
-use Rattle.laws.specs.Chain.{Chain, last, join-is, chain-join, walk-chain, off-page, last-not}
-use Rattle.laws.specs.Queues.{link-procs}
-use Rattle.laws.specs.Heads.{one-le, short}
-use Rattle.laws.specs.Uses.{Sep, proc-page, list-short}
-use Rattle.laws.specs.Places.{in-procs, grant-low}
-use Rattle.laws.specs.Inv.{Base, View, noOne, view}
+use Rattle.laws.specs.Chain.{walk-chain}
+use Rattle.laws.specs.Uses.{Sep, proc-page}
+use Rattle.laws.specs.Inv.{Base, View, bearers, noOne, view}
 use Rattle.laws.specs.Judged.{WellFormed}
-use Rattle.laws.specs.Frames.{other}
-use Rattle.laws.specs.Hands.{in-hand, hand-base}
+use Rattle.laws.specs.Hands.{in-hand}
 use Rattle.laws.specs.Grants.{Takes, take-page}
 use Rattle.laws.specs.Grants.Takes.{gets, lacks}
 use Rattle.laws.specs.Ways.{Faults, crp-each, crp-page-each}
 use Rattle.laws.specs.Aside.{aside-hand, Aside}
 use Rattle.laws.specs.Who.{listed, Busy, busy}
-use Rattle.laws.specs.Create.{made, z, headed-is, only, below, created-base, nobody}
+use Rattle.laws.specs.Create.{made, only, below, created-base, created-word, nobody}
 use Rattle.history.specs.Letter.{Same, Posts, posts, posts-on, posts-then, agrees, waitingFor, label-same, waits-same, procs-same}
 use Rattle.history.specs.Letter.Mine.{page}
 use Rattle.history.specs.Put.{nothing}
@@ -38,12 +33,10 @@ use Rattle.history.specs.Quiet.{fault-lawful}
 use Rattle.history.specs.Taking.{calm-takes, page-waits}
 
 -- ---- page q in hand becomes a processor
-module _ {m : List ℕ} {ps : List ℕ} {L : Lists} {W : View} {hs : List ℕ} {g q : ℕ} (b : Base m ps L W (q ∷ hs) g) (n r v a : ℕ) where
+module _ {m : List ℕ} {ps : List ℕ} {L : Lists} {W : View} {hs : List ℕ} {g q : ℕ} (b : Base m ps L W (q ∷ hs) g) (n r v a : ℕ) (n1 : 1 ≤ n) (n2 : n ≤ lastName)
+    (r1 : 1 ≤ r) (r2 : r ≤ lastPriority) (free : bearers (W .label) ps n ≡ 0) where
   abbrev x : List ℕ
   x = made b n r v a
-
-  bx : (X : View) × Base x ps L X (q ∷ hs) g
-  bx = (_, hand-base q (in-hand b) (only b n r v a) b)
 
   sx : Sep ps L
   sx = b .facts .sep
@@ -51,30 +44,18 @@ module _ {m : List ℕ} {ps : List ℕ} {L : Lists} {W : View} {hs : List ℕ} {
   aside : Aside ps L q
   aside = aside-hand b q (in-hand b)
 
-  open Aside aside using (page as pg, out)
-
-  chain-x : Chain x listLink processorList ps
-  chain-x = rw (link-procs, sx .procs) at (bx .1 .mem .holds .rep processorList (in-procs ps, grant-low processorList (omega arith)))
-
-  short-x : length ps ≤ controlPages
-  short-x = rw (sx .procs) at (list-short sx processorList (in-procs ps))
+  open Aside aside using (page as pg)
 
   abbrev m2 : List ℕ
   m2 = created m q n r v a
 
-  created-is : created m q n r v a ≡ set (store x q listLink 0) (last listLink processorList ps) q
-  unfolding Operate.created
-  created-is = rw (headed-is b n r v a) (join-is x 1 processorList q ps chain-x short-x (omega (arith, pg)) (off-page q 1 1 ps (omega arith) (omega arith) out))
-
   -- a word that is neither 247, nor word 1 of q or of a processor
-  created-word : (c : ℕ) → c ≢ processorList → c ≢ place q listLink → ((z : ℕ) → 1 ≤ count z ps → c ≢ place z listLink) → getD m2 c 0 ≡ getD x c 0
-  created-word c n7 n1 nz =
-      rw created-is (other (store x q listLink 0) (last listLink processorList ps) q c (last-not listLink processorList ps c n7 nz)
-      ∙ other x (place q listLink) 0 c n1)
+  made-word : (c : ℕ) → c ≢ processorList → c ≢ place q listLink → ((z : ℕ) → 1 ≤ count z ps → c ≢ place z listLink) → getD m2 c 0 ≡ getD x c 0
+  made-word = created-word b n r v a n1 n2 r1 r2 free
 
   created-label : (p : ℕ) → 1 ≤ count p ps → word m2 p label ≡ word m p label
   created-label p h =
-      created-word (place p label) (omega (arith, proc-page sx p h)) (omega arith) (λ z i. omega arith)
+      made-word (place p label) (omega (arith, proc-page sx p h)) (omega arith) (λ z i. omega arith)
       ∙ label-same (calm-only sx m x q aside (only b n r v a)) p h
 
   created-posts : Posts ps L m m2
@@ -82,20 +63,13 @@ module _ {m : List ℕ} {ps : List ℕ} {L : Lists} {W : View} {hs : List ℕ} {
       posts-on (posts (calm-only sx m x q aside (only b n r v a))) (record {
         at = λ c h.
             let t = mine-high sx h in
-            created-word c (omega arith) (mine-hand sx h q listLink aside (omega arith))
+            made-word c (omega arith) (mine-hand sx h q listLink aside (omega arith))
             (λ z i. mine-proc sx h z listLink i (omega arith) (omega arith) (omega arith));
       })
 
-  created-procs : processors m2 ≡ ps ++ q ∷ []
-  created-procs =
-      rw created-is (walk-chain controlPages (set (store x q listLink 0) (last listLink processorList ps) q) listLink processorList (ps ++ q ∷ [])
-      (chain-join x 1 processorList q ps (bx .1 .mem .size) (omega arith) (omega arith) pg (omega (arith, pg)) (λ z i. let t = proc-page sx z i in omega arith)
-      (λ z. omega (arith, b .all z, one-le z, ap (count z) (sx .procs))) chain-x)
-      (short (ps ++ q ∷ []) (λ z. omega (arith, b .all z, count-append z ps (q ∷ []), ap (count z) (sx .procs)))))
-
   empty-queue : (k : ℕ) → q1 ≤ k → k ≤ q2 → queue m2 (place q k) ≡ []
   empty-queue k l u =
-      walk-chain controlPages m2 link (place q k) [] (created-word (place q k) (omega (arith, pg)) (omega arith) (λ z i. omega arith)
+      walk-chain controlPages m2 link (place q k) [] (made-word (place q k) (omega (arith, pg)) (omega arith) (λ z i. omega arith)
       ∙ below b n r v a k (omega arith))
       (omega arith)
 
@@ -119,38 +93,38 @@ module _ {m : List ℕ} (w : WellFormed m) (d : running m ≢ 0) where
       go (lacks e f2 g2) =
           crp-page-each m Ends e n r v a len (λ y. lawful-same b (memoryOf (waitsForPage m)) (page-waits w d f2 g2)) (λ y. absurd (y refl))
       go (gets q m1 e z t k) =
-          let c = created-base (t .base) n r v a n1 n2 r1 r2 (rw k (nobody b n free)) in
-          let s1 = calm-takes b (running m) hr q m1 e in
+          let fr : bearers (t .view .label) (lists m processorList) n ≡ 0 = rw k (nobody b n free) in
+          let c = created-base (t .base) n r v a n1 n2 r1 r2 fr in
+          let s1 = calm-takes b (running m) q m1 e in
           let ag = agrees b (posts s1) (t .base) in
           let m2 = created m1 q n r v a in
           let m3 = memoryOf (Model.done m2 len) in
-          let d2 : Same (c .procs) (c .lists) m2 (memoryOf (Model.done m2 len)) = calm-done (c .base .facts .sep) m2 (runs-in (c .base)) len in
-          let pr : processors (memoryOf (Model.done m2 len)) ≡ lists m processorList ++ q ∷ [] =
-          procs-same (c .base) d2 ∙ sym (listed (c .base)) ∙ created-procs (t .base) n r v a in
-          let pc : c .procs ≡ lists m processorList ++ q ∷ [] = sym (listed (c .base)) ∙ created-procs (t .base) n r v a in
+          let d2 : Same (lists m processorList ++ q ∷ []) (c .lists) m2 (memoryOf (Model.done m2 len)) =
+          calm-done (c .base .facts .sep) m2 (runs-in (c .base)) len in
+          let pr : processors (memoryOf (Model.done m2 len)) ≡ lists m processorList ++ q ∷ [] = procs-same (c .base) d2 in
           let lm : processors m ≡ lists m processorList = listed b in
-          let ps1 : Posts (lists m processorList) (lists m) m m2 = posts-then ag (posts s1) (created-posts (t .base) n r v a) in
-          let keep : (p : ℕ) → 1 ≤ count p (lists m processorList) → waitingFor (memoryOf (Model.done m2 len)) p ≡ waitingFor m p = λ p h.
-          waits-same (c .base) (posts d2) p (rw pc (omega (arith, count-append p (lists m processorList) (q ∷ [])))) ∙ waits-same b ps1 p h in
-          let qc : 1 ≤ count q (c .procs) = rw pc (count-mid q (lists m processorList) []) in
+          let ps1 : Posts (lists m processorList) (lists m) m m2 = posts-then ag (posts s1) (created-posts (t .base) n r v a n1 n2 r1 r2 fr) in
           let more : (y : ℕ) → 1 ≤ count y (lists m processorList) → 1 ≤ count y (lists m processorList ++ q ∷ []) = λ y h.
           omega (arith, count-append y (lists m processorList) (q ∷ [])) in
+          let keep : (p : ℕ) → 1 ≤ count p (lists m processorList) → waitingFor (memoryOf (Model.done m2 len)) p ≡ waitingFor m p = λ p h.
+          waits-same (c .base) (posts d2) p (more p h) ∙ waits-same b ps1 p h in
+          let qc : 1 ≤ count q (lists m processorList ++ q ∷ []) = count-mid q (lists m processorList) [] in
           crp-page-each m Ends e n r v a len (λ y. absurd (z y)) (λ y. record {
             told = record {
               at = λ p h i y f. rw (of-none p, keep p (rw lm at h), append-nil (waitingFor m p));
               keeps = λ p h i.
                   let j = rw lm at h in
-                  label-same d2 p (rw pc (more p j)) ∙ created-label (t .base) n r v a p j ∙ label-same s1 p j;
+                  label-same d2 p (more p j) ∙ created-label (t .base) n r v a n1 n2 r1 r2 fr p j ∙ label-same s1 p j;
               born = λ p h i.
                   let pq : p ≡ q = new p q (omega (arith, ap (count p) pr, count-append p (lists m processorList) (q ∷ []), ap (count p) lm)) in
-                  rw pq (waits-same (c .base) (posts d2) q qc ∙ created-empty (t .base) n r v a);
+                  rw pq (waits-same (c .base) (posts d2) q qc ∙ created-empty (t .base) n r v a n1 n2 r1 r2 fr);
             };
             stands = stands-none m3;
             -- by pages: those of the ones that lived stay, and the new one has none
             traced = record {
               pages = λ p w x h i u v j.
                   let l = rw lm at h in
-                  let a = posts-waited (c .base) (posts d2) p w x (rw pc (more p l)) u v j in
+                  let a = posts-waited (c .base) (posts d2) p w x (more p l) u v j in
                   let o = posts-waited b ps1 p (a .0 .head) x l (a .0 .low) (a .0 .high) (a .0 .here) in
                   unchanged (record {
                     head = o .0 .head;

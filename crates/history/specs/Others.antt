@@ -1,5 +1,5 @@
--- The other calls put and read nothing and move no message: an interrupt, a burst, setting and reading registers, the judge, a refused fresh start; nor does
--- the host. Assumes nothing.
+-- The other calls put and read nothing and move no message: an interrupt, a burst, setting and reading registers, the judge, a refused fresh start, from
+-- settings or not; nor does the host. Assumes nothing.
 use mathlib.Core.Path.{_≡_, refl, ap, _∙_}
 use mathlib.Core.Bool.{Bool, true, false}
 use mathlib.Core.List.{List, [], _++_, append-nil}
@@ -9,7 +9,7 @@ use lib.ListN.{length}
 use lib.Dec.{eqb}
 use borrow.Author.Tests.{eqb-false, eq-eqb}
 use Rattle.model.specs.Map.{memorySize, pageSize, processorList}
-use Rattle.model.specs.Bytes.{running, lists, fresh, interrupt, burst, readRegisters, setRegisters, judge, whoRuns, delivered, setRegistersOf}
+use Rattle.model.specs.Bytes.{running, lists, fresh, fromSettings, interrupt, burst, readRegisters, setRegisters, judge, whoRuns, delivered, setRegistersOf}
 use Rattle.model.specs.declared.Registers.{Registers}
 use Rattle.model.specs.Address.{guarded}
 use Rattle.model.specs.Answer as Answer
@@ -17,11 +17,12 @@ use Rattle.model.specs.Answer.{memoryOf}
 use Rattle.model.specs.Fresh.{startable}
 use Rattle.model.specs.Call as Call
 use Rattle.model.specs.Call.{isOuter, isClass}
+use Rattle.model.specs.Layout.{isGood, ofFile}
 use Rattle.model.specs.Processor.{inRange}
 use Rattle.laws.specs.Uses.{Sep, proc-page}
 use Rattle.laws.specs.Inv.{Base, noOne, view}
 use Rattle.laws.specs.Judged.{invariant}
-use Rattle.laws.specs.Calls.{Sound, well, Host, guarded-low, guarded-high, unrefused, interrupt-sound, read-same, judge-same}
+use Rattle.laws.specs.Calls.{Sound, well, Host, guarded-low, guarded-high, unrefused, unsettled-same, interrupt-sound, read-same, judge-same}
 use Rattle.laws.specs.Pairs.{outer-of}
 use Rattle.laws.specs.Bursts.{OneByOne, Comes, comes}
 use Rattle.laws.specs.Bursts.OneByOne.{none, one}
@@ -98,6 +99,9 @@ module _ {m : List ℕ} (h : Sound m) where
   pub refused-passes : (line d : ℕ) → startable line d ≡ false → Passing m (memoryOf (fresh m line d))
   unfolding Call.fresh Answer.memoryOf
   refused-passes line d e = rw (size-is, e) stays
+
+  pub unsettled-passes : (f : List ℕ) → isGood (ofFile f) ≡ false → Passing m (memoryOf (fromSettings m f))
+  unsettled-passes f e = rw (unsettled-same (h .size) f e) stays
 
   pub host-passes : {m′ : List ℕ} → Host m m′ → Passing m m′
   host-passes {m′} k = calm-passes m′ (record { at = λ c o. k .same c (high c o) (safe c o) })

@@ -15,7 +15,10 @@ use Rattle.model.specs.declared.Finding.the-variants.{Nothing, WrongLength, Bro
 use Rattle.model.specs.Map.{memorySize}
 use Rattle.model.specs.Address.{guarded, clear, wrapped}
 use Rattle.model.specs.Instruction.{firstWord, builtIn, lengthFor, shapeFor, smeCode, rmeCode, depCode, exiCode}
+use Rattle.model.specs.declared.Fit.the-variants.{Good}
 use Rattle.model.specs.Fresh.{startable}
+use Rattle.model.specs.Layout as Layout
+use Rattle.model.specs.Layout.{isGood, ofFile}
 use Rattle.model.specs.Answer as Answer
 use Rattle.model.specs.Call as Call
 use Rattle.model.specs.Bytes as Model
@@ -24,8 +27,8 @@ use Rattle.model.specs.Lists.{count}
 use Rattle.laws.specs.Words.{either}
 use Rattle.laws.specs.Sentences.{_and_}
 use Rattle.laws.specs.Calls as Calls
-use Rattle.laws.specs.Calls.{Sound, Host, Act, after}
-use Rattle.laws.specs.Calls.Act.{fresh-start}
+use Rattle.laws.specs.Calls.{Sound, Host, Act, after, unsettled-same}
+use Rattle.laws.specs.Calls.Act.{fresh-start, fresh-from}
 use Rattle.history.specs.Order.{only, only-nil, only-yes, only-no, only-append}
 use Rattle.history.specs.Letter.{Letter, key, waitingFor, and-true}
 use Rattle.history.specs.Put.{Mailed, nothing, found, of, smeMail, rmeMail, depMail, runMail, arguedMail, exiMail, fetchedMail, mailed, codeRun}
@@ -249,18 +252,26 @@ pub fresh-begins : (m : List ℕ) (h : Past) (line d : ℕ) → startable line d
 unfolding later restarts
 fresh-begins m h line d e = rw e
 
+pub settings-begin : (m : List ℕ) (h : Past) (f : List ℕ) → ofFile f ≡ Good → later (fresh-from f) m h ≡ noneYet
+unfolding later restarts Layout.isGood
+settings-begin m h f e = rw e
+
 -- one that is refused keeps the old one
-fresh-refused : {m : List ℕ} → Sound m → (line d : ℕ) → startable line d ≡ false → after (fresh-start line d) m ≡ m
-unfolding Calls.after Call.fresh Answer.memoryOf
-fresh-refused {m} k line d e = rw (eq-eqb (length m) memorySize (k .size), e)
+idle-keeps : (a : Act) (m : List ℕ) → restarts a ≡ false → after a m ≡ m → mailBy a m ≡ nothing → (h : Past) (p : ℕ) → 1 ≤ count p (processors m)
+    → (later a m h .put p ≡ h .put p) × (later a m h .read p ≡ h .read p)
+idle-keeps a m e same none h p i =
+    let t = rw none at (past-grows a m h e p i (rw same i)) in
+    (t .0 ∙ rw (of-none p) (append-nil (h .put p)), t .1 ∙ rw (of-none p) (append-nil (h .read p)))
 
 pub refused-keeps : {m : List ℕ} → Sound m → (h : Past) (line d : ℕ) → startable line d ≡ false → (p : ℕ) → 1 ≤ count p (processors m)
     → (later (fresh-start line d) m h .put p ≡ h .put p) × (later (fresh-start line d) m h .read p ≡ h .read p)
-unfolding mailBy restarts
-refused-keeps {m} k h line d e p i =
-    let same : after (fresh-start line d) m ≡ m = fresh-refused k line d e in
-    let t = past-grows (fresh-start line d) m h e p i (rw same i) in
-    (t .0 ∙ rw (of-none p) (append-nil (h .put p)), t .1 ∙ rw (of-none p) (append-nil (h .read p)))
+unfolding mailBy restarts Calls.after Call.fresh Answer.memoryOf
+refused-keeps {m} k h line d e = idle-keeps (fresh-start line d) m e (rw (eq-eqb (length m) memorySize (k .size), e)) refl h
+
+pub unsettled-keeps : {m : List ℕ} → Sound m → (h : Past) (f : List ℕ) → isGood (ofFile f) ≡ false → (p : ℕ) → 1 ≤ count p (processors m)
+    → (later (fresh-from f) m h .put p ≡ h .put p) × (later (fresh-from f) m h .read p ≡ h .read p)
+unfolding mailBy restarts Calls.after
+unsettled-keeps {m} k h f e = idle-keeps (fresh-from f) m e (unsettled-same (k .size) f e) refl h
 
 -- a life keeps its name
 pub name-stays : {m : List ℕ} → Sound m → (a : Act) → restarts a ≡ false → (p : ℕ) → 1 ≤ count p (processors m) → 1 ≤ count p (processors (after a m))

@@ -9,10 +9,8 @@ use native.Mathlib.Omega.{arith}
 use lib.ListN.{length, length-append, length-map}
 use lib.Dec.{eqb}
 use borrow.Author.Tests.{eqb-true, eqb-false, eq-eqb, ne-eqb, le-leb, ltb-true, ltb-false}
-use Rattle.model.specs.Map.{isUnmarked, lower, mark, memorySize, notice, place, processorList, q1, q2, size, upper}
-use Rattle.model.specs.Fresh.{startable}
-use Rattle.model.specs.Answer.{memoryOf}
-use Rattle.model.specs.Bytes.{fresh, isNotice, lists, name, processors, queue, running, sender, unmarked, word}
+use Rattle.model.specs.Map.{isUnmarked, lower, mark, notice, place, processorList, q1, q2, size, upper}
+use Rattle.model.specs.Bytes.{isNotice, lists, name, processors, queue, running, sender, unmarked, word}
 use Rattle.model.specs.Lists.{count}
 use Rattle.laws.specs.Count.{count-append, hit-or, zero-or}
 use Rattle.laws.specs.Inv.{Base, noOne, view}
@@ -26,7 +24,6 @@ use Rattle.history.specs.Put.{Mailed, mailed, of, onlyNotices}
 use Rattle.history.specs.Traced.{About, Each, Lawful, Origin, Turned, each-append, each-as}
 use Rattle.history.specs.Traced.About.{own, back}
 use Rattle.history.specs.Traced.Origin.{unchanged, newly-marked, sent, notified}
-use Rattle.history.specs.Begin.{fresh-empty}
 use Rattle.history.specs.Whole.{instruction-lawful}
 use Rattle.history.specs.Lives.{Life, Living, Past, Run, grown, later, life, lives, mailBy, noneYet, restarts}
 use Rattle.history.specs.Lives.{run-has, run-reached, sentBy}
@@ -237,10 +234,10 @@ module _ {m m′ : List ℕ} {e : Mailed} (t : Lawful m m′ e) (one : OneEach m
   senders-on = record { began = began-on; mail = mail; own = own-on }
 
 -- ---- the run
-senders-start : (m : List ℕ) (line d : ℕ) → length m ≡ memorySize → startable line d ≡ true → Senders (memoryOf (fresh m line d)) noneYet
-senders-start m line d l e = record {
+senders-start : (m : List ℕ) → ((p : ℕ) → Living m p → waitingFor m p ≡ []) → Senders m noneYet
+senders-start m e = record {
   began = λ p i. omega arith;
-  mail = λ p w x i c n. absurd (none-waits (memoryOf (fresh m line d)) p w x (fresh-empty m line d l e p i) c);
+  mail = λ p w x i c n. absurd (none-waits m p w x (e p i) c);
   own = λ p i. tt;
 }
 
@@ -299,7 +296,7 @@ module _ (a : Act) (m : List ℕ) (h : Past) (e : restarts a ≡ false) where
 pub notices-counted : (m : List ℕ) (h : Past) → Run m h → (p : ℕ) → Living m p → length (h .noticed p) ≡ length (onlyNotices (h .put p))
 notices-counted =
     run-has (λ m h. (p : ℕ) → Living m p → length (h .noticed p) ≡ length (onlyNotices (h .put p)))
-    (λ m line d l e p i. rw (only-nil (λ (x : Letter). x .notice)))
+    (λ m e p i. rw (only-nil (λ (x : Letter). x .notice)))
     (λ m m′ e k t h q p i. go m m′ e h p i (counted m′ e p (t .traced .turned p i)) (q p) (zero-or (count p (processors m))))
   where
     counted : (m′ : List ℕ) (e : Mailed) (p : ℕ) → Turned m′ p (of p (e .about)) (onlyNotices (of p (e .puts)))

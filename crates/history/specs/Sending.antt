@@ -242,7 +242,7 @@ module _ {m : List ℕ} (w : WellFormed m) (d : running m ≢ 0) where
   module _ (q : ℕ) (m1 : List ℕ) (e : takePage m r ≡ took q m1) (t : Gave m1 (lists m processorList) (q ∷ []) 32 (view m))
       (k : t .view .label ≡ view m .label) where
     s1 : Same (lists m processorList) (lists m) m m1
-    s1 = calm-takes b r hr q m1 e
+    s1 = calm-takes b r q m1 e
 
     run1 : running m1 ≡ running m
     run1 = running-same b t
@@ -279,7 +279,7 @@ module _ {m : List ℕ} (w : WellFormed m) (d : running m ≢ 0) where
         let o = message-only (t .base) f a l l2 in
         let lt = message-letter (t .base) f a l l2 f1 f2 named in
         let op : (i : ℕ) → i < l → Open (wrapped a i) = λ i h. clear-open (wrapped a i) (clear-at l a c i h) in
-        let tx : words m1 a l ≡ words m a l = words-moved m m1 a a l la la (λ i h. takes-word b r hr q m1 e (wrapped a i) (op i h)) in
+        let tx : words m1 a l ≡ words m a l = words-moved m m1 a a l la la (λ i h. takes-word b r q m1 e (wrapped a i) (op i h)) in
         let lb : word m1 (running m1) label ≡ word m (running m) label =
         label1 (running m1) in1 ∙ ap (λ (z : ℕ). word m z label) run1 in
         let wm = written-mail (t .base) f a l f2 l2 la (λ i h. op i h .below) in

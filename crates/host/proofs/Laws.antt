@@ -9,13 +9,15 @@ use Rattle.model.specs.declared.Held.{Held}
 use Rattle.model.specs.declared.Held.the-variants as Held
 use Rattle.model.specs.declared.Verdict.{Verdict}
 use Rattle.model.specs.declared.Verdict.the-variants as Verdict
+use Rattle.model.specs.declared.Writing.{Writing}
+use Rattle.model.specs.declared.Writing.the-variants as Writing
 use Rattle.model.specs.Answer as Answer
-use Rattle.model.specs.Answer.{Outcome, answerOf, memoryOf, doneNumber, waitsNumber, handedOutNumber}
+use Rattle.model.specs.Answer.{Outcome, answerOf, memoryOf, doneNumber, waitsNumber, handedOutNumber, writtenNumber}
 use Rattle.model.specs.Answer.Outcome.{gives}
 use Rattle.model.specs.Bytes.{Memory}
 use Rattle.host.specs.Encoded as Encoded
-use Rattle.host.specs.Encoded.{encoded, encodedHeld, encodedVerdict, lowPart, packed, handed-sum, fault-sum, refused-sum, held-sum, held-refused-sum}
-use Rattle.host.specs.Encoded.{verdict-refused-sum, refused-at-sum, held-refused-at-sum, verdict-refused-at-sum}
+use Rattle.host.specs.Encoded.{encoded, encodedHeld, encodedVerdict, encodedWriting, lowPart, packed, handed-sum, fault-sum, refused-sum, held-sum, held-refused-sum}
+use Rattle.host.specs.Encoded.{verdict-refused-sum, refused-at-sum, held-refused-at-sum, verdict-refused-at-sum, writing-refused-sum, writing-refused-at-sum}
 
 module _ {A : Type 0} (code : A → ℕ) where
   answers : (o : Outcome A Memory) (a : A) (m : Memory) (r : ℕ) → gives a m ≡ o → r ≡ code a → r ≡ code (answerOf o)
@@ -25,9 +27,12 @@ module _ {A : Type 0} (code : A → ℕ) where
 pub step-encoded : (o : Outcome Answer Memory) (a : Answer) (m : Memory) (r : ℕ) → gives a m ≡ o → r ≡ encoded a → r ≡ encoded (answerOf o)
 step-encoded = answers encoded
 
-pub step-leaves : (o : Outcome Answer Memory) (a : Answer) (m : Memory) → gives a m ≡ o → m ≡ memoryOf o
+leaves : {A : Type 0} (o : Outcome A Memory) (a : A) (m : Memory) → gives a m ≡ o → m ≡ memoryOf o
 unfolding Answer.memoryOf
-step-leaves o a m g = ap (λ (x : Outcome Answer Memory). memoryOf x) g
+leaves {A} o a m g = ap (λ (x : Outcome A Memory). memoryOf x) g
+
+pub step-leaves : (o : Outcome Answer Memory) (a : Answer) (m : Memory) → gives a m ≡ o → m ≡ memoryOf o
+step-leaves = leaves
 
 pub held-encoded : (o : Outcome Held Memory) (a : Held) (m : Memory) (r : ℕ) → gives a m ≡ o → r ≡ encodedHeld a → r ≡ encodedHeld (answerOf o)
 held-encoded = answers encodedHeld
@@ -35,7 +40,13 @@ held-encoded = answers encodedHeld
 pub verdict-encoded : (o : Outcome Verdict Memory) (a : Verdict) (m : Memory) (r : ℕ) → gives a m ≡ o → r ≡ encodedVerdict a → r ≡ encodedVerdict (answerOf o)
 verdict-encoded = answers encodedVerdict
 
-pub ruleset encodings = (step-encoded, step-leaves, held-encoded, verdict-encoded)
+pub writing-encoded : (o : Outcome Writing Memory) (a : Writing) (m : Memory) (r : ℕ) → gives a m ≡ o → r ≡ encodedWriting a → r ≡ encodedWriting (answerOf o)
+writing-encoded = answers encodedWriting
+
+pub writing-leaves : (o : Outcome Writing Memory) (a : Writing) (m : Memory) → gives a m ≡ o → m ≡ memoryOf o
+writing-leaves = leaves
+
+pub ruleset encodings = (step-encoded, step-leaves, held-encoded, verdict-encoded, writing-encoded, writing-leaves)
 
 -- ---- registers, from their values widened
 pub low-is : (r : Registers) (a s p z c : ℕ) → a ≡ r .a → s ≡ r .s → p ≡ r .p → z ≡ r .z → c ≡ r .ci
@@ -93,6 +104,16 @@ verdict-refused-code v k x e ex = rw (e, ex, verdict-refused-sum k)
 pub verdict-refused-at-code : (v : Verdict) (k b x y : ℕ) → v ≡ Verdict.RefusedAt k b → x ≡ k → y ≡ b → x + y * 256 ≡ encodedVerdict v
 verdict-refused-at-code v k b x y e ex ey = rw (e, ex, ey, verdict-refused-at-sum k b)
 
+pub written-code : (w : Writing) (n : ℕ) → w ≡ Writing.Written n → writtenNumber ≡ encodedWriting w
+unfolding Encoded.encodedWriting
+written-code w n e = rw e
+
+pub writing-refused-code : (w : Writing) (k x : ℕ) → w ≡ Writing.Refused k → x ≡ k → x ≡ encodedWriting w
+writing-refused-code w k x e ex = rw (e, ex, writing-refused-sum k)
+
+pub writing-refused-at-code : (w : Writing) (k v x y : ℕ) → w ≡ Writing.RefusedAt k v → x ≡ k → y ≡ v → x + y * 256 ≡ encodedWriting w
+writing-refused-at-code w k v x y e ex ey = rw (e, ex, ey, writing-refused-at-sum k v)
+
 pub ruleset coding = (
   done-code,
   waits-code,
@@ -106,4 +127,7 @@ pub ruleset coding = (
   well-formed-code,
   verdict-refused-code,
   verdict-refused-at-code,
+  written-code,
+  writing-refused-code,
+  writing-refused-at-code,
 )

@@ -12,10 +12,12 @@ use Rattle.model.specs.declared.Held.{Held}
 use Rattle.model.specs.declared.Held.the-variants as Held
 use Rattle.model.specs.declared.Verdict.{Verdict}
 use Rattle.model.specs.declared.Verdict.the-variants as Verdict
+use Rattle.model.specs.declared.Writing.{Writing}
+use Rattle.model.specs.declared.Writing.the-variants as Writing
 use Rattle.model.specs.Map.{place, wordA, wordS, highLr, lowLr}
 use Rattle.model.specs.Processor as Processor
 use Rattle.model.specs.Answer as Answer
-use Rattle.model.specs.Answer.{numbers, heldNumbers, verdictNumbers, doneNumber, handedOutNumber}
+use Rattle.model.specs.Answer.{numbers, heldNumbers, verdictNumbers, doneNumber, handedOutNumber, writtenNumber}
 use Rattle.model.specs.Bytes.{registersOf}
 
 unfoldable pub weighed : List ℕ → List ℕ → ℕ
@@ -32,6 +34,12 @@ encoded a = weighed answerBits (numbers a)
 
 unfoldable pub encodedVerdict : Verdict → ℕ
 encodedVerdict v = weighed answerBits (verdictNumbers v)
+
+-- of settings written the number only: the new length need not fit, and who lent the buffer can tell it
+unfoldable pub encodedWriting : Writing → ℕ
+encodedWriting (Writing.Written n) = writtenNumber
+encodedWriting (Writing.Refused k) = weighed answerBits (k ∷ [])
+encodedWriting (Writing.RefusedAt k v) = weighed answerBits (k ∷ v ∷ [])
 
 -- ---- registers: A from bit 8 on, S 16, P 24, Z 25, CI 26, LR 27, W 40
 abbrev pub registerBits : List ℕ
@@ -87,11 +95,19 @@ pub verdict-refused-at-sum : (k a : ℕ) → encodedVerdict (Verdict.RefusedAt k
 unfolding encodedVerdict weighed Answer.verdictNumbers
 verdict-refused-at-sum k a = omega arith
 
+pub writing-refused-sum : (k : ℕ) → encodedWriting (Writing.Refused k) ≡ k
+unfolding encodedWriting weighed
+writing-refused-sum k = omega arith
+
+pub writing-refused-at-sum : (k v : ℕ) → encodedWriting (Writing.RefusedAt k v) ≡ k + v * 256
+unfolding encodedWriting weighed
+writing-refused-at-sum k v = omega arith
+
 -- ---- read off again: the numbers of a fault, of a refusal with its address, and of an own code
 pub fault-read : (f n : ℕ) → f < 256 → n < 65536 → (encoded (Fault f n) % 256 ≡ f) × (encoded (Fault f n) / 256 % 65536 ≡ n)
 fault-read f n u v = rw (fault-sum f n) (omega arith, omega arith)
 
--- the same of all three kinds of answer
+-- the same of all four kinds of answer
 pub refused-at-read : (k a : ℕ) → k < 256 → a < 65536 → (encoded (RefusedAt k a) % 256 ≡ k) × (encoded (RefusedAt k a) / 256 % 65536 ≡ a)
 refused-at-read k a u v = rw (refused-at-sum k a) (omega arith, omega arith)
 
@@ -102,6 +118,10 @@ held-refused-at-read k a u v = rw (held-refused-at-sum k a) (omega arith, omega 
 pub verdict-refused-at-read : (k a : ℕ) → k < 256 → a < 65536
     → (encodedVerdict (Verdict.RefusedAt k a) % 256 ≡ k) × (encodedVerdict (Verdict.RefusedAt k a) / 256 % 65536 ≡ a)
 verdict-refused-at-read k a u v = rw (verdict-refused-at-sum k a) (omega arith, omega arith)
+
+pub writing-refused-at-read : (k v : ℕ) → k < 256 → v < 65536
+    → (encodedWriting (Writing.RefusedAt k v) % 256 ≡ k) × (encodedWriting (Writing.RefusedAt k v) / 256 % 65536 ≡ v)
+writing-refused-at-read k v u w = rw (writing-refused-at-sum k v) (omega arith, omega arith)
 
 pub handed-read : (p a : ℕ) → p < 65536 → a < 65536
     → (encoded (HandedOut p a) % 256 ≡ handedOutNumber) × (encoded (HandedOut p a) / 256 % 65536 ≡ p) × (encoded (HandedOut p a) / 16777216 % 65536 ≡ a)

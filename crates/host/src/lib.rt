@@ -1,20 +1,24 @@
 // The public calls for hosts in C: each takes the memory as a pointer with a length, and answers with one number (specs/Encoded.antt, include/wik.h).
 use kernel::burst;
 use kernel::fresh;
+use kernel::fresh_from_settings;
 use kernel::instruction;
 use kernel::interrupt;
 use kernel::judge;
 use kernel::read_registers;
 use kernel::set_registers;
+use kernel::write_settings;
 use model::Answer;
 use model::Held;
 use model::Registers;
 use model::Verdict;
+use model::Writing;
 ghost use mathlib.Core.Path.{_≡_};
 ghost use Prim.Native.Nat.{_<_};
 ghost use Rattle.model.specs.Answer.{answerOf, memoryOf};
 ghost use Rattle.model.specs.Bytes as Model;
-ghost use Rattle.host.specs.Encoded.{encoded, encodedHeld, encodedVerdict, lowPart, packed, setTo};
+ghost use Rattle.model.specs.Settings as Settings;
+ghost use Rattle.host.specs.Encoded.{encoded, encodedHeld, encodedVerdict, encodedWriting, lowPart, packed, setTo};
 
 fn byte(x: u8) -> u64
     ensures { λ r. ⌜ (r ≡ x) × (r < 256) ⌝ }
@@ -79,12 +83,39 @@ fn encode_verdict(v: Verdict) -> u64
     }
 }
 
+// The new length is left out: it need not fit.
+fn encode_writing(w: Writing) -> u64
+    ensures { λ r. ⌜ r ≡ encodedWriting w ⌝ }
+{
+    match w {
+        Writing::Written(_) => 62,
+        Writing::Refused(k) => byte(k),
+        Writing::RefusedAt(k, v) => byte(k) + wide(v) * 256,
+    }
+}
+
 #[no_mangle]
 pub extern "C" fn wik_fresh(memory: &mut [u8], line: u16, divider: u16) -> u64
     ensures { λ r. ⌜ r ≡ encoded (answerOf (Model.fresh (now (memory .entry)) line divider)) ⌝ }
     ensures { λ _. ⌜ now (memory .exit) ≡ memoryOf (Model.fresh (now (memory .entry)) line divider) ⌝ }
 {
     encode(fresh(memory, line, divider))
+}
+
+#[no_mangle]
+pub extern "C" fn wik_fresh_from_settings(memory: &mut [u8], file: &[u8]) -> u64
+    ensures { λ r. ⌜ r ≡ encoded (answerOf (Model.fromSettings (now (memory .entry)) (now (file .entry)))) ⌝ }
+    ensures { λ _. ⌜ now (memory .exit) ≡ memoryOf (Model.fromSettings (now (memory .entry)) (now (file .entry))) ⌝ }
+{
+    encode(fresh_from_settings(memory, file))
+}
+
+#[no_mangle]
+pub extern "C" fn wik_write_settings(file: &mut [u8], used: usize, block: &[u8]) -> u64
+    ensures { λ r. ⌜ r ≡ encodedWriting (answerOf (Settings.writeSettings (now (file .entry)) used (now (block .entry)))) ⌝ }
+    ensures { λ _. ⌜ now (file .exit) ≡ memoryOf (Settings.writeSettings (now (file .entry)) used (now (block .entry))) ⌝ }
+{
+    encode_writing(write_settings(file, used, block))
 }
 
 #[no_mangle]

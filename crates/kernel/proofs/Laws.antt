@@ -1,5 +1,5 @@
 -- What is found of a memory, the head of a call, what a call comes to behind its refusals, and that a call allows one outcome only.
-use Prim.Native.Nat.{ℕ}
+use Prim.Native.Nat.{ℕ, _≤_}
 use mathlib.Core.Path.{_≡_, refl, sym, ap, _∙_}
 use mathlib.Core.List.{List}
 use mathlib.Core.Bool.{Bool, true, false, cond}
@@ -9,21 +9,29 @@ use borrow.Author.Tests.{eqb-true, eq-eqb, ne-eqb}
 use native.Mathlib.Omega.{arith}
 use Rattle.model.specs.declared.Answer.{Answer}
 use Rattle.model.specs.declared.Answer.the-variants.{Done}
+use Rattle.model.specs.declared.Answer.the-variants as Answer
 use Rattle.model.specs.declared.Held.{Held}
 use Rattle.model.specs.declared.Verdict.{Verdict}
 use Rattle.model.specs.declared.Registers.{Registers}
 use Rattle.model.specs.declared.Finding.{Finding}
 use Rattle.model.specs.declared.Finding.the-variants.{Nothing, WrongLength, Broken}
 use Rattle.model.specs.declared.Held.the-variants as Held
+use Rattle.model.specs.declared.Fit.{Fit}
+use Rattle.model.specs.declared.Fit.the-variants.{Good, Refused, RefusedAt}
+use Rattle.model.specs.declared.Writing.{Writing}
 use Rattle.model.specs.Map.{memorySize, low}
-use Rattle.model.specs.Answer.{Outcome, wrongLength, numbers, heldNumbers, verdictNumbers}
+use Rattle.model.specs.Answer.{Outcome, wrongLength, numbers, heldNumbers, verdictNumbers, writingNumbers}
 use Rattle.model.specs.Answer.Outcome.{gives}
 use Rattle.model.specs.Fresh.{startable}
 use Rattle.model.specs.Call as Call
+use Rattle.model.specs.Layout as Layout
+use Rattle.model.specs.Layout.{isGood, newest, ofBlock, ofFile}
+use Rattle.model.specs.Settings as Settings
 use Rattle.laws.specs.Calls.{args-of}
+use Rattle.laws.specs.Fits.{block-of, ends-of, laid-least}
 use Rattle.kernel.specs.Spoken as Spoken
 use Rattle.kernel.specs.Spoken.{spoken}
-use Rattle.model.specs.Bytes.{Memory, Step, finding, toldOf, head, running, lr, registersOf, setRegistersOf, fetched, started}
+use Rattle.model.specs.Bytes.{Memory, Step, finding, toldOf, head, running, lr, registersOf, setRegistersOf, fetched, started, settled, fromSettings}
 
 -- ---- what is found: of the length, then what is told
 pub found-short : (m : Memory) → (length m ≡ memorySize → ⊥) → WrongLength ≡ finding m
@@ -82,6 +90,40 @@ module _ (m : Memory) where
     pub registers-set : (m₁ : Memory) → m₁ ≡ setRegistersOf m p r → gives Done m₁ ≡ gives Done (setRegistersOf m (running m) r)
     registers-set m₁ e₁ = rw (← ep, ← e₁)
 
+-- ---- a fresh start from settings: o is the verdict of the file f
+module _ (f : List ℕ) (o : Fit) (eo : o ≡ ofFile f) where
+  pub file-good : o ≡ Good → isGood (ofFile f) ≡ true
+  unfolding Layout.isGood
+  file-good z = rw (← eo, z)
+
+  -- b is its newest block
+  module _ (z : o ≡ Good) (b : List ℕ) (eb : b ≡ newest f) where
+    pub newest-good : isGood (ofBlock b) ≡ true
+    unfolding Layout.isGood
+    newest-good = rw (eb, ends-of f (sym eo ∙ z) .block)
+
+    pub newest-least : 4 ≤ length b
+    newest-least = laid-least b (block-of b (rw eb (ends-of f (sym eo ∙ z) .block)) .laid)
+
+  module _ (m : Memory) (l : length m ≡ memorySize) where
+    pub settings-done : (m₁ : Memory) (b : List ℕ) → o ≡ Good → b ≡ newest f → m₁ ≡ settled m b → gives Done m₁ ≡ fromSettings m f
+    unfolding Settings.fromSettings
+    settings-done m₁ b z eb e₁ = rw (eq-eqb (length m) memorySize l, ← eo, z, ← eb, ← e₁)
+
+    pub settings-refused : (k : ℕ) → o ≡ Refused k → gives (Answer.Refused k) m ≡ fromSettings m f
+    unfolding Settings.fromSettings
+    settings-refused k z = rw (eq-eqb (length m) memorySize l, ← eo, z)
+
+    pub settings-at : (k v : ℕ) → o ≡ RefusedAt k v → gives (Answer.RefusedAt k v) m ≡ fromSettings m f
+    unfolding Settings.fromSettings
+    settings-at k v z = rw (eq-eqb (length m) memorySize l, ← eo, z)
+
+pub settings-short : (m : Memory) (f : List ℕ) → (length m ≡ memorySize → ⊥) → gives (Answer.Refused wrongLength) m ≡ fromSettings m f
+unfolding Settings.fromSettings
+settings-short m f d = rw (ne-eqb (length m) memorySize d)
+
+pub ruleset settlements = (file-good, newest-good, newest-least, settings-done, settings-refused, settings-at, settings-short)
+
 -- ---- two outcomes that one statement allows are equal, in answer and in memory: of each call, f being its outcome
 pub one-outcome : {A : Type 0} (a b : A) (m n : Memory) (f : Outcome A Memory) → gives a m ≡ f → gives b n ≡ f → (a ≡ b) × (m ≡ n)
 one-outcome a b m n f p q = let e : gives a m ≡ gives b n = p ∙ sym q in (cc, cc)
@@ -100,6 +142,9 @@ said-held = by-numbers heldNumbers
 pub said-verdict : (a : Verdict) (m : Memory) (o : Outcome Verdict Memory) → gives a m ≡ o → gives (verdictNumbers a) m ≡ spoken verdictNumbers o
 said-verdict = by-numbers verdictNumbers
 
-pub ruleset sayings = (said, said-held, said-verdict)
+pub said-writing : (a : Writing) (l : List ℕ) (o : Outcome Writing (List ℕ)) → gives a l ≡ o → gives (writingNumbers a) l ≡ spoken writingNumbers o
+said-writing = by-numbers writingNumbers
+
+pub ruleset sayings = (said, said-held, said-verdict, said-writing)
 
 pub ruleset calls = (started-is, fetched-is, registers-are, registers-set)

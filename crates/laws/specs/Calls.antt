@@ -6,33 +6,41 @@ use mathlib.Core.List.{List, [], _∷_}
 use Prim.Native.Nat.{ℕ, _+_, _≤_, _<_}
 use native.Mathlib.Omega.{arith}
 use lib.ListN.{length, getD}
-use lib.Dec.{eqb, ltb}
-use borrow.Author.Tests.{eqb-false, eq-eqb, ltb-false, lt-ltb, le-ltb, le-leb}
+use lib.Dec.{eqb}
+use borrow.Author.Tests.{eqb-false, eq-eqb, lt-ltb, le-ltb, le-leb}
 use Rattle.model.specs.Map as Map
-use Rattle.model.specs.Map.{aWord, firstOuter, guardedEnd, guardedFrom, guardedLast, guardedTo, lastLine, memorySize, pageSize}
+use Rattle.model.specs.Map.{guardedEnd, guardedFrom, guardedLast, guardedTo, memorySize, pageSize}
 use Rattle.model.specs.Map.{place}
-use Rattle.model.specs.Bytes.{running, fresh, instruction, interrupt, burst, readRegisters, setRegisters, judge, judged, lr, whoRuns, delivered, arrived}
+use Rattle.model.specs.Bytes.{running, fresh, fromSettings, instruction, interrupt, burst, readRegisters, setRegisters, judge, judged, lr, whoRuns}
+use Rattle.model.specs.Bytes.{delivered, arrived}
 use Rattle.model.specs.declared.Registers.{Registers}
 use Rattle.model.specs.declared.Finding.the-variants.{Nothing}
 use Rattle.model.specs.declared.Checked.{Checked}
 use Rattle.model.specs.declared.Checked.the-variants.{Good, Bad}
+use Rattle.model.specs.declared.Fit.{Fit}
+use Rattle.model.specs.declared.Fit.the-variants as Fit
 use Rattle.model.specs.Address as Address
 use Rattle.model.specs.Address.{guarded}
 use Rattle.model.specs.Answer as Answer
 use Rattle.model.specs.Answer.{memoryOf}
-use Rattle.model.specs.Fresh as Fresh
 use Rattle.model.specs.Fresh.{startable}
 use Rattle.model.specs.Call as Call
 use Rattle.model.specs.Call.{isOuter, isClass}
 use Rattle.model.specs.Burst as Burst
 use Rattle.model.specs.Burst.{isList, tested}
+use Rattle.model.specs.Layout as Layout
+use Rattle.model.specs.Layout.{isGood, ofFile}
+use Rattle.model.specs.Settings as Settings
 use Rattle.model.specs.Processor.{inRange}
 use Rattle.model.specs.Bytes as Model
 use Rattle.laws.specs.Judged.{WellFormed}
 use Rattle.laws.specs.Findings.{well-found}
 use Rattle.laws.specs.Frames.{Kept, kept-keeps}
-use Rattle.laws.specs.Start.{Args, started-well}
+pub use Rattle.laws.specs.Start.{args-of}
+use Rattle.laws.specs.Start.{started-well}
 use Rattle.laws.specs.Words.{Small, small-started, small-delivered, small-turn, small-registers}
+use Rattle.laws.specs.Fits.{good-is}
+use Rattle.laws.specs.Settle.{from-settings}
 use Rattle.laws.specs.Simple.{registers-well}
 use Rattle.laws.specs.Interrupts.{delivered-well}
 use Rattle.laws.specs.Run.{fetched-fine}
@@ -51,28 +59,26 @@ sound w s = record { size = w .size; small = s; accepted = w .accepted }
 pub well : {m : List ℕ} → Sound m → WellFormed m
 well h = record { size = h .size; accepted = h .accepted }
 
--- ---- fresh, on any memory of 8,192 words
-pub args-of : (line d : ℕ) → startable line d ≡ true → Args line d
-unfolding Fresh.startable
-args-of line d h = go (ltb line firstOuter) (ltb lastLine line) (eqb d 0) (ltb aWord d) refl refl refl refl
-  where
-    go : (x y z t : Bool) → ltb line firstOuter ≡ x → ltb lastLine line ≡ y → eqb d 0 ≡ z → ltb aWord d ≡ t → Args line d
-    go true y z t e f i j = let c = rw e at h in let k : _≡_ {A = ℕ} 0 1 = cc in absurd (omega arith)
-    go false true z t e f i j = let c = rw (e, f) at h in let k : _≡_ {A = ℕ} 0 1 = cc in absurd (omega arith)
-    go false false true t e f i j = let c = rw (e, f, i) at h in let k : _≡_ {A = ℕ} 0 1 = cc in absurd (omega arith)
-    go false false false true e f i j = let c = rw (e, f, i, j) at h in let k : _≡_ {A = ℕ} 0 1 = cc in absurd (omega arith)
-    go false false false false e f i j =
-        let a = ltb-false line firstOuter e in
-        let b = ltb-false lastLine line f in
-        let c = eqb-false d 0 i in
-        let k = ltb-false aWord d j in
-        (omega arith, omega arith, omega arith, omega arith)
-
+-- ---- fresh and fresh from settings, on any memory of 8,192 words
 pub fresh-starts : {m : List ℕ} → length m ≡ memorySize → Small m → (line d : ℕ) → startable line d ≡ true → Sound (memoryOf (fresh m line d))
 unfolding Call.fresh Answer.memoryOf
 fresh-starts {m} l s line d h =
     let a = args-of line d h in
     rw (eq-eqb (length m) memorySize l, h) (sound (started-well m line d l a) (small-started s line d (omega (arith, a)) (omega (arith, a))))
+
+pub settings-starts : {m : List ℕ} → length m ≡ memorySize → Small m → (f : List ℕ) → ofFile f ≡ Fit.Good → Sound (memoryOf (fromSettings m f))
+unfolding Answer.memoryOf
+settings-starts {m} l s f g = let t = from-settings m l s f g in rw (t .done) (sound (t .well) (t .small))
+
+-- a file that is not good leaves the memory as it was
+pub unsettled-same : {m : List ℕ} → length m ≡ memorySize → (f : List ℕ) → isGood (ofFile f) ≡ false → memoryOf (fromSettings m f) ≡ m
+unfolding Settings.fromSettings Layout.isGood Answer.memoryOf
+unsettled-same {m} l f n = go (ofFile f) refl
+  where
+    go : (v : Fit) → ofFile f ≡ v → memoryOf (fromSettings m f) ≡ m
+    go Fit.Good e = let c = rw e at n in let z : _≡_ {A = ℕ} 0 1 = cc in absurd (omega arith)
+    go (Fit.Refused k) e = rw (eq-eqb (length m) memorySize l, e)
+    go (Fit.RefusedAt k v) e = rw (eq-eqb (length m) memorySize l, e)
 
 -- ---- the calls
 module _ {m : List ℕ} (h : Sound m) where
@@ -90,6 +96,13 @@ module _ {m : List ℕ} (h : Sound m) where
       go : (c : Bool) → startable line d ≡ c → Sound (memoryOf (fresh m line d))
       go true e = fresh-starts (h .size) (h .small) line d e
       go false e = rw (size-is, e) h
+
+  pub settings-sound : (f : List ℕ) → Sound (memoryOf (fromSettings m f))
+  settings-sound f = go (isGood (ofFile f)) refl
+    where
+      go : (c : Bool) → isGood (ofFile f) ≡ c → Sound (memoryOf (fromSettings m f))
+      go true e = settings-starts (h .size) (h .small) f (good-is (ofFile f) e)
+      go false e = rw (unsettled-same (h .size) f e) h
 
   pub instruction-sound : Sound (memoryOf (instruction m))
   unfolding Call.head Call.instruction Call.instructionJudged Answer.memoryOf
@@ -180,9 +193,10 @@ host-kept k = record {
 pub host-sound : {m m′ : List ℕ} → Host m m′ → Sound m → Sound m′
 host-sound k h = sound (kept-keeps (host-kept k) (well h)) (k .small)
 
--- ---- any calls, and changes by the host between them, from a fresh start on
+-- ---- any calls, and changes by the host between them, from a fresh start on, be it from settings or not
 pub data Act : Type 0 where
   fresh-start : ℕ → ℕ → Act
+  fresh-from : List ℕ → Act
   instruct : Act
   signal : ℕ → ℕ → Act
   signals : List ℕ → Act
@@ -192,6 +206,7 @@ pub data Act : Type 0 where
 
 unfoldable pub after : Act → List ℕ → List ℕ
 after (fresh-start line d) m = memoryOf (fresh m line d)
+after (fresh-from f) m = memoryOf (fromSettings m f)
 after instruct m = memoryOf (instruction m)
 after (signal k c) m = memoryOf (interrupt m k c)
 after (signals l) m = memoryOf (burst m l)
@@ -201,12 +216,14 @@ after judge-it m = memoryOf (judge m)
 
 pub data Reached : List ℕ → Type 0 where
   start : (m : List ℕ) (line d : ℕ) → length m ≡ memorySize → Small m → startable line d ≡ true → Reached (memoryOf (fresh m line d))
+  settle : (m f : List ℕ) → length m ≡ memorySize → Small m → ofFile f ≡ Fit.Good → Reached (memoryOf (fromSettings m f))
   call : (m : List ℕ) (a : Act) → Reached m → Reached (after a m)
   host : (m m′ : List ℕ) → Host m m′ → Reached m → Reached m′
 
 after-sound : {m : List ℕ} → Sound m → (a : Act) → Sound (after a m)
 unfolding after
 after-sound h (fresh-start line d) = fresh-sound h line d
+after-sound h (fresh-from f) = settings-sound h f
 after-sound h instruct = instruction-sound h
 after-sound h (signal k c) = interrupt-sound h k c
 after-sound h (signals l) = burst-sound h l
@@ -216,5 +233,6 @@ after-sound h judge-it = rw (judge-same h) h
 
 pub reached-sound : (m : List ℕ) → Reached m → Sound m
 reached-sound _ (start m line d l s h) = fresh-starts l s line d h
+reached-sound _ (settle m f l s h) = settings-starts l s f h
 reached-sound _ (call m a r) = after-sound (reached-sound m r) a
 reached-sound _ (host m m′ k r) = host-sound k (reached-sound m r)

@@ -1,8 +1,8 @@
 -- Pages: "A page given back goes to the first waiter as its grant and wakes it; with no waiter, to the end of the free list"; "SME and CRP use the page
--- granted to them, else the first free one". The model's steps, and which words giving
--- back leaves. Assumes nothing.
+-- granted to them, else the first free one". The model's steps, and which words giving back and taking leave. Assumes nothing.
 use mathlib.Core.Path.{_≡_, refl, sym, ap, _∙_}
 use mathlib.Core.Logic.{_≢_, _⊎_, inl, inr}
+use mathlib.Core.Bool.{Bool, true, false}
 use mathlib.Core.List.{List, [], _∷_, _++_}
 use Prim.Native.Nat.{ℕ, zero, suc, _+_, _≤_, _<_}
 use native.Mathlib.Omega.{arith}
@@ -10,8 +10,9 @@ use lib.ListN.{length, getD, set}
 use lib.Dec.{eqb}
 use borrow.Author.Tests.{ne-eqb}
 use Rattle.model.specs.Map.{freeList, freeSemaphore, grantFor, label, link, lower, lowered, pageQueue, pageSize, place, q1, raised, reason, state}
-use Rattle.model.specs.Bytes.{word, takeFree, takePage, freePage, grantPage, giveBack}
+use Rattle.model.specs.Bytes.{name, word, takeFree, takePage, freePage, grantPage, giveBack}
 use Rattle.model.specs.Page as Page
+use Rattle.model.specs.Page.{Taken}
 use Rattle.model.specs.Page.Taken.{took}
 use Rattle.model.specs.Lists.{hit, count, Lists, sum, each-of, some, uses, queues}
 use Rattle.laws.specs.Count.{hit-self, hit-other, hit-or, one-hit}
@@ -24,7 +25,7 @@ use Rattle.laws.specs.Inv.{View, Facts, Base}
 use Rattle.laws.specs.Frames.{other}
 use Rattle.laws.specs.Views.{put1, withSem}
 use Rattle.laws.specs.Stores.{sem-mem}
-use Rattle.laws.specs.JoinLeave.{chain0, join-frame, grant-mem}
+use Rattle.laws.specs.JoinLeave.{chain0, join-frame, leave-frame, grant-mem}
 use Rattle.laws.specs.Changes.{uses-upd, queue-same, uses-sep, facts-uses, stock-same, hand-page, page-sem}
 use Rattle.laws.specs.Wake.{woken, woken-proc, facts-wake, wake-mem, wake-frame}
 use Rattle.laws.specs.Hands.{in-hand, hand-new, take-free, give-free, take-grant}
@@ -274,3 +275,42 @@ take-page {m} {ps} {L} {W} {hs} {g} p h b = go (getD m (grantFor n) 0) refl (L f
           base = take-grant b (lower (W .label p)) (suc x) (omega arith) (b .mem .holds .grant (lower (W .label p)) (omega arith) ∙ ap some e);
           low = refl;
         }) refl
+
+-- a word that is neither the head nor the semaphore of the free list, nor a link of it, nor a grant: it stays
+pub free-word : {m : List ℕ} {ps : List ℕ} {L : Lists} {W : View} {hs : List ℕ} {g : ℕ} → Base m ps L W hs g → (c : ℕ)
+    → ((a : ℕ) → freeList ≤ a → a ≤ freeSemaphore → c ≢ a) → ((z : ℕ) → 1 ≤ count z (L freeList) → c ≢ place z link) → (q : ℕ) (fs : List ℕ)
+    → L freeList ≡ q ∷ fs → getD (takeFree m q) c 0 ≡ getD m c 0
+unfolding Page.takeFree
+free-word {m} {ps} b c low free q fs e =
+    let s = b .facts .sep in
+    let v = lowered (getD m freeSemaphore 0) in
+    leave-frame s (sem-mem s (b .mem) freeSemaphore v (page-sem ps)) freeList (in-free ps, grant-low freeList (omega arith)) (omega arith) q [] fs e c
+    (low freeList (omega arith) (omega arith)) free ∙ other m freeSemaphore v c (low freeSemaphore (omega arith) (omega arith))
+
+pub record Untaken (L : Lists) (c : ℕ) : Type 0 where
+  pub low : (a : ℕ) → freeList ≤ a → a ≤ freeSemaphore → c ≢ a
+  pub free : (z : ℕ) → 1 ≤ count z (L freeList) → c ≢ place z link
+  pub grant : (k : ℕ) → k < 16 → c ≢ grantFor k
+
+unfoldable left : Taken (List ℕ) → List ℕ
+left (took q m) = m
+
+module _ {m : List ℕ} {ps : List ℕ} {L : Lists} {W : View} {hs : List ℕ} {g : ℕ} (b : Base m ps L W hs g) (c : ℕ) (o : Untaken L c) where
+  left-word : (p : ℕ) → getD (left (takePage m p)) c 0 ≡ getD m c 0
+  unfolding Page.takePage Page.firstFree left
+  left-word p =
+      let s = b .facts .sep in
+      go (eqb (getD m (grantFor (name m p)) 0) 0) refl (L freeList) refl
+      (chain0 s (b .mem) freeList (in-free ps, grant-low freeList (omega arith)) (omega arith))
+    where
+      go : (x : Bool) → eqb (getD m (grantFor (name m p)) 0) 0 ≡ x → (xs : List ℕ) → L freeList ≡ xs → Chain m link freeList (L freeList)
+          → getD (left (takePage m p)) c 0 ≡ getD m c 0
+      go false e xs f k = rw e (other m (grantFor (name m p)) 0 c (o .grant (name m p) (omega arith)))
+      go true e [] f k = let z : getD m freeList 0 ≡ 0 = rw f at k in rw (e, z)
+      go true e (q ∷ fs) f k =
+          let z = rw f at k in
+          rw (e, z .0, ne-eqb q 0 (omega arith)) (free-word b c (o .low) (o .free) q fs f)
+
+  pub taken-word : (p q : ℕ) (m1 : List ℕ) → takePage m p ≡ took q m1 → getD m1 c 0 ≡ getD m c 0
+  unfolding left
+  taken-word p q m1 e = let k : left (takePage m p) ≡ m1 = rw e in rw k at (left-word p)

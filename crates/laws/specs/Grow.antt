@@ -81,8 +81,8 @@ module _ {m : List ℕ} {ps : List ℕ} {L : Lists} {W : View} {hs : List ℕ} {
   at-old a h =
       old-list a (head-off s q ownQueue a pg (omega arith) out h) (head-off s q q1 a pg (omega arith) out h) (head-off s q q2 a pg (omega arith) out h)
 
-  at-same : (a : ℕ) → Among ps a → a ≢ processorList → grown a ≡ L a
-  at-same a h d = at-old a h ∙ upd-other L processorList a P d
+  pub grown-same : (a : ℕ) → Among ps a → a ≢ processorList → grown a ≡ L a
+  grown-same a h d = at-old a h ∙ upd-other L processorList a P d
 
   -- a head is one of before, or one of the three new ones
   data Which (a : ℕ) : Type 0 where
@@ -186,9 +186,9 @@ module _ {m : List ℕ} {ps : List ℕ} {L : Lists} {W : View} {hs : List ℕ} {
   pub grow-facts : Facts P grown X g
   grow-facts =
       let f = b .facts in
-      let wk : (k : ℕ) → k < interrupts → grown (headerAfter k) ≡ L (headerAfter k) = λ k h. at-same (headerAfter k)
+      let wk : (k : ℕ) → k < interrupts → grown (headerAfter k) ≡ L (headerAfter k) = λ k h. grown-same (headerAfter k)
       (in-queues ps (headerAfter k) (int-queue ps k h)) (omega arith) in
-      let wa = at-same pageQueue (in-asking ps) (omega arith) in
+      let wa = grown-same pageQueue (in-asking ps) (omega arith) in
       record {
         sep = grow-sep;
         names = record { differ = λ y h. differ y (which-proc y h); range = λ y h. range y (which-proc y h) };
@@ -204,12 +204,12 @@ module _ {m : List ℕ} {ps : List ℕ} {L : Lists} {W : View} {hs : List ℕ} {
         granted = record {
           bare = λ y c.
               rw (
-                at-same freeList (in-free ps) (omega arith),
-                at-same (grantFor (lower (W .label y))) (in-grant ps (lower (W .label y)) (omega arith)) (omega arith),
+                grown-same freeList (in-free ps) (omega arith),
+                grown-same (grantFor (lower (W .label y))) (in-grant ps (lower (W .label y)) (omega arith)) (omega arith),
               )
               (f .granted .bare y (rw wa at c));
           known = λ k h d c.
-              let t = f .granted .known k h d (rw (at-same (grantFor k) (in-grant ps k h) (omega arith)) at c) in
+              let t = f .granted .known k h d (rw (grown-same (grantFor k) (in-grant ps k h) (omega arith)) at c) in
               omega (arith, named k, other-name k (omega arith));
         };
         mail = λ y w h u v x c. mail y w u v x c (which-proc y h);
@@ -248,8 +248,8 @@ module _ {m : List ℕ} {ps : List ℕ} {L : Lists} {W : View} {hs : List ℕ} {
       own : (y x : ℕ) → 1 ≤ count x (grown (place y ownQueue)) → (1 ≤ count y ps) ⊎ (y ≡ q) → Waits (W .reason y) (W .note) (grown (place y q1)) y x
       own y x c (inl h) =
           let t = proc-page s y h in
-          rw (at-same (place y q1) (in-q ps y q1 (omega arith) (omega arith) h) (omega arith))
-          (b .facts .own y h x (rw (at-same (place y ownQueue) (in-own ps y h) (omega arith)) at c))
+          rw (grown-same (place y q1) (in-q ps y q1 (omega arith) (omega arith) h) (omega arith))
+          (b .facts .own y h x (rw (grown-same (place y ownQueue) (in-own ps y h) (omega arith)) at c))
       own y x c (inr e) = let z = rw (e, new-list ownQueue (omega arith) (omega arith)) at c in absurd (omega arith)
 
       sems : (a : ℕ) → (1 ≤ count (a + 1) (queues ps)) ⊎ (a + 1 ≡ place q ownQueue)
@@ -259,8 +259,8 @@ module _ {m : List ℕ} {ps : List ℕ} {L : Lists} {W : View} {hs : List ℕ} {
           let d7 : a + 1 ≢ processorList = λ e. omega (arith, ap (λ (y : ℕ). count y (queues ps)) e, procs-once s .away) in
           rw (
             put1-other (W .sem) (place q ownSemaphore) 0 a d,
-            at-same (a + 1) (in-queues ps (a + 1) h) d7,
-            stock-same L grown (at-same freeList (in-free ps)
+            grown-same (a + 1) (in-queues ps (a + 1) h) d7,
+            stock-same L grown (grown-same freeList (in-free ps)
                 (omega arith)) a,
           )
           (b .facts .sems a h)
@@ -271,7 +271,7 @@ module _ {m : List ℕ} {ps : List ℕ} {L : Lists} {W : View} {hs : List ℕ} {
       mail : (y w : ℕ) → q1 ≤ w → w ≤ q2 → (x : ℕ) → 1 ≤ count x (grown (place y w)) → (1 ≤ count y ps) ⊎ (y ≡ q) → Message (W .note x) (W .size x)
       mail y w u v x c (inl h) =
           let t = proc-page s y h in
-          b .facts .mail y w h u v x (rw (at-same (place y w) (in-q ps y w u v h) (omega arith)) at c)
+          b .facts .mail y w h u v x (rw (grown-same (place y w) (in-q ps y w u v h) (omega arith)) at c)
       mail y w u v x c (inr e) = let z = rw (e, new-list w (omega arith) v) at c in absurd (omega arith)
 
   -- ---- the memory
@@ -295,6 +295,10 @@ module _ {m : List ℕ} {ps : List ℕ} {L : Lists} {W : View} {hs : List ℕ} {
   same : (a : ℕ) → a ≢ place q listLink → a ≢ processorList → ((z : ℕ) → 1 ≤ count z ps → a ≢ place z listLink) → getD m2 a 0 ≡ getD m a 0
   same a n1 n7 nz = other m1 c q a (last-not listLink processorList ps a n7 nz) ∙ other m (place q listLink) 0 a n1
 
+  pub grown-word : (a : ℕ) → a ≢ place q listLink → a ≢ processorList → ((z : ℕ) → 1 ≤ count z ps → a ≢ place z listLink)
+      → getD (join m processorList listLink q) a 0 ≡ getD m a 0
+  grown-word a n1 n7 nz = rw joined (same a n1 n7 nz)
+
   -- word j of a page, but 1
   same-word : (y j : ℕ) → Page y → j < pageSize → j ≢ listLink → word m2 y j ≡ word m y j
   same-word y j h l d = same (place y j) (omega arith) (omega (arith, h)) (λ z i. omega arith)
@@ -308,7 +312,7 @@ module _ {m : List ℕ} {ps : List ℕ} {L : Lists} {W : View} {hs : List ℕ} {
     holds = record {
       rep = λ a h. rep a h (which a (h .0));
       grant = λ k h.
-          rw (at-same (grantFor k) (in-grant ps k h) (omega arith), same-low (grantFor k) (omega arith) (omega arith)) (b .mem .holds .grant k h);
+          rw (grown-same (grantFor k) (in-grant ps k h) (omega arith), same-low (grantFor k) (omega arith) (omega arith)) (b .mem .holds .grant k h);
     };
     reads = record {
       words = record {

@@ -52,6 +52,10 @@ pub mod Mails
 pub mod Interrupts
 pub mod Create
 pub mod Delete
+-- A fresh start from settings: what a good file says, one entry, all of them
+pub mod Fits
+pub mod Made
+pub mod Settle
 -- Any instruction; the calls
 pub mod Each
 pub mod Run
@@ -62,6 +66,7 @@ pub mod Calls
 -- What the promises cite
 pub mod Refusals
 pub mod Numbers
+pub mod Files
 pub mod Bursts
 pub mod Faulty
 pub mod Unmoved

@@ -53,6 +53,11 @@ first-none f (y ∷ ys) nz e x h = go (f y) refl (first-none f ys (λ z i. nz z 
     go false d ih (inl i) = rw i d
     go false d ih (inr i) = let k : first f (y ∷ ys) ≡ first f ys = rw (d, Queue.first) in ih (sym k ∙ e) x (omega (arith, hit-other x y i))
 
+pub none-first : (f : ℕ → Bool) (xs : List ℕ) → ((x : ℕ) → 1 ≤ count x xs → f x ≡ false) → first f xs ≡ 0
+unfolding Queue.first
+none-first f [] h = refl
+none-first f (y ∷ ys) h = rw (h y (omega (arith, hit-self y)), Queue.first) (none-first f ys (λ x i. h x (omega arith)))
+
 -- ---- Q1 and Q2 of a processor
 module _ {m : List ℕ} {ps : List ℕ} {L : Lists} {W : View} {hs : List ℕ} {g : ℕ} (b : Base m ps L W hs g) (p w : ℕ) (h : 1 ≤ count p ps) (u : q1 ≤ w)
     (v : w ≤ q2) where

@@ -18,6 +18,7 @@ use Rattle.model.specs.declared.Verdict.{Verdict}
 use Rattle.model.specs.declared.Verdict.the-variants as Verdict
 use Rattle.model.specs.declared.Finding.{Finding}
 use Rattle.model.specs.declared.Finding.the-variants.{Nothing, WrongLength, Broken}
+use Rattle.model.specs.declared.Fit.the-variants as Fit
 use Rattle.model.specs.Map.{memorySize}
 use Rattle.model.specs.Processor as Processor
 use Rattle.model.specs.Fault as Faults
@@ -28,15 +29,20 @@ use Rattle.model.specs.Answer.{brokenPages, brokenCounters}
 use Rattle.model.specs.Answer.Outcome.{gives}
 use Rattle.model.specs.Call as Call
 use Rattle.model.specs.Burst as Burst
+use Rattle.model.specs.Layout.{ofFile}
+use Rattle.model.specs.Settings as Settings
 use Rattle.model.specs.Bytes as Model
-use Rattle.model.specs.Bytes.{Step, fresh, instruction, interrupt, burst, readRegisters, setRegisters, judge, judged, finding, running, registersOf}
+use Rattle.model.specs.Bytes.{Step, fresh, fromSettings, instruction, interrupt, burst, readRegisters, setRegisters, judge, judged, finding, running}
+use Rattle.model.specs.Bytes.{registersOf}
 use Rattle.laws.specs.Judged.{WellFormed, invariant}
 use Rattle.laws.specs.Findings.{Found, Offends, found, found-well, found-broken}
 use Rattle.laws.specs.Who.{running-at}
+use Rattle.laws.specs.Words.{either}
+use Rattle.laws.specs.Fits.{file-each}
 use Rattle.laws.specs.Kinds.{Kind, instruction-kind, interrupt-kind, burst-kind, set-kind}
 use Rattle.laws.specs.Kinds as Kinds
 use Rattle.laws.specs.Calls.{Sound, unrefused}
-use Rattle.laws.specs.Refusals.{firstRefusal, kind-told}
+use Rattle.laws.specs.Refusals.{firstRefusal, first-number, kind-told}
 
 -- ---- the answer that has these numbers: faults are below refusals
 unfoldable pub told : List ℕ → Answer
@@ -108,7 +114,7 @@ read-told m = go (finding m) (eqb (running m) 0) refl refl
 abbrev pub Refuses : {A : Type 0} → (A → List ℕ) → Outcome A (List ℕ) → List ℕ → List ℕ → Type 0
 Refuses ns o w m = (ns (answerOf o) ≡ w) × (memoryOf o ≡ m)
 
--- every call but fresh does
+-- every call but the two fresh starts does
 pub record RefuseAll (m : List ℕ) (w : List ℕ) : Type 0 where
   pub instruction : Refuses numbers (instruction m) w m
   pub interrupt : (n c : ℕ) → Refuses numbers (interrupt m n c) w m
@@ -149,6 +155,10 @@ length-refused m d = all-refuse m WrongLength (wrongLength ∷ []) length-is (rw
 pub fresh-length : (m : List ℕ) → length m ≢ memorySize → (line d : ℕ) → Refuses numbers (fresh m line d) (wrongLength ∷ []) m
 unfolding Call.fresh Answer.answerOf Answer.memoryOf Answer.numbers
 fresh-length m d line e = rw (ne-eqb (length m) memorySize d) (refl, refl)
+
+pub settings-length : (m : List ℕ) → length m ≢ memorySize → (f : List ℕ) → Refuses numbers (fromSettings m f) (wrongLength ∷ []) m
+unfolding Settings.fromSettings Answer.answerOf Answer.memoryOf Answer.numbers
+settings-length m d f = rw (ne-eqb (length m) memorySize d) (refl, refl)
 
 -- a broken memory is refused with a class and an address that are so
 pub record Told (m : List ℕ) : Type 0 where
@@ -221,6 +231,17 @@ module _ (m : List ℕ) {k a : ℕ} (c : Class k) where
       go true false e f q = let z = ap length (rw (e, f) at q) in omega arith
       go true true e f q = let z = ap length (rw (e, f) at q) in omega arith
 
+  pub settings-never : (f : List ℕ) → numbers (answerOf (fromSettings m f)) ≢ k ∷ a ∷ []
+  unfolding Settings.fromSettings Answer.answerOf Answer.numbers
+  settings-never f =
+      either Never (eqb (length m) memorySize) (file-each (λ v. Never (Model.heedsFile v m f)) (λ q. let z = ap length q in omega arith)
+      (λ q. let z = ap length q in omega arith) (λ q. let z = ap length q in omega arith)
+      (λ v q. let z = first-number q in omega (arith, c .from)) f)
+      (λ q. let z = ap length q in omega arith)
+    where
+      Never : Step → Type 0
+      Never o = numbers (answerOf o) ≢ k ∷ a ∷ []
+
 -- ---- so of a well-formed memory none of the five is told
 pub sound-good : {m : List ℕ} → Sound m → Bad m → ⊥
 sound-good h b = let f = h .accepted in let g = b .1 in let z : _≡_ {A = ℕ} 0 1 = cc in omega arith
@@ -250,6 +271,20 @@ judge-kept m = go (finding m)
 pub fresh-takes : (m : List ℕ) → length m ≡ memorySize → (line d : ℕ) → startable line d ≡ true → numbers (answerOf (fresh m line d)) ≡ doneNumber ∷ []
 unfolding Call.fresh Answer.answerOf Answer.numbers
 fresh-takes m l line d s = rw (eq-eqb (length m) memorySize l, s)
+
+-- so does a fresh start from a good file, and what refuses the file refuses the call
+module _ (m : List ℕ) (l : length m ≡ memorySize) (f : List ℕ) where
+  pub settings-takes : ofFile f ≡ Fit.Good → numbers (answerOf (fromSettings m f)) ≡ doneNumber ∷ []
+  unfolding Settings.fromSettings Answer.answerOf Answer.numbers
+  settings-takes e = rw (eq-eqb (length m) memorySize l, e)
+
+  pub settings-refuses : (k : ℕ) → ofFile f ≡ Fit.Refused k → Refuses numbers (fromSettings m f) (k ∷ []) m
+  unfolding Settings.fromSettings Answer.answerOf Answer.memoryOf Answer.numbers
+  settings-refuses k e = rw (eq-eqb (length m) memorySize l, e) (refl, refl)
+
+  pub settings-too-new : (k v : ℕ) → ofFile f ≡ Fit.RefusedAt k v → Refuses numbers (fromSettings m f) (k ∷ v ∷ []) m
+  unfolding Settings.fromSettings Answer.answerOf Answer.memoryOf Answer.numbers
+  settings-too-new k v e = rw (eq-eqb (length m) memorySize l, e) (refl, refl)
 
 -- the judge accepts a well-formed memory
 pub judge-yes : {m : List ℕ} → Sound m → verdictNumbers (answerOf (judge m)) ≡ doneNumber ∷ []

@@ -17,7 +17,7 @@ use Rattle.laws.specs.Findings.{found-broken}
 use Rattle.laws.specs.Kinds.{Kind}
 use Rattle.laws.specs.Kinds.Kind.{done, waits, handed, faulted, refused, placed, told}
 
--- refusals are 20-27, 24 and 25 of a burst with a place, and 30-34 with an address
+-- refusals are 20-29, of which 24 and 25 of a burst come with a place and 29 with a version, and 30-34 with an address
 abbrev pub firstRefusal : ℕ
 firstRefusal = wrongLength
 

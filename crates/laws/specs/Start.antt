@@ -2,16 +2,18 @@
 -- before. The rules are computed once, with line and divider open; what was in the memory before does not reach a judged word. Assumes nothing.
 use mathlib.Core.Path.{_≡_, refl, sym, ap, _∙_, subst}
 use mathlib.Core.Logic.{_≢_, _⊎_, inl, inr}
-use mathlib.Core.Bool.{true}
-use mathlib.Core.List.{List}
+use mathlib.Core.Bool.{Bool, true, false}
+use mathlib.Core.List.{List, [], _∷_}
 use Prim.Native.Nat.{ℕ, zero, suc, _+_, _-_, _*_, _≤_, _<_}
 use native.Mathlib.Omega.{arith}
 use lib.ListN.{length, getD, set, length-set, length-replicate}
+use lib.Dec.{eqb, ltb}
 use lib.Seq.{getD-set-same, getD-set-other}
+use borrow.Author.Tests.{eqb-false, ltb-false}
 use Rattle.model.specs.Map as Map
 use Rattle.model.specs.Map.{aWord, builtInCodes, c0, c1, c2, c3, clockLine, codeWord, controlPages, firstControl, firstName, firstOuter}
 use Rattle.model.specs.Map.{firstPriority, firstUnused, freeList, freeSemaphore, grantFor, guardedFrom, guardedLast, guardedTo, high, highLr}
-use Rattle.model.specs.Map.{interruptPage, kernelPages, lastLine, link, low, lowLr, memorySize, pageQueue, pageSize, pair, place, processorList}
+use Rattle.model.specs.Map.{interruptPage, kernelPages, lastLine, link, low, lowLr, memorySize, pageQueue, pageSize, pair, place, processorList, q1, q2}
 use Rattle.model.specs.Map.{runningLabel, runningPage, startAddress, stopPut, topped, wSet, wordA, wordS}
 use Rattle.model.specs.Address.{wrapped}
 use Rattle.model.specs.Bytes.{store, lists, zeroed, cleared, firstProcessor, chained, allBuiltIn, started}
@@ -21,11 +23,14 @@ use Rattle.model.specs.Rule.{Rule, most, holds, all, every}
 use Rattle.model.specs.Address as Address
 use Rattle.model.specs.Queue as Queue
 use Rattle.model.specs.Processor as Processor
+use Rattle.model.specs.Processor.{startingAt}
 use Rattle.model.specs.Turn as Turn
+use Rattle.model.specs.Turn.{nineteen}
 use Rattle.model.specs.Mail as Mail
 use Rattle.model.specs.Lists as Lists
 use Rattle.model.specs.Judge as Judge
 use Rattle.model.specs.Fresh as Fresh
+use Rattle.model.specs.Fresh.{startable}
 use Rattle.model.specs.Instruction.{builtIn}
 use Rattle.laws.specs.Count.{hit-or}
 use Rattle.laws.specs.Rules.{sound, complete}
@@ -55,15 +60,22 @@ pub record Computed (line divider : ℕ) (S : Store) : Type 0 where
   pub runs : S .get (Fresh.started S (S .zeros) line divider) runningPage ≡ firstControl
   pub grant : S .get (Fresh.started S (S .zeros) line divider) (grantFor firstName) ≡ 0
   pub label : S .get (Fresh.started S (S .zeros) line divider) (place firstControl Map.label) ≡ pair firstPriority firstName
+  pub registers : Processor.registersOf S (Fresh.started S (S .zeros) line divider) firstControl ≡ startingAt startAddress 0
+  pub kept : Turn.keptOn S (Fresh.started S (S .zeros) line divider) firstControl ≡ nineteen (λ i. 0)
+  pub mail1 : S .get (Fresh.started S (S .zeros) line divider) (place firstControl q1) ≡ 0
+  pub mail2 : S .get (Fresh.started S (S .zeros) line divider) (place firstControl q2) ≡ 0
+  pub procs : Queue.processors S (Fresh.started S (S .zeros) line divider) ≡ firstControl ∷ []
+  pub free : Lists.lists S (Fresh.started S (S .zeros) line divider) freeList ≡ Lists.range (controlPages - 1) 1 (firstControl + 1)
 
 at-trees : (line divider : ℕ) → Computed line divider trees
 unfolding trees tget tput tzero getT putT sizeT rest all every holds Lists.range Lists.linkOf Lists.isGrant Queue.walk Lists.lists Address.zeroed
-    Processor.setFlagsLr Processor.setRegistersOf Processor.handBack Turn.runs Fresh.cleared Fresh.timed Fresh.firstProcessor Fresh.chained Fresh.freed
-    Fresh.allBuiltIn Fresh.started Mail.asks Mail.fits Judge.page Judge.list Judge.listed Judge.once Judge.usedOnce Judge.label Judge.names Judge.bit
-    Judge.waiter Judge.waitingBits Judge.reasoned Judge.reasonless Judge.served Judge.quiet Judge.reasons Judge.unasked Judge.owner Judge.messageWait
-    Judge.messageWaits Judge.interruptSemaphore Judge.messageSemaphore Judge.pageSemaphore Judge.semaphores Judge.pageWait Judge.pageWaits Judge.grant
-    Judge.granted Judge.sized Judge.message Judge.mail Judge.messages Judge.runner Judge.notHigher Judge.running Judge.kind Judge.codes Judge.counters
-    Judge.clock Judge.used Judge.entry Judge.faults Judge.zeroBits Judge.zeros Judge.wellFormed
+    Processor.registersOf Processor.setFlagsLr Processor.setRegistersOf Processor.handBack Turn.keptOn Turn.runs Fresh.cleared Fresh.timed
+    Fresh.firstProcessor Fresh.chained Fresh.freed Fresh.allBuiltIn Fresh.started Mail.asks Mail.fits Judge.page Judge.list Judge.listed Judge.once
+    Judge.usedOnce Judge.label Judge.names Judge.bit Judge.waiter Judge.waitingBits Judge.reasoned Judge.reasonless Judge.served Judge.quiet
+    Judge.reasons Judge.unasked Judge.owner Judge.messageWait Judge.messageWaits Judge.interruptSemaphore Judge.messageSemaphore Judge.pageSemaphore
+    Judge.semaphores Judge.pageWait Judge.pageWaits Judge.grant Judge.granted Judge.sized Judge.message Judge.mail Judge.messages Judge.runner
+    Judge.notHigher Judge.running Judge.kind Judge.codes Judge.counters Judge.clock Judge.used Judge.entry Judge.faults Judge.zeroBits Judge.zeros
+    Judge.wellFormed
 at-trees line divider = record {
   rules = refl;
   size = refl;
@@ -78,6 +90,12 @@ at-trees line divider = record {
   grant = refl;
   label = refl;
   runs = refl;
+  registers = refl;
+  kept = refl;
+  mail1 = refl;
+  mail2 = refl;
+  procs = refl;
+  free = refl;
 }
 
 pub computed : (line divider : ℕ) → Computed line divider bytes
@@ -86,6 +104,22 @@ computed line divider = subst (λ (S : Store). Computed line divider S) trees-is
 -- "divider 1-255, line 16-47"
 abbrev pub Args : ℕ → ℕ → Type 0
 Args line divider = (firstOuter ≤ line) × (line ≤ lastLine) × (1 ≤ divider) × (divider ≤ aWord)
+
+pub args-of : (line d : ℕ) → startable line d ≡ true → Args line d
+unfolding Fresh.startable
+args-of line d h = go (ltb line firstOuter) (ltb lastLine line) (eqb d 0) (ltb aWord d) refl refl refl refl
+  where
+    go : (x y z t : Bool) → ltb line firstOuter ≡ x → ltb lastLine line ≡ y → eqb d 0 ≡ z → ltb aWord d ≡ t → Args line d
+    go true y z t e f i j = let c = rw e at h in let k : _≡_ {A = ℕ} 0 1 = cc in absurd (omega arith)
+    go false true z t e f i j = let c = rw (e, f) at h in let k : _≡_ {A = ℕ} 0 1 = cc in absurd (omega arith)
+    go false false true t e f i j = let c = rw (e, f, i) at h in let k : _≡_ {A = ℕ} 0 1 = cc in absurd (omega arith)
+    go false false false true e f i j = let c = rw (e, f, i, j) at h in let k : _≡_ {A = ℕ} 0 1 = cc in absurd (omega arith)
+    go false false false false e f i j =
+        let a = ltb-false line firstOuter e in
+        let b = ltb-false lastLine line f in
+        let c = eqb-false d 0 i in
+        let k = ltb-false aWord d j in
+        (omega arith, omega arith, omega arith, omega arith)
 
 pub zeros-fresh : (line divider : ℕ) → Args line divider → WellFormed (started (bytes .zeros) line divider)
 unfolding Judge.judged Judge.wellFormed Judge.clock Judge.counters rest
@@ -231,6 +265,11 @@ agree-kept g = record {
   words = λ p j h i. g .told (place p j) (inr (omega arith, omega arith));
   state = λ p h. g .told (place p Map.state) (inr (omega arith, omega arith));
 }
+
+-- a word of a control page, whatever the memory held before
+pub started-word : (m m′ : List ℕ) (line d : ℕ) → length m ≡ memorySize → length m′ ≡ memorySize → (a : ℕ) → guardedLast ≤ a → a < memorySize
+    → getD (started m′ line d) a 0 ≡ getD (started m line d) a 0
+started-word m m′ line d s s′ a l u = agree-started m m′ line d s s′ .told a (inr (l, u))
 
 pub zeros-size : length (bytes .zeros) ≡ memorySize
 zeros-size = length-replicate {A = ℕ} memorySize 0

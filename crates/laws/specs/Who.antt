@@ -9,7 +9,7 @@ use Prim.Native.Nat.{ℕ, zero, suc, _≤_, _<_}
 use native.Mathlib.Omega.{arith}
 use lib.ListN.{length, getD, set, length-set}
 use lib.Dec.{eqb, ltb}
-use borrow.Author.Tests.{eqb-true, eqb-false, eq-eqb, ne-eqb, ltb-true, ltb-false}
+use borrow.Author.Tests.{eqb-true, eqb-false, eq-eqb, ne-eqb, ltb-true, ltb-false, lt-ltb, le-ltb}
 use Rattle.model.specs.Map as Map
 use Rattle.model.specs.Map.{controlPages, keeps, keptCount, label, listLink, pageSize, place, processorList, runningLabel, runningPage, upper}
 use Rattle.model.specs.Map.{waitBit, zeroPlace}
@@ -361,3 +361,39 @@ pub record Busy (m : List ℕ) : Type 0 where
 
 pub busy : {m : List ℕ} → WellFormed m → running m ≢ 0 → Busy m
 busy w d = let i = invariant w in record { base = i .base; runs = running-in (i .base) d; ready = omega (arith, i .best .ready d) }
+
+-- ---- "the running one stays if ready .. and no ready one has higher priority": so where the right one runs, who runs changes nothing
+better-not : (m : List ℕ) (b p : ℕ) → (suc (word m p Map.state) ≤ waitBit → (b ≢ 0) × (priority m p ≤ priority m b)) → better m b p ≡ b
+unfolding Turn.better Turn.above
+better-not m b p f = go (ltb (word m p Map.state) waitBit) refl
+  where
+    go : (x : Bool) → ltb (word m p Map.state) waitBit ≡ x → better m b p ≡ b
+    go false e = rw e
+    go true e =
+        let l = ltb-true (word m p Map.state) waitBit e in
+        let t = f (omega arith) in
+        rw (e, ne-eqb b 0 (t .0), le-ltb (priority m b) (priority m p) (t .1))
+
+fold-stays : (m : List ℕ) (b : ℕ) (qs : List ℕ)
+    → ((p : ℕ) → 1 ≤ count p qs → suc (word m p Map.state) ≤ waitBit → (b ≢ 0) × (priority m p ≤ priority m b)) → fold (better m) b qs ≡ b
+fold-stays m b [] f = fold-nil m b
+fold-stays m b (q ∷ qs) f =
+    rw (fold-cons m b q qs, better-not m b q (f q (omega (arith, hit-self q)))) (fold-stays m b qs (λ p h. f p (omega arith)))
+
+pub who-stays : {m : List ℕ} → WellFormed m → whoRuns m ≡ m
+unfolding Turn.whoRuns Turn.chosen Turn.switch Turn.stays
+who-stays {m} w = rw (eq-eqb (running m) (Model.chosen m) (sym (go (hit-or (running m) 0))))
+  where
+    i : Inv m (lists m processorList) (lists m) (view m)
+    i = invariant w
+
+    go : (running m ≡ 0) ⊎ (running m ≢ 0) → Model.chosen m ≡ running m
+    go (inl e) =
+        rw (listed (i .base), e) (fold-stays m 0 (lists m processorList) (λ p h c.
+        let l = i .base .facts .names .range p h in
+        absurd (omega (arith, i .best .top p h c, i .base .facts .runs .idle e, l .low))))
+    go (inr d) =
+        let r = running m in
+        let s = i .best .ready d in
+        rw (listed (i .base), ne-eqb r 0 d, lt-ltb (word m r Map.state) waitBit (omega arith))
+        (fold-stays m r (lists m processorList) (λ p h c. (d, rw (i .base .facts .runs .tag d) at (i .best .top p h c))))

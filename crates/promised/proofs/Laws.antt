@@ -10,7 +10,9 @@ use Rattle.model.specs.declared.Held.{Held}
 use Rattle.model.specs.declared.Verdict.{Verdict}
 use Rattle.model.specs.declared.Registers.{Registers}
 use Rattle.model.specs.Map.{memorySize}
+use Rattle.model.specs.declared.Fit.the-variants.{Good}
 use Rattle.model.specs.Fresh.{startable}
+use Rattle.model.specs.Layout.{ofFile}
 use Rattle.model.specs.Answer as Answers
 use Rattle.model.specs.Answer.{Outcome, memoryOf}
 use Rattle.model.specs.Answer.Outcome.{gives}
@@ -18,9 +20,9 @@ use Rattle.model.specs.Bytes as Model
 use Rattle.laws.specs.Words.{Small}
 use Rattle.laws.specs.Calls as Calls
 use Rattle.laws.specs.Calls.{Act, after}
-use Rattle.laws.specs.Calls.Act.{fresh-start, instruct, signal, signals, set, read, judge-it}
+use Rattle.laws.specs.Calls.Act.{fresh-start, fresh-from, instruct, signal, signals, set, read, judge-it}
 use Rattle.history.specs.Lives.{Past, Run, noneYet, later}
-use Rattle.history.specs.Lives.Run.{start, call}
+use Rattle.history.specs.Lives.Run.{start, settle, call}
 
 leaves : {A : Type 0} {r : A} {n : List ℕ} {o : Outcome A (List ℕ)} → gives r n ≡ o → memoryOf o ≡ n
 unfolding Answers.memoryOf
@@ -36,6 +38,14 @@ fresh-goes m n r line d e = goes (fresh-start line d) m n (leaves e)
 pub fresh-begins : (m n : List ℕ) (r : Answer) (line d : ℕ) → gives r n ≡ Model.fresh m line d → Small m → length m ≡ memorySize
     → startable line d ≡ true → Run n noneYet
 fresh-begins m n r line d e s l t = subst (λ (x : List ℕ). Run x noneYet) (leaves e) (start m line d l s t)
+
+pub settings-go : (m n : List ℕ) (r : Answer) (f : List ℕ) → gives r n ≡ Model.fromSettings m f → (h : Past) → Run m h → Run n (later (fresh-from f) m h)
+unfolding Calls.after
+settings-go m n r f e = goes (fresh-from f) m n (leaves e)
+
+pub settings-begin : (m n : List ℕ) (r : Answer) (f : List ℕ) → gives r n ≡ Model.fromSettings m f → Small m → length m ≡ memorySize → ofFile f ≡ Good
+    → Run n noneYet
+settings-begin m n r f e s l t = subst (λ (x : List ℕ). Run x noneYet) (leaves e) (settle m f l s t)
 
 pub instruction-goes : (m n : List ℕ) (r : Answer) → gives r n ≡ Model.instruction m → (h : Past) → Run m h → Run n (later instruct m h)
 unfolding Calls.after
@@ -66,4 +76,4 @@ pub none-small : (m : List ℕ) → length m ≡ 0 → Small m
 none-small [] e = record { at = λ a. omega arith }
 none-small (x ∷ m) e = absurd (omega arith)
 
-pub ruleset goings = (fresh-goes, fresh-begins, instruction-goes, interrupt-goes, burst-goes, set-goes, read-goes, judge-goes)
+pub ruleset goings = (fresh-goes, fresh-begins, settings-go, settings-begin, instruction-goes, interrupt-goes, burst-goes, set-goes, read-goes, judge-goes)

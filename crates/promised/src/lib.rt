@@ -9,9 +9,11 @@ ghost use mathlib.Core.Bool.{true};
 ghost use Prim.Native.Nat.{_<_};
 ghost use lib.ListN.{length};
 ghost use Rattle.model.specs.Map.{memorySize};
+ghost use Rattle.model.specs.declared.Fit.the-variants.{Good};
 ghost use Rattle.model.specs.Fresh.{startable};
+ghost use Rattle.model.specs.Layout.{ofFile};
 ghost use Rattle.laws.specs.Words.{Small};
-ghost use Rattle.laws.specs.Calls.Act.{fresh-start, instruct, signal, signals, set, read, judge-it};
+ghost use Rattle.laws.specs.Calls.Act.{fresh-start, fresh-from, instruct, signal, signals, set, read, judge-it};
 ghost use Rattle.history.specs.Lives.{Past, Run, noneYet, later};
 
 // A lent slice is a list of words of 8 bits: no premise of the promises is left to prose.
@@ -31,6 +33,15 @@ pub fn fresh(m: &mut [u8], line: u16, divider: u16) -> Answer
 {
     lent(m);
     kernel::fresh(m, line, divider)
+}
+
+// So does the fresh start from settings, where the file is good.
+pub fn fresh_from_settings(m: &mut [u8], file: &[u8]) -> Answer
+    ensures { λ _. ⌜ ((h : Past) → Run (now (m .entry)) h → Run (now (m .exit)) (later (fresh-from (now (file .entry))) (now (m .entry)) h)) ⌝ }
+    ensures { λ _. ⌜ (length (now (m .entry)) ≡ memorySize → ofFile (now (file .entry)) ≡ Good → Run (now (m .exit)) noneYet) ⌝ }
+{
+    lent(m);
+    kernel::fresh_from_settings(m, file)
 }
 
 pub fn instruction(m: &mut [u8]) -> Answer

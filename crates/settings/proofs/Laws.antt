@@ -20,6 +20,7 @@ use Rattle.model.specs.Layout as Layout
 use Rattle.model.specs.Layout.{entryBytes, trailerBytes, mostEntries, ownVersion, labelled, headBytes, blockBytes, entryAt, entriesFrom, entriesOf, isLetter}
 use Rattle.model.specs.Layout.{isZeros, isLabel, isLaidOut, isBlock, isRanged, isEntry, areEntries, bears, namesDiffer, inBounds, ofBlock, trailerPlace}
 use Rattle.model.specs.Layout.{trailerIn, back, newest, begins, pointsBack, isTrailer, ofFile, isGood, versionOf, countOf, lineOf, dividerOf, labelBytes, labelPlace}
+use Rattle.laws.specs.Fits.{laid-of, laid-least, ends-of, points-of, good-is}
 use Rattle.settings.specs.declared.entries.Cursor.{Cursor}
 use Rattle.settings.specs.declared.entries.Read.{Read}
 use Rattle.settings.specs.declared.entries.Read.the-variants as Read
@@ -148,24 +149,6 @@ pub head-labelled : (v : ℕ) → (v ≡ 1 → ⊥) → (v ≡ 2 → ⊥) → 17
 unfolding Layout.headBytes
 head-labelled v n k = rw (ne-eqb v 1 n, ne-eqb v 2 k)
 
-pub head-least : (v : ℕ) → 4 ≤ headBytes v
-unfolding Layout.headBytes
-head-least v = go (eqb v 1) (eqb v 2)
-  where
-    go : (x y : Bool) → 4 ≤ cond x 4 (cond y 5 17)
-    go true y = omega arith
-    go false true = omega arith
-    go false false = omega arith
-
-pub head-most : (v : ℕ) → headBytes v ≤ 17
-unfolding Layout.headBytes
-head-most v = go (eqb v 1) (eqb v 2)
-  where
-    go : (x y : Bool) → cond x 4 (cond y 5 17) ≤ 17
-    go true y = omega arith
-    go false true = omega arith
-    go false false = omega arith
-
 -- ---- the label
 module _ (b : List ℕ) (i n : ℕ) where
   pub zeros-none : n ≡ 0 → true ≡ isZeros n b i
@@ -240,14 +223,6 @@ module _ (b : List ℕ) (v n : ℕ) where
   unfolding Layout.headBytes
   label-room k ek e h = rw (e, ek, h) (omega arith)
 
-  pub laid-long : isLaidOut b v n ≡ true → length b ≡ blockBytes v n
-  unfolding Layout.isLaidOut
-  laid-long h = go (eqb (length b) (blockBytes v n)) refl
-    where
-      go : (x : Bool) → eqb (length b) (blockBytes v n) ≡ x → length b ≡ blockBytes v n
-      go true e = eqb-true (length b) (blockBytes v n) e
-      go false e = let f = rw e at h in let z : _≡_ {A = ℕ} 0 1 = cc in absurd (omega arith)
-
 module _ (b : List ℕ) where
   pub block-zero : getD b 0 0 ≡ 0 → false ≡ isBlock b
   unfolding Layout.isBlock
@@ -267,28 +242,8 @@ module _ (b : List ℕ) where
       unfolding Layout.isBlock
       block-laid a h ea = rw (ne-eqb (getD b 0 0) 0 z, ne-eqb (length b) 1 e, le-ltb mostEntries (getD b 1 0) h) ea
 
--- what a whole layout says
-pub record Laid (b : List ℕ) : Type 0 where
-  pub version : getD b 0 0 ≡ 0 → ⊥
-  pub few : getD b 1 0 ≤ mostEntries
-  pub long : length b ≡ blockBytes (getD b 0 0) (getD b 1 0)
-
-pub laid-of : (b : List ℕ) → isBlock b ≡ true → Laid b
-unfolding Layout.isBlock
-laid-of b h = go (eqb (getD b 0 0) 0) (eqb (length b) 1) (ltb mostEntries (getD b 1 0)) refl refl refl
-  where
-    go : (x y z : Bool) → eqb (getD b 0 0) 0 ≡ x → eqb (length b) 1 ≡ y → ltb mostEntries (getD b 1 0) ≡ z → Laid b
-    go true y z e f g = let c = rw e at h in let k : _≡_ {A = ℕ} 0 1 = cc in absurd (omega arith)
-    go false true z e f g = let c = rw (e, f) at h in let k : _≡_ {A = ℕ} 0 1 = cc in absurd (omega arith)
-    go false false true e f g = let c = rw (e, f, g) at h in let k : _≡_ {A = ℕ} 0 1 = cc in absurd (omega arith)
-    go false false false e f g = record {
-      version = eqb-false (getD b 0 0) 0 e;
-      few = ltb-false mostEntries (getD b 1 0) g;
-      long = laid-long b (getD b 0 0) (getD b 1 0) (rw (e, f, g) at h);
-    }
-
 pub block-least : (b : List ℕ) → isBlock b ≡ true → 4 ≤ length b
-block-least b h = let t = laid-of b h in omega (arith, t .long, head-least (getD b 0 0))
+block-least b h = laid-least b (laid-of b h)
 
 pub block-room : (b : List ℕ) (k : ℕ) → isBlock b ≡ true → k ≡ headBytes (getD b 0 0) → k + getD b 1 0 * 5 ≤ length b
 block-room b k h ek = let t = laid-of b h in rw ek (omega (arith, t .long))
@@ -306,17 +261,6 @@ module _ (b : List ℕ) (l d k : ℕ) (x y : Bool) (el : l ≡ getD b 2 0) (ed :
     pub bounds-names : (a : Bool) → y ≡ true → a ≡ namesDiffer (entriesFrom (getD b 1 0) b k) → a ≡ inBounds b
     unfolding Layout.inBounds
     bounds-names a g ea = rw (← el, ← ed, ← ex, h, ← ek, ← ey, g) ea
-
--- what values in range say
-pub bounds-in : (b : List ℕ) → inBounds b ≡ true → (startable (getD b 2 0) (getD b 3 0) ≡ true) × (areEntries (entriesOf b) ≡ true) × (namesDiffer (entriesOf b) ≡ true)
-unfolding Layout.inBounds
-bounds-in b h = go (startable (getD b 2 0) (getD b 3 0)) (areEntries (entriesOf b)) refl refl
-  where
-    go : (x y : Bool) → startable (getD b 2 0) (getD b 3 0) ≡ x → areEntries (entriesOf b) ≡ y
-        → (startable (getD b 2 0) (getD b 3 0) ≡ true) × (areEntries (entriesOf b) ≡ true) × (namesDiffer (entriesOf b) ≡ true)
-    go false y e f = let c = rw e at h in let k : _≡_ {A = ℕ} 0 1 = cc in absurd (omega arith)
-    go true false e f = let c = rw (e, f) at h in let k : _≡_ {A = ℕ} 0 1 = cc in absurd (omega arith)
-    go true true e f = (e, f, rw (e, f) at h)
 
 pub ruleset blocks = (
   laid-label,
@@ -377,50 +321,16 @@ module _ (f : List ℕ) (t : Trailer) (k : ℕ) (ek : k ≡ blockBytes (t .versi
     unfolding Layout.pointsBack
     points-begins b a g eb ea = rw (at-length, le-ltb (trailerPlace f) (t .distance) g, ← eb) ea
 
--- what a whole trailer says
-pub points-near : (f : List ℕ) (t : Trailer) → pointsBack f t ≡ true → t .distance ≤ trailerPlace f
-unfolding Layout.pointsBack
-points-near f t h = go (eqb (t .distance) (blockBytes (t .version) (t .count))) (ltb (trailerPlace f) (t .distance)) refl refl
-  where
-    go : (x y : Bool) → eqb (t .distance) (blockBytes (t .version) (t .count)) ≡ x → ltb (trailerPlace f) (t .distance) ≡ y → t .distance ≤ trailerPlace f
-    go false y e g = let c = rw e at h in let k : _≡_ {A = ℕ} 0 1 = cc in absurd (omega arith)
-    go true true e g = let c = rw (e, g) at h in let k : _≡_ {A = ℕ} 0 1 = cc in absurd (omega arith)
-    go true false e g = ltb-false (trailerPlace f) (t .distance) g
-
-pub trailer-near : (f : List ℕ) (t : Trailer) → isTrailer f t ≡ true → t .distance ≤ trailerPlace f
-unfolding Layout.isTrailer
-trailer-near f t h = go (eqb (t .version) 0) (ltb mostEntries (t .count)) refl refl
-  where
-    go : (x y : Bool) → eqb (t .version) 0 ≡ x → ltb mostEntries (t .count) ≡ y → t .distance ≤ trailerPlace f
-    go true y e g = let c = rw e at h in let k : _≡_ {A = ℕ} 0 1 = cc in absurd (omega arith)
-    go false true e g = let c = rw (e, g) at h in let k : _≡_ {A = ℕ} 0 1 = cc in absurd (omega arith)
-    go false false e g = points-near f t (rw (e, g) at h)
-
 -- x is what the code found of it
 pub trailer-room : (f : List ℕ) (t : Trailer) (x : Bool) → x ≡ isTrailer f t → x ≡ true → 4 ≤ length f → t .distance + 4 ≤ length f
-trailer-room f t x ex h l = omega (arith, trailer-near f t (sym ex ∙ h))
+trailer-room f t x ex h l = omega (arith, points-of f t (sym ex ∙ h) .near)
 
 -- what a good file says
-pub record Ends (f : List ℕ) : Type 0 where
-  pub long : 4 ≤ length f
-  pub whole : isTrailer f (trailerIn f) ≡ true
-  pub block : isGood (ofBlock (newest f)) ≡ true
-
-pub ends-of : (f : List ℕ) → isGood (ofFile f) ≡ true → Ends f
-unfolding Layout.ofFile Layout.isGood
-ends-of f h = go (ltb (length f) trailerBytes) (ltb ownVersion (trailerIn f .version)) (isTrailer f (trailerIn f)) refl refl refl
-  where
-    go : (x y z : Bool) → ltb (length f) trailerBytes ≡ x → ltb ownVersion (trailerIn f .version) ≡ y → isTrailer f (trailerIn f) ≡ z → Ends f
-    go true y z e g i = let c = rw e at h in let k : _≡_ {A = ℕ} 0 1 = cc in absurd (omega arith)
-    go false true z e g i = let c = rw (e, g) at h in let k : _≡_ {A = ℕ} 0 1 = cc in absurd (omega arith)
-    go false false false e g i = let c = rw (e, g, i) at h in let k : _≡_ {A = ℕ} 0 1 = cc in absurd (omega arith)
-    go false false true e g i = record { long = ltb-false (length f) trailerBytes e; whole = i; block = rw (e, g, i) at h }
-
 pub file-least : (f : List ℕ) → isGood (ofFile f) ≡ true → 4 ≤ length f
-file-least f h = ends-of f h .long
+file-least f h = ends-of f (good-is (ofFile f) h) .long
 
 pub file-room : (f : List ℕ) (t : Trailer) → isGood (ofFile f) ≡ true → t ≡ trailerIn f → t .distance + 4 ≤ length f
-file-room f t h e = let s = ends-of f h in rw e (trailer-room f (trailerIn f) true (sym (s .whole)) refl (s .long))
+file-room f t h e = let s = ends-of f (good-is (ofFile f) h) in rw e (trailer-room f (trailerIn f) true (sym (s .trailer)) refl (s .long))
 
 pub newest-is : (f b : List ℕ) (t : Trailer) → t ≡ trailerIn f → b ≡ back f (t .distance) → b ≡ newest f
 newest-is f b t et eb = rw (← et) eb
@@ -451,24 +361,6 @@ module _ (b : List ℕ) where
 
   pub block-is : (x : Bool) → x ≡ isBlock b → x ≡ true → isBlock b ≡ true
   block-is x ex h = sym ex ∙ h
-
--- what a good block says
-pub good-block : (b : List ℕ) → isGood (ofBlock b) ≡ true → (isBlock b ≡ true) × (inBounds b ≡ true)
-unfolding Layout.ofBlock Layout.isGood
-good-block b h = go (eqb (length b) 0) (ltb ownVersion (getD b 0 0)) (isBlock b) (inBounds b) refl refl refl refl
-  where
-    go : (x y z t : Bool) → eqb (length b) 0 ≡ x → ltb ownVersion (getD b 0 0) ≡ y → isBlock b ≡ z → inBounds b ≡ t → (isBlock b ≡ true) × (inBounds b ≡ true)
-    go true y z t e f i j = let c = rw e at h in let k : _≡_ {A = ℕ} 0 1 = cc in absurd (omega arith)
-    go false true z t e f i j = let c = rw (e, f) at h in let k : _≡_ {A = ℕ} 0 1 = cc in absurd (omega arith)
-    go false false false t e f i j = let c = rw (e, f, i) at h in let k : _≡_ {A = ℕ} 0 1 = cc in absurd (omega arith)
-    go false false true false e f i j = let c = rw (e, f, i, j) at h in let k : _≡_ {A = ℕ} 0 1 = cc in absurd (omega arith)
-    go false false true true e f i j = (i, j)
-
-pub good-long : (b : List ℕ) → isGood (ofBlock b) ≡ true → (4 ≤ length b) × (length b ≤ 87)
-good-long b h =
-    let g = good-block b h .0 in
-    let t = laid-of b g in
-    (block-least b g, omega (arith, t .long, t .few, head-most (getD b 0 0)))
 
 pub not-empty : (b : List ℕ) → (length b ≡ 0 → ⊥) → 1 ≤ length b
 not-empty b h = omega (arith, h)

@@ -14,9 +14,8 @@ use Rattle.model.specs.declared.Writing.{Writing}
 use Rattle.model.specs.declared.Writing.the-variants as Writing
 use Rattle.model.specs.Answer.{Outcome, noRoom}
 use Rattle.model.specs.Answer.Outcome.{gives}
-use Rattle.model.specs.Layout as Layout
-use Rattle.model.specs.Layout.{trailerBytes, ownVersion, isBlock, inBounds, isGood, ofBlock, ofFile}
-use Rattle.settings.proofs.Laws.{good-long}
+use Rattle.model.specs.Layout.{ofBlock, ofFile}
+use Rattle.laws.specs.Fits.{Laid, laid-least, laid-most, block-of, block-each}
 use Rattle.model.specs.Settings as Settings
 use Rattle.model.specs.Settings.{trailerFor, placeFor, newLength, written, weight, worse, ofUsed, writes, heedsBoth, writeSettings}
 
@@ -99,15 +98,8 @@ pub ruleset laying = (lay-is, trailer-is, no-room, written-is)
 -- ---- the call: u is the verdict of the file, w the worse of that and the block's
 -- what refuses has a number
 heavy : (b : List ℕ) → weight (ofBlock b) ≡ 0 → ofBlock b ≡ Good
-unfolding Layout.ofBlock Settings.weight
-heavy b h = go (eqb (length b) 0) (ltb ownVersion (getD b 0 0)) (isBlock b) (inBounds b) refl refl refl refl
-  where
-    go : (x y z t : Bool) → eqb (length b) 0 ≡ x → ltb ownVersion (getD b 0 0) ≡ y → isBlock b ≡ z → inBounds b ≡ t → ofBlock b ≡ Good
-    go true y z t e f i j = let c = rw e at h in absurd (omega arith)
-    go false true z t e f i j = let c = rw (e, f) at h in absurd (omega arith)
-    go false false false t e f i j = let c = rw (e, f, i) at h in absurd (omega arith)
-    go false false true false e f i j = let c = rw (e, f, i, j) at h in absurd (omega arith)
-    go false false true true e f i j = rw (e, f, i, j)
+unfolding Settings.weight
+heavy = block-each (λ v. weight v ≡ 0 → v ≡ Good) (λ h. refl) (λ h. absurd (omega arith)) (λ h. absurd (omega arith)) (λ v h. absurd (omega arith))
 
 worse-good : (u o : Fit) → worse u o ≡ Good → weight o ≡ 0
 unfolding Settings.worse Settings.weight
@@ -117,15 +109,14 @@ worse-good u o h = go (ltb (weight u) (weight o)) refl
     go true e = let c : o ≡ Good = rw e at h in ap weight c
     go false e = let c : u ≡ Good = rw e at h in let l = ltb-false (weight u) (weight o) e in omega (arith, ap weight c)
 
-pub good-is : (b : List ℕ) (u w : Fit) → w ≡ worse u (ofBlock b) → w ≡ Good → isGood (ofBlock b) ≡ true
-unfolding Layout.isGood
-good-is b u w ew h = rw (heavy b (worse-good u (ofBlock b) (sym ew ∙ h)))
+both-laid : (b : List ℕ) (u w : Fit) → w ≡ worse u (ofBlock b) → w ≡ Good → Laid b
+both-laid b u w ew h = block-of b (heavy b (worse-good u (ofBlock b) (sym ew ∙ h))) .laid
 
 pub good-least : (b : List ℕ) (u w : Fit) → w ≡ worse u (ofBlock b) → w ≡ Good → 2 ≤ length b
-good-least b u w ew h = let t = good-long b (good-is b u w ew h) in omega arith
+good-least b u w ew h = let t = laid-least b (both-laid b u w ew h) in omega arith
 
 pub good-most : (b : List ℕ) (u w : Fit) → w ≡ worse u (ofBlock b) → w ≡ Good → length b ≤ 255
-good-most b u w ew h = let t = good-long b (good-is b u w ew h) in omega arith
+good-most b u w ew h = let t = laid-most b (both-laid b u w ew h) in omega arith
 
 pub both-are : (f b : List ℕ) (u o w : Fit) → u ≡ ofUsed f → o ≡ ofBlock b → w ≡ worse u o → w ≡ worse (ofUsed f) (ofBlock b)
 both-are f b u o w eu eo ew = rw (← eu, ← eo) ew

@@ -3,12 +3,9 @@ use Prim.Native.Nat.{ℕ, _+_, _-_, _*_, _≤_, _<_}
 use mathlib.Core.Path.{_≡_, refl, sym, ap, _∙_}
 use mathlib.Core.Bool.{Bool, true, false}
 use mathlib.Core.List.{List, [], _∷_}
-use lib.Dec.{eqb, ltb, leb}
 use lib.ListN.{length, getD}
-use borrow.Author.Tests.{ltb-false, leb-false}
 use native.Mathlib.Omega.{arith}
 use Rattle.model.specs.declared.Entry.{Entry}
-use Rattle.model.specs.Map.{lastName, lastPriority, firstName, fourBits, lastAddress}
 use Rattle.model.specs.Page.{Taken}
 use Rattle.model.specs.Page.Taken.{took}
 use Rattle.model.specs.Layout as Layout
@@ -19,7 +16,8 @@ use Rattle.settings.specs.declared.entries.Cursor.{Cursor}
 use Rattle.settings.specs.declared.entries.Read.{Read}
 use Rattle.settings.specs.declared.entries.Read.the-variants as Read
 use Rattle.settings.specs.Cursors.{read}
-use Rattle.settings.proofs.Laws.{first-read, none-left, good-block, good-long, block-room, bounds-in}
+use Rattle.laws.specs.Fits.{Sets, block-of, entry-of, first-entry, good-is, laid-least}
+use Rattle.settings.proofs.Laws.{first-read, none-left}
 
 -- ---- one entry: p is the one that runs, q the page that it takes
 pub made-is : (m m₁ m₂ : Memory) (e : Entry) (p q : ℕ) → p ≡ running m → took q m₁ ≡ takePage m p
@@ -28,42 +26,17 @@ pub made-is : (m m₁ m₂ : Memory) (e : Entry) (p q : ℕ) → p ≡ running m
 unfolding Settings.made
 made-is m m₁ m₂ e p q ep eq e₂ = rw (← ep, ← eq) e₂
 
--- ---- an entry in range
-ranged-of : (e : Entry) → isEntry e ≡ true → (e .name < 16) × (e .priority < 16)
-unfolding Layout.isEntry Layout.isRanged
-ranged-of e h =
-    go (leb (e .name) firstName) (ltb lastName (e .name)) (eqb (e .priority) 0) (ltb lastPriority (e .priority)) refl refl refl refl
-  where
-    go : (x y z t : Bool) → leb (e .name) firstName ≡ x → ltb lastName (e .name) ≡ y → eqb (e .priority) 0 ≡ z → ltb lastPriority (e .priority) ≡ t
-        → (e .name < 16) × (e .priority < 16)
-    go true y z t a b c d = let f = rw a at h in let k : _≡_ {A = ℕ} 0 1 = cc in absurd (omega arith)
-    go false true z t a b c d = let f = rw (a, b) at h in let k : _≡_ {A = ℕ} 0 1 = cc in absurd (omega arith)
-    go false false true t a b c d = let f = rw (a, b, c) at h in let k : _≡_ {A = ℕ} 0 1 = cc in absurd (omega arith)
-    go false false false true a b c d = let f = rw (a, b, c, d) at h in let k : _≡_ {A = ℕ} 0 1 = cc in absurd (omega arith)
-    go false false false false a b c d =
-        let i = ltb-false lastName (e .name) b in
-        let j = ltb-false lastPriority (e .priority) d in
-        (omega arith, omega arith)
-
-entries-first : (e : Entry) (es : List Entry) → areEntries (e ∷ es) ≡ true → (isEntry e ≡ true) × (areEntries es ≡ true)
-unfolding Layout.areEntries
-entries-first e es h = go (isEntry e) refl
-  where
-    go : (x : Bool) → isEntry e ≡ x → (isEntry e ≡ true) × (areEntries es ≡ true)
-    go true q = (q, rw (q, areEntries) at h)
-    go false q = let f = rw (q, areEntries) at h in let k : _≡_ {A = ℕ} 0 1 = cc in absurd (omega arith)
-
 -- ---- so many entries from a cursor on, the first of which was read: r is what the reader answered
 module _ (b : List ℕ) (c d : Cursor) (r : Read) (e : Entry) (n : ℕ) (er : r ≡ read b c) (z : r ≡ Read.Has e d) (o : n ≡ 0 → ⊥) where
   module _ (g : areEntries (entriesFrom n b (c .at)) ≡ true) where
     both : (isEntry e ≡ true) × (areEntries (entriesFrom (n - 1) b (d .at)) ≡ true)
-    both = entries-first e (entriesFrom (n - 1) b (d .at)) (rw (first-read b c d r e n er z o) at g)
+    both = first-entry e (entriesFrom (n - 1) b (d .at)) (rw (first-read b c d r e n er z o) at g)
 
     pub name-small : e .name < 16
-    name-small = ranged-of e (both .0) .0
+    name-small = let t = entry-of e (both .0) .0 in omega (arith, t .names)
 
     pub priority-small : e .priority < 16
-    priority-small = ranged-of e (both .0) .1
+    priority-small = let t = entry-of e (both .0) .0 in omega (arith, t .priorities)
 
     pub good-on : areEntries (entriesFrom (n - 1) b (d .at)) ≡ true
     good-on = both .1
@@ -79,14 +52,17 @@ all-none b i n m z = rw (none-left b i n z)
 
 -- ---- the settings of a good block: k is where its entries begin
 module _ (b : List ℕ) (h : isGood (ofBlock b) ≡ true) where
+  sets : Sets b
+  sets = block-of b (good-is (ofBlock b) h)
+
   pub settings-least : 4 ≤ length b
-  settings-least = good-long b h .0
+  settings-least = laid-least b (sets .laid)
 
   pub settings-room : (k : ℕ) → k ≡ headBytes (getD b 0 0) → k + getD b 1 0 * 5 ≤ length b
-  settings-room k ek = block-room b k (good-block b h .0) ek
+  settings-room k ek = rw ek (omega (arith, sets .laid .long))
 
   pub settings-entries : (k : ℕ) → k ≡ headBytes (getD b 0 0) → areEntries (entriesFrom (getD b 1 0) b k) ≡ true
-  settings-entries k ek = rw ek (bounds-in b (good-block b h .1) .1)
+  settings-entries k ek = rw ek (sets .entries)
 
 pub settled-is : (b : List ℕ) (m m₁ m₂ : Memory) (k : ℕ) → m₁ ≡ started m (getD b 2 0) (getD b 3 0) → k ≡ headBytes (getD b 0 0)
     → m₂ ≡ allMade m₁ (entriesFrom (getD b 1 0) b k) → m₂ ≡ settled m b

@@ -6,3 +6,4 @@ pub mod Refuting
 pub mod Told
 pub mod Bursts
 pub mod Namesakes
+pub mod Settings

@@ -29,16 +29,22 @@ use Rattle.model.specs.Fault as Fault
 use Rattle.model.specs.Execute as Execute
 use Rattle.model.specs.Call as Call
 use Rattle.model.specs.Burst as Burst
+use Rattle.model.specs.Layout as Layout
+use Rattle.model.specs.Settings as Settings
 use Rattle.model.specs.declared.Registers.{Registers}
 use Rattle.model.specs.Store.{Store}
 use Rattle.model.specs.Address.{at, write}
-use Rattle.model.specs.Answer.{answerOf, memoryOf, numbers, heldNumbers, verdictNumbers}
+use Rattle.model.specs.Answer.{answerOf, memoryOf, numbers, heldNumbers, verdictNumbers, writingNumbers}
 use Rattle.model.specs.Call.{fresh, instruction, interrupt, readRegisters, setRegisters, judge}
 use Rattle.model.specs.Burst.{burst}
+use Rattle.model.specs.Settings.{fromSettings, writeSettings}
 
--- the seven calls with the numbers of their answers; `host` writes page 0 and unprotected words, `made` any; `has` looks at words
+-- the nine calls with the numbers of their answers, of settings written the buffer too; `host` writes page 0 and unprotected words, `made` any; `has` looks
+-- at words
 pub data Line : Type 0 where
   fresh-start : ℕ → ℕ → List ℕ → Line
+  settles : List ℕ → List ℕ → Line
+  stores : List ℕ → ℕ → List ℕ → List ℕ → List ℕ → Line
   step : List ℕ → Line
   signal : ℕ → ℕ → List ℕ → Line
   signals : List ℕ → List ℕ → Line
@@ -108,6 +114,11 @@ module _ (S : Store) where
   plays [] m = true
   plays (fresh-start l d ns ∷ cs) m =
       let o = fresh S m l d in elim (sameWords (numbers (answerOf o)) ns) [ true ↦ plays cs (memoryOf o) | false ↦ false ]
+  plays (settles f ns ∷ cs) m =
+      let o = fromSettings S m f in elim (sameWords (numbers (answerOf o)) ns) [ true ↦ plays cs (memoryOf o) | false ↦ false ]
+  plays (stores l u b ns k ∷ cs) m =
+      let o = writeSettings l u b in
+      elim (sameWords (writingNumbers (answerOf o)) ns) [ true ↦ elim (sameWords (memoryOf o) k) [ true ↦ plays cs m | false ↦ false ] | false ↦ false ]
   plays (step ns ∷ cs) m =
       let o = instruction S m in elim (sameWords (numbers (answerOf o)) ns) [ true ↦ plays cs (memoryOf o) | false ↦ false ]
   plays (signal k c ns ∷ cs) m =
