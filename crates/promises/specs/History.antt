@@ -1,5 +1,5 @@
--- What the kernel promises of mail and notices, on one page. `Run m h` says that the memory m comes from a fresh start by any calls, and any changes by the
--- host between them, and that h is the past: what was put to each processor and what it has read, in its present life, and which life sent the message of each
+-- What the kernel promises of mail and notices, on one page. `Run m h` says that the memory m comes from a fresh start, from settings or not, by any calls, and
+-- any changes by the host between them, and that h is the past: what was put to each processor and what it has read, in its present life, and which life sent the message of each
 -- page (history/specs/Lives.antt). What an
 -- instruction puts and reads is `mailed` (history/specs/Put.antt); a message as a value, mail or a notice, is a `Letter`; what waits for a processor is
 -- `waitingFor`, Q2 then Q1 (history/specs/Letter.antt). A processor is named by its page. Each statement is followed by its proof. Assumes nothing.
@@ -9,20 +9,24 @@ use mathlib.Core.Bool.{true, false}
 use mathlib.Core.List.{List, [], _∷_, _++_, map}
 use Prim.Native.Nat.{ℕ, suc, _+_, _≤_, _<_}
 use lib.ListN.{length, getD}
-use Rattle.model.specs.Map.{place, q1, headWords}
+use Rattle.model.specs.Map.{memorySize, place, q1, headWords}
 use Rattle.model.specs.Address.{wrapped}
 use Rattle.model.specs.Instruction.{smeCode, rmeCode, depCode}
+use Rattle.model.specs.declared.Fit.the-variants.{Good}
 use Rattle.model.specs.Fresh.{startable}
+use Rattle.model.specs.Layout.{isGood, ofFile}
 use Rattle.model.specs.Answer.{memoryOf}
 use Rattle.model.specs.Lists.{count}
-use Rattle.model.specs.Bytes.{instruction, processors, queue, running, name, at, unmarked, isNotice}
+use Rattle.model.specs.Bytes.{fromSettings, instruction, processors, queue, running, name, at, unmarked, isNotice}
+use Rattle.laws.specs.Words.{Small}
 use Rattle.laws.specs.Calls.{Act, Host, Reached, after, reached-sound}
-use Rattle.laws.specs.Calls.Act.{fresh-start}
+use Rattle.laws.specs.Calls.Act.{fresh-start, fresh-from}
 use Rattle.history.specs.Letter.{Letter, mailOf, ofSenderAndFlag, waitingFor}
 use Rattle.history.specs.Put.{nothing, of, mailed, puts, reads, codeRun, onlyNotices}
 use Rattle.history.specs.Went.{wentTo}
 use Rattle.history.specs.Whole.{instruction-lawful, instruction-written, instruction-one}
 use Rattle.history.specs.Traced.{About, Each, Origin, Stood, Turned}
+use Rattle.history.specs.Begin.{settings-empty}
 use Rattle.history.specs.Lives as Lives
 use Rattle.history.specs.Lives.{Past, Run, Living, Life, life, sentBy, noneYet, grown, mailBy, restarts, later, run-reached, reached-run, call-lawful}
 use Rattle.history.specs.Senders as Senders
@@ -69,6 +73,22 @@ fresh-begins-anew = Said.fresh-begins
 pub refused-fresh-keeps-the-past : {m : List ℕ} → Reached m → (h : Past) (line d : ℕ) → startable line d ≡ false → (p : ℕ) → Living m p
     → (later (fresh-start line d) m h .put p ≡ h .put p) × (later (fresh-start line d) m h .read p ≡ h .read p)
 refused-fresh-keeps-the-past {m} r = Said.refused-keeps (reached-sound m r)
+
+-- so does a fresh start from settings: it is one more beginning, of any memory of 8,192 words, after which nothing waits for anybody; a file that is refused
+-- keeps the old history
+pub settings-begin-a-history : (m f : List ℕ) → length m ≡ memorySize → Small m → ofFile f ≡ Good → Run (memoryOf (fromSettings m f)) noneYet
+settings-begin-a-history = Lives.Run.settle
+
+pub nothing-waits-then : (m f : List ℕ) → length m ≡ memorySize → Small m → ofFile f ≡ Good → (p : ℕ) → Living (memoryOf (fromSettings m f)) p
+    → waitingFor (memoryOf (fromSettings m f)) p ≡ []
+nothing-waits-then = settings-empty
+
+pub settings-begin-anew : (m : List ℕ) (h : Past) (f : List ℕ) → ofFile f ≡ Good → later (fresh-from f) m h ≡ noneYet
+settings-begin-anew = Said.settings-begin
+
+pub refused-settings-keep-the-past : {m : List ℕ} → Reached m → (h : Past) (f : List ℕ) → isGood (ofFile f) ≡ false → (p : ℕ) → Living m p
+    → (later (fresh-from f) m h .put p ≡ h .put p) × (later (fresh-from f) m h .read p ≡ h .read p)
+refused-settings-keep-the-past {m} r = Said.unsettled-keeps (reached-sound m r)
 
 -- ---- NOTICES TO A NAMESAKE (document 02, 3/13). A life is a page and the call in which it began: who is deleted and made again under its name is another
 -- life. `h .by x` is the life that sent the message of page x, `life h p` the one that p lives now. At every point of every run, of mail x that waits for a

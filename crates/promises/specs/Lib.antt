@@ -1,3 +1,4 @@
 pub mod Promises
+pub mod Settings
 pub mod History
 pub mod Steps

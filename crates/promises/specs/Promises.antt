@@ -1,6 +1,6 @@
 -- What the kernel promises of its calls, on one page. A memory is a list of words; `Small m` says that each is below 256, as every word of a lent slice is;
--- `Sound m` that there are 8,192 of them and that the judge accepts them; `Reached m` that m comes from a fresh start by any calls, and any changes of page 0
--- and of unprotected words by the host between them (laws/specs/Calls.antt). An answer is spoken of by document 01's numbers, `numbers`, `heldNumbers` and
+-- `Sound m` that there are 8,192 of them and that the judge accepts them; `Reached m` that m comes from a fresh start, from settings or not, by any calls, and
+-- any changes of page 0 and of unprotected words by the host between them (laws/specs/Calls.antt). An answer is spoken of by document 01's numbers, `numbers`, `heldNumbers` and
 -- `verdictNumbers` (model/specs/Answer.antt). Each statement is followed by its proof in the laws. Assumes nothing.
 use mathlib.Core.Path.{_≡_}
 use mathlib.Core.Logic.{_≢_, _⊎_}
@@ -14,13 +14,13 @@ use Rattle.model.specs.Fresh.{startable}
 use Rattle.model.specs.declared.Answer.the-variants.{Done}
 use Rattle.model.specs.Answer.Outcome.{gives}
 use Rattle.model.specs.Answer.{answerOf, memoryOf, numbers, heldNumbers, verdictNumbers, doneNumber, handedOutNumber, wrongLength}
-use Rattle.model.specs.Bytes.{judged, fresh, instruction, interrupt, burst, setRegisters, readRegisters, judge, running}
+use Rattle.model.specs.Bytes.{judged, fresh, fromSettings, instruction, interrupt, burst, setRegisters, readRegisters, judge, running}
 use Rattle.laws.specs.Words.{Small}
 use Rattle.laws.specs.Calls.{Sound, Host, Reached, fresh-starts, fresh-sound, instruction-sound, interrupt-sound, burst-sound, set-sound, host-sound}
-use Rattle.laws.specs.Calls.{reached-sound}
+use Rattle.laws.specs.Calls.{settings-sound, reached-sound}
 use Rattle.laws.specs.Numbers as Numbers
 use Rattle.laws.specs.Numbers.{told, toldHeld, toldVerdict, kind-numbers, Refuses, RefuseAll, Told, Class, Bad, sound-good, read-kept, judge-kept}
-use Rattle.laws.specs.Kinds.{instruction-kind, fresh-kind, interrupt-kind, burst-kind, set-kind}
+use Rattle.laws.specs.Kinds.{instruction-kind, fresh-kind, settings-kind, interrupt-kind, burst-kind, set-kind}
 use Rattle.laws.specs.Refusals.{firstRefusal, lastRefusal, kind-kept, kind-hands}
 use Rattle.laws.specs.Faulty.{Faulted, faulted}
 use Rattle.laws.specs.Bursts.{Comes, comes, empty-done}
@@ -28,19 +28,21 @@ use Rattle.laws.specs.UsedOnce.{asProcessor, asFree, asMessage, asGrant, used-o
 use Rattle.laws.specs.Witness.{example, example-reached, example-runs}
 
 -- ---- the numbers tell the answer: from them it can be had again, of every call, on any memory
-pub the-numbers-tell : (m l : List ℕ) (line d k c : ℕ) (r : Registers) → (told (numbers (answerOf (instruction m))) ≡ answerOf (instruction m))
+pub the-numbers-tell : (m l f : List ℕ) (line d k c : ℕ) (r : Registers) → (told (numbers (answerOf (instruction m))) ≡ answerOf (instruction m))
     × (told (numbers (answerOf (interrupt m k c))) ≡ answerOf (interrupt m k c))
     × (told (numbers (answerOf (burst m l))) ≡ answerOf (burst m l))
     × (told (numbers (answerOf (setRegisters m r))) ≡ answerOf (setRegisters m r))
     × (told (numbers (answerOf (fresh m line d))) ≡ answerOf (fresh m line d))
+    × (told (numbers (answerOf (fromSettings m f))) ≡ answerOf (fromSettings m f))
     × (toldHeld (heldNumbers (answerOf (readRegisters m))) ≡ answerOf (readRegisters m))
     × (toldVerdict (verdictNumbers (answerOf (judge m))) ≡ answerOf (judge m))
-the-numbers-tell m l line d k c r = (
+the-numbers-tell m l f line d k c r = (
   kind-numbers (instruction m) (instruction-kind m),
   kind-numbers (interrupt m k c) (interrupt-kind m k c),
   kind-numbers (burst m l) (burst-kind m l),
   kind-numbers (setRegisters m r) (set-kind m r),
   kind-numbers (fresh m line d) (fresh-kind m line d),
+  kind-numbers (fromSettings m f) (settings-kind m f),
   Numbers.read-told m,
   Numbers.judge-told m,
 )
@@ -48,24 +50,25 @@ the-numbers-tell m l line d k c r = (
 -- ---- a memory of the wrong length is refused with 20 by every call; it comes back untouched
 pub wrong-length-refused : (m : List ℕ) → length m ≢ memorySize
     → RefuseAll m (wrongLength ∷ []) × ((line d : ℕ) → Refuses numbers (fresh m line d) (wrongLength ∷ []) m)
-wrong-length-refused m n = (Numbers.length-refused m n, Numbers.fresh-length m n)
+    × ((f : List ℕ) → Refuses numbers (fromSettings m f) (wrongLength ∷ []) m)
+wrong-length-refused m n = (Numbers.length-refused m n, Numbers.fresh-length m n, Numbers.settings-length m n)
 
--- ---- "Say what is broken". One that the judge of document 01 refuses is refused by every call but fresh with a class and an address, and comes back
+-- ---- "Say what is broken". One that the judge of document 01 refuses is refused by every call but the two fresh starts with a class and an address, and comes back
 -- untouched: `Told`. `Offends` says which (laws/specs/Findings.antt): the class is one of 30-34; the address offends in its class, and is the lowest that
 -- does; nothing offends in the classes before. What offends is the table, model/specs/Classes.antt
 pub broken-refused : (m : List ℕ) → length m ≡ memorySize → judged m ≡ false → Told m
 broken-refused = Numbers.broken-refused
 
--- "Together the five are given exactly where 21 was": an answer of that form comes of such a memory only, and of fresh never
-pub told-nowhere-else : (m l : List ℕ) (line d n c : ℕ) (r : Registers) (k a : ℕ) → Class k
+-- "Together the five are given exactly where 21 was": an answer of that form comes of such a memory only, and of a fresh start never
+pub told-nowhere-else : (m l f : List ℕ) (line d n c : ℕ) (r : Registers) (k a : ℕ) → Class k
     → (numbers (answerOf (instruction m)) ≡ k ∷ a ∷ [] → Bad m)
     × (numbers (answerOf (interrupt m n c)) ≡ k ∷ a ∷ [] → Bad m)
     × (numbers (answerOf (burst m l)) ≡ k ∷ a ∷ [] → Bad m)
     × (numbers (answerOf (setRegisters m r)) ≡ k ∷ a ∷ [] → Bad m)
     × (heldNumbers (answerOf (readRegisters m)) ≡ k ∷ a ∷ [] → Bad m)
     × (verdictNumbers (answerOf (judge m)) ≡ k ∷ a ∷ [] → Bad m)
-    × (numbers (answerOf (fresh m line d)) ≢ k ∷ a ∷ [])
-told-nowhere-else m l line d n c r k a t = (
+    × (numbers (answerOf (fresh m line d)) ≢ k ∷ a ∷ []) × (numbers (answerOf (fromSettings m f)) ≢ k ∷ a ∷ [])
+told-nowhere-else m l f line d n c r k a t = (
   Numbers.instruction-bad m t,
   Numbers.interrupt-bad m t n c,
   Numbers.burst-bad m t l,
@@ -73,6 +76,7 @@ told-nowhere-else m l line d n c r k a t = (
   Numbers.read-bad m t,
   Numbers.judge-bad m t,
   Numbers.fresh-never m t line d,
+  Numbers.settings-never m t f,
 )
 
 -- fresh takes it, whatever it holds
@@ -80,18 +84,20 @@ pub fresh-takes-any : (m : List ℕ) → length m ≡ memorySize → (line d : �
 fresh-takes-any = Numbers.fresh-takes
 
 -- ---- "Refusals leave all memory untouched": each call, each number 20-34 with whatever values, any memory; reading and judging never write
-pub refusal-keeps : (m l : List ℕ) (line d n c : ℕ) (r : Registers) (k : ℕ) (ns : List ℕ) → firstRefusal ≤ k → k ≤ lastRefusal
+pub refusal-keeps : (m l f : List ℕ) (line d n c : ℕ) (r : Registers) (k : ℕ) (ns : List ℕ) → firstRefusal ≤ k → k ≤ lastRefusal
     → (numbers (answerOf (instruction m)) ≡ k ∷ ns → memoryOf (instruction m) ≡ m)
     × (numbers (answerOf (interrupt m n c)) ≡ k ∷ ns → memoryOf (interrupt m n c) ≡ m)
     × (numbers (answerOf (burst m l)) ≡ k ∷ ns → memoryOf (burst m l) ≡ m)
     × (numbers (answerOf (setRegisters m r)) ≡ k ∷ ns → memoryOf (setRegisters m r) ≡ m)
     × (numbers (answerOf (fresh m line d)) ≡ k ∷ ns → memoryOf (fresh m line d) ≡ m)
-refusal-keeps m l line d n c r k ns i j = (
+    × (numbers (answerOf (fromSettings m f)) ≡ k ∷ ns → memoryOf (fromSettings m f) ≡ m)
+refusal-keeps m l f line d n c r k ns i j = (
   kind-kept (instruction m) (instruction-kind m) k ns i j,
   kind-kept (interrupt m n c) (interrupt-kind m n c) k ns i j,
   kind-kept (burst m l) (burst-kind m l) k ns i j,
   kind-kept (setRegisters m r) (set-kind m r) k ns i j,
   kind-kept (fresh m line d) (fresh-kind m line d) k ns i j,
+  kind-kept (fromSettings m f) (settings-kind m f) k ns i j,
 )
 
 pub read-and-judge-keep : (m : List ℕ) → (memoryOf (readRegisters m) ≡ m) × (memoryOf (judge m) ≡ m)
@@ -122,10 +128,11 @@ an-empty-burst m s j = empty-done (record { size = s; accepted = j })
 pub fresh-well-formed : {m : List ℕ} → length m ≡ memorySize → Small m → (line d : ℕ) → startable line d ≡ true → Sound (memoryOf (fresh m line d))
 fresh-well-formed = fresh-starts
 
-pub calls-keep : {m : List ℕ} → Sound m → (l : List ℕ) (line d k c : ℕ) (r : Registers)
+pub calls-keep : {m : List ℕ} → Sound m → (l f : List ℕ) (line d k c : ℕ) (r : Registers)
     → Sound (memoryOf (instruction m)) × Sound (memoryOf (interrupt m k c)) × Sound (memoryOf (burst m l)) × Sound (memoryOf (setRegisters m r))
-    × Sound (memoryOf (fresh m line d))
-calls-keep h l line d k c r = (instruction-sound h, interrupt-sound h k c, burst-sound h l, set-sound h r, fresh-sound h line d)
+    × Sound (memoryOf (fresh m line d)) × Sound (memoryOf (fromSettings m f))
+calls-keep h l f line d k c r =
+    (instruction-sound h, interrupt-sound h k c, burst-sound h l, set-sound h r, fresh-sound h line d, settings-sound h f)
 
 pub host-keeps : {m m′ : List ℕ} → Host m m′ → Sound m → Sound m′
 host-keeps = host-sound
