@@ -1,4 +1,5 @@
 // The script program: runs a script, from standard input or from a file, on one memory and prints what came of it.
+mod files;
 mod input;
 mod memory;
 mod orders;

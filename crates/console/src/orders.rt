@@ -1,5 +1,7 @@
 // The orders of a script, each on the program's 8,200 words m, of which a call is lent the first `lent`. What an order prints goes to the output,
 // behind the bytes that are kept there.
+use crate::files::settings;
+use crate::files::write_settings;
 use crate::memory::After;
 use crate::memory::changes;
 use crate::memory::lend;
@@ -175,6 +177,8 @@ pub fn obey(
         Order::Put(address, count) => put(m, output, kept, given, address, count),
         Order::Break(address, count) => put_anywhere(m, output, kept, given, address, count),
         Order::Length(wanted) => return lend(output, kept, lent, wanted),
+        Order::Settings(address, long) => settings(m, lent, output, kept, address, long),
+        Order::Write(wanted) => write_settings(m, output, kept, wanted),
         Order::Words(address, count) => look(m, output, kept, address, count),
         Order::Changes => changes(m, old, output, kept),
         Order::Show => show(m, lent, output, kept),

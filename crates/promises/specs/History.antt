@@ -1,8 +1,8 @@
 -- What the kernel promises of mail and notices, on one page. `Run m h` says that the memory m comes from a fresh start, from settings or not, by any calls, and
--- any changes by the host between them, and that h is the past: what was put to each processor and what it has read, in its present life, and which life sent the message of each
--- page (history/specs/Lives.antt). What an
--- instruction puts and reads is `mailed` (history/specs/Put.antt); a message as a value, mail or a notice, is a `Letter`; what waits for a processor is
--- `waitingFor`, Q2 then Q1 (history/specs/Letter.antt). A processor is named by its page. Each statement is followed by its proof. Assumes nothing.
+-- any changes by the host between them, and that h is the past: what was put to each processor and what it has read, in its present life, and which life
+-- sent the message of each page (history/specs/Lives.antt). What an instruction puts and reads is `mailed` (history/specs/Put.antt); a message as a value,
+-- mail or a notice, is a `Letter`; what waits for a processor is `waitingFor`, Q2 then Q1 (history/specs/Letter.antt). A processor is named by its page.
+-- Each statement is followed by its proof. Assumes nothing.
 use mathlib.Core.Path.{_≡_}
 use mathlib.Core.Logic.{_≢_, _⊎_}
 use mathlib.Core.Bool.{true, false}

@@ -8,6 +8,7 @@ use model::Answer;
 use model::Held;
 use model::Registers;
 use model::Verdict;
+use model::Writing;
 ghost use mathlib.Core.Path.{_≡_};
 ghost use Prim.Native.Nat.{_≤_, _+_, _*_};
 ghost use lib.ListN.{length};
@@ -127,6 +128,26 @@ pub fn verdict(output: &mut [u8], kept: usize, given: Verdict) -> usize
         Verdict::WellFormed => text(output, kept, b"well-formed\n"),
         Verdict::Refused(n) => refused(output, kept, n),
         Verdict::RefusedAt(n, place) => refused_at(output, kept, n, place),
+    }
+}
+
+fn written(output: &mut [u8], kept: usize, long: usize) -> usize
+    requires { ⌜ kept + lineRoom ≤ length (now output) ⌝ }
+    ensures { λ r. ⌜ r ≤ length (now (output .entry)) ⌝ }
+{
+    let begun = text(output, kept, b"written ");
+    let told = number(output, begun, long as u64);
+    text(output, told, b"\n")
+}
+
+pub fn writing(output: &mut [u8], kept: usize, given: Writing) -> usize
+    requires { ⌜ kept + lineRoom ≤ length (now output) ⌝ }
+    ensures { λ r. ⌜ r ≤ length (now (output .entry)) ⌝ }
+{
+    match given {
+        Writing::Written(long) => written(output, kept, long),
+        Writing::Refused(n) => refused(output, kept, n),
+        Writing::RefusedAt(n, version) => refused_at(output, kept, n, version),
     }
 }
 

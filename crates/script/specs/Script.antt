@@ -6,10 +6,11 @@ use lib.ListN.{length, getD, set}
 use lib.Dec.{eqb, ltb, leb}
 use Rattle.script.specs.Sizes.{longestLine, largestNumber, noNumber, mostStored, mostNumbers, wrongNumbers, space, sharp, digit0, digit9}
 use Rattle.script.specs.declared.Seven.{Seven}
+use Rattle.script.specs.declared.Five.{Five}
 use Rattle.script.specs.declared.reading.Figures.{Figures}
 use Rattle.script.specs.declared.Order.{Order}
 use Rattle.script.specs.declared.Order.the-variants.{Nothing, NotUnderstood, Fresh, Step, Interrupt, Burst, Registers, Set, Judge}
-use Rattle.script.specs.declared.Order.the-variants.{Put, Break, Length, Words, Changes, Show}
+use Rattle.script.specs.declared.Order.the-variants.{Put, Break, Length, Settings, Write, Words, Changes, Show}
 
 -- "Words in a line are parted by spaces": the place after those from a on, with n characters left
 unfoldable pub skip : ℕ → List ℕ → ℕ → ℕ
@@ -104,6 +105,15 @@ registers v = record {
   w = getD v 6 0;
 }
 
+unfoldable pub partsWritten : List ℕ → Five
+partsWritten v = record {
+  file = getD v 0 0;
+  room = getD v 1 0;
+  used = getD v 2 0;
+  block = getD v 3 0;
+  length = getD v 4 0;
+}
+
 -- "1 to 32 values"; "`put` and `break` with no value, or with more than 32, are not understood"
 unfoldable pub values : ℕ → ℕ
 values n = cond (ltb n 2) 0 (cond (ltb mostStored n) 0 (n - 1))
@@ -152,6 +162,14 @@ is-break s a e = isWord s a e (98 ∷ 114 ∷ 101 ∷ 97 ∷ 107 ∷ [])
 abbrev pub is-length : List ℕ → ℕ → ℕ → Bool
 is-length s a e = isWord s a e (108 ∷ 101 ∷ 110 ∷ 103 ∷ 116 ∷ 104 ∷ [])
 
+-- "settings"
+abbrev pub is-settings : List ℕ → ℕ → ℕ → Bool
+is-settings s a e = isWord s a e (115 ∷ 101 ∷ 116 ∷ 116 ∷ 105 ∷ 110 ∷ 103 ∷ 115 ∷ [])
+
+-- "write"
+abbrev pub is-write : List ℕ → ℕ → ℕ → Bool
+is-write s a e = isWord s a e (119 ∷ 114 ∷ 105 ∷ 116 ∷ 101 ∷ [])
+
 -- "words"
 abbrev pub is-words : List ℕ → ℕ → ℕ → Bool
 is-words s a e = isWord s a e (119 ∷ 111 ∷ 114 ∷ 100 ∷ 115 ∷ [])
@@ -170,11 +188,16 @@ hostOrder s a e v n =
     cond (is-words s a e) (counted (Words (getD v 0 0) (getD v 1 0)) n 2)
     (cond (is-changes s a e) (counted Changes n 0) (cond (is-show s a e) (counted Show n 0) NotUnderstood))
 
+unfoldable pub fileOrder : List ℕ → ℕ → ℕ → List ℕ → ℕ → Order
+fileOrder s a e v n =
+    cond (is-settings s a e) (counted (Settings (getD v 0 0) (getD v 1 0)) n 2)
+    (cond (is-write s a e) (counted (Write (partsWritten v)) n 5) (hostOrder s a e v n))
+
 unfoldable pub storeOrder : List ℕ → ℕ → ℕ → List ℕ → ℕ → Order
 storeOrder s a e v n =
     cond (is-put s a e) (valued (Put (getD v 0 0) (values n)) (values n))
     (cond (is-break s a e) (valued (Break (getD v 0 0) (values n)) (values n))
-    (cond (is-length s a e) (counted (Length (getD v 0 0)) n 1) (hostOrder s a e v n)))
+    (cond (is-length s a e) (counted (Length (getD v 0 0)) n 1) (fileOrder s a e v n)))
 
 unfoldable pub lookOrder : List ℕ → ℕ → ℕ → List ℕ → ℕ → Order
 lookOrder s a e v n =

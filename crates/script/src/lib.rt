@@ -1,5 +1,5 @@
 // A line of a script: a word and the numbers behind it. What each function answers is said in specs/Script.antt.
-mod reading;
+pub mod reading;
 pub mod sizes;
 
 use reading::ends;
@@ -25,6 +25,15 @@ pub struct Seven {
     pub w: u16,
 }
 
+// The five numbers of `write`.
+pub struct Five {
+    pub file: u16,
+    pub room: u16,
+    pub used: u16,
+    pub block: u16,
+    pub length: u16,
+}
+
 // What a line asks for. The values of Put and Break, as many as their second number says, and those of Burst stand beside it.
 pub enum Order {
     Nothing,
@@ -39,6 +48,8 @@ pub enum Order {
     Put(u16, usize),
     Break(u16, usize),
     Length(u16),
+    Settings(u16, u16),
+    Write(Five),
     Words(u16, u16),
     Changes,
     Show,
@@ -113,6 +124,19 @@ fn registers(given: &[u16]) -> Seven
     }
 }
 
+fn parts_written(given: &[u16]) -> Five
+    requires { ⌜ length (now given) ≡ mostNumbers ⌝ }
+    ensures { λ r. ⌜ r ≡ Script.partsWritten (now (given .entry)) ⌝ }
+{
+    Five {
+        file: given[0],
+        room: given[1],
+        used: given[2],
+        block: given[3],
+        length: given[4],
+    }
+}
+
 // The orders by their words; the line has one between two places, `given` has the numbers behind it, so many.
 fn host_order(line: &[u8], at: usize, end: usize, given: &[u16], count: usize) -> Order
     requires { ⌜ (at ≤ end) × (end ≤ length (now line)) × (length (now given) ≡ mostNumbers) ⌝ }
@@ -130,6 +154,23 @@ fn host_order(line: &[u8], at: usize, end: usize, given: &[u16], count: usize) -
     Order::NotUnderstood
 }
 
+fn file_order(line: &[u8], at: usize, end: usize, given: &[u16], count: usize) -> Order
+    requires { ⌜ (at ≤ end) × (end ≤ length (now line)) × (length (now given) ≡ mostNumbers) ⌝ }
+    ensures { λ r. ⌜ r ≡ Script.fileOrder (now (line .entry)) at end (now (given .entry)) count ⌝ }
+{
+    if is_word(line, at, end, b"settings") {
+        return counted(Order::Settings(given[0], given[1]), count, 2);
+    }
+    if is_word(line, at, end, b"write") {
+        return counted(
+            Order::Write(parts_written(given)),
+            count,
+            sizes::WRITE_NUMBERS,
+        );
+    }
+    host_order(line, at, end, given, count)
+}
+
 fn store_order(line: &[u8], at: usize, end: usize, given: &[u16], count: usize) -> Order
     requires { ⌜ (at ≤ end) × (end ≤ length (now line)) × (length (now given) ≡ mostNumbers) ⌝ }
     ensures { λ r. ⌜ r ≡ Script.storeOrder (now (line .entry)) at end (now (given .entry)) count ⌝ }
@@ -144,7 +185,7 @@ fn store_order(line: &[u8], at: usize, end: usize, given: &[u16], count: usize) 
     if is_word(line, at, end, b"length") {
         return counted(Order::Length(given[0]), count, 1);
     }
-    host_order(line, at, end, given, count)
+    file_order(line, at, end, given, count)
 }
 
 fn look_order(line: &[u8], at: usize, end: usize, given: &[u16], count: usize) -> Order

@@ -101,7 +101,7 @@ fn more(value: u32, digit: u8) -> u32
 }
 
 // The digits from `at` on, behind those whose value is known; `left` characters are left.
-fn digits(line: &[u8], at: usize, left: usize, value: u32) -> Figures
+pub fn digits(line: &[u8], at: usize, left: usize, value: u32) -> Figures
     requires { ⌜ (at + left ≡ length (now line)) × (value ≤ noNumber) ⌝ }
     ensures { λ r. ⌜ (r ≡ Script.digits left (now (line .entry)) at value) × (r .next ≤ length (now (line .entry))) ⌝ }
 {

@@ -21,3 +21,6 @@ pub const WRONG_NUMBERS: usize = 126;
 
 // `set A S P Z CI LR W`.
 pub const SET_NUMBERS: usize = 7;
+
+// `write FILE ROOM USED BLOCK LENGTH`.
+pub const WRITE_NUMBERS: usize = 5;

@@ -1,0 +1,13 @@
+use borrow.Author.Needs.{needs}
+use Rattle.sheet.proofs.Laws.{bytes}
+use Rattle.sheet.proofs.building.take_byte.Statement.{statement}
+use Rattle.sheet.proofs.building.take_byte.Tie as tie
+
+pub take-byte-spec : {M : Type 1} → statement M
+take-byte-spec = tie.close (tie.spec
+    (λ c κs. search needs)
+    (λ c. search (needs, bytes))
+    (λ c. search needs)
+    (λ c κs. search needs)
+    (λ c. search needs)
+    (λ c. search (needs, bytes)))

@@ -1,0 +1,14 @@
+use borrow.Author.Needs.{needs}
+use Rattle.sheet.proofs.Laws.{bytes}
+use Rattle.sheet.proofs.building.take_version.Statement.{statement}
+use Rattle.sheet.proofs.building.take_version.Tie as tie
+
+pub take-version-spec : {M : Type 1} → statement M
+take-version-spec = tie.close (tie.spec
+    (λ c κs. search needs)
+    (λ c. search (needs, bytes))
+    (λ c. search needs)
+    (λ c κs. search needs)
+    (λ c κs. search needs)
+    (λ c. search needs)
+    (λ c. search (needs, bytes)))

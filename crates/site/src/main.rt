@@ -1,0 +1,4 @@
+// The technician's program.
+fn main() {
+    sheet::start();
+}
