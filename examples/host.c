@@ -1,5 +1,6 @@
 /* A small weighbridge house: a ledger, a scale reader and a barrier as three virtual processors on one memory. The host writes the settings of the site,
- * starts from them, loads the programs, delivers the interrupts of a night and prints what the ledger was sent. The program in words is that of examples/harvest-night.script, without its twelve desks.
+ * starts from them, loads the programs, delivers the interrupts of a night and prints what the ledger was sent. The program in words is that of
+ * examples/harvest-night.script, without its twelve desks.
  * Build and run: ./host examples/host.c */
 #include <stdio.h>
 #include <stdlib.h>

@@ -17,8 +17,9 @@
  * PROMISES, of every call:
  *   - A refusal leaves every word and every byte as it was.
  *   - A memory whose length is not 8,192 is refused with 20, by every call that is lent one.
- *   - A memory that is not well-formed is refused with 30, 31, 32, 33 or 34 and an address, by every call but wik_fresh and
- *     wik_fresh_from_settings. From an accepted one of these two on, none of the five comes, as long as the host writes only page 0 (words 0-31) and words that are not protected (all but 0-15, 128-351 and 7552-8191).
+ *   - A memory that is not well-formed is refused with 30, 31, 32, 33 or 34 and an address, by every call but wik_fresh and wik_fresh_from_settings. From
+ *     an accepted one of these two on, none of the five comes, as long as the host writes only page 0 (words 0-31) and words that are not protected (all
+ *     but 0-15, 128-351 and 7552-8191).
  *   - Answer and memory are exactly those of the definitions in crates/model/specs.
  */
 #ifndef WIK_H
