@@ -1,4 +1,4 @@
--- What `settings` and `write` lend to their calls, and what is left of the words m then: "Both take the bytes from the 8,200 words, whatever the lent length, by
+-- What `settings` and `write` lend to their calls, and what becomes of the words m: "Both take the bytes from the 8,200 words, whatever the lent length, by
 -- copying them out first; `write` copies the buffer back." Then: what is copied back changes just its own words.
 use Prim.Native.Nat.{ℕ, _+_, _≤_}
 use native.Mathlib.Omega.{arith}

@@ -16,8 +16,9 @@ use Rattle.model.specs.Answer.{Outcome, answerOf, memoryOf, doneNumber, waitsNu
 use Rattle.model.specs.Answer.Outcome.{gives}
 use Rattle.model.specs.Bytes.{Memory}
 use Rattle.host.specs.Encoded as Encoded
-use Rattle.host.specs.Encoded.{encoded, encodedHeld, encodedVerdict, encodedWriting, lowPart, packed, handed-sum, fault-sum, refused-sum, held-sum, held-refused-sum}
-use Rattle.host.specs.Encoded.{verdict-refused-sum, refused-at-sum, held-refused-at-sum, verdict-refused-at-sum, writing-refused-sum, writing-refused-at-sum}
+use Rattle.host.specs.Encoded.{encoded, encodedHeld, encodedVerdict, encodedWriting, lowPart, packed, handed-sum, fault-sum, refused-sum, held-sum}
+use Rattle.host.specs.Encoded.{held-refused-sum, verdict-refused-sum, refused-at-sum, held-refused-at-sum, verdict-refused-at-sum}
+use Rattle.host.specs.Encoded.{writing-refused-sum, writing-refused-at-sum}
 
 module _ {A : Type 0} (code : A → ℕ) where
   answers : (o : Outcome A Memory) (a : A) (m : Memory) (r : ℕ) → gives a m ≡ o → r ≡ code a → r ≡ code (answerOf o)

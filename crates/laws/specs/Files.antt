@@ -279,7 +279,8 @@ module _ (l : List ℕ) (used : ℕ) (b : List ℕ) where
       go true h = rw h
       go false h = absurd (n (sym (first-number (rw h at e))))
 
-  pub write-kept : (k : ℕ) (ns : List ℕ) → k ≢ writtenNumber → writingNumbers (answerOf (writeSettings l used b)) ≡ k ∷ ns → memoryOf (writeSettings l used b) ≡ l
+  pub write-kept : (k : ℕ) (ns : List ℕ) → k ≢ writtenNumber → writingNumbers (answerOf (writeSettings l used b)) ≡ k ∷ ns
+      → memoryOf (writeSettings l used b) ≡ l
   unfolding Settings.writeSettings Answer.writingNumbers Answer.answerOf Answer.memoryOf
   write-kept k ns n e = go (ltb (length l) used) (worse (ofUsed (take used l)) (ofBlock b)) refl refl
     where

@@ -16,8 +16,9 @@ use Rattle.model.specs.declared.Fit.the-variants.{Good, Refused, RefusedAt}
 use Rattle.model.specs.Answer.{brokenLayout, outOfRange, tooNew}
 use Rattle.model.specs.Fresh.{startable}
 use Rattle.model.specs.Layout as Layout
-use Rattle.model.specs.Layout.{areEntries, back, bears, blockBytes, countOf, dividerOf, entriesFrom, entriesOf, entryBytes, headBytes, inBounds, isBlock, isEntry, isGood}
-use Rattle.model.specs.Layout.{isLaidOut, isTrailer, trailerPlace, lineOf, mostEntries, namesDiffer, newest, ofBlock, ofFile, ownVersion, trailerBytes, trailerIn, versionOf}
+use Rattle.model.specs.Layout.{areEntries, back, bears, blockBytes, countOf, dividerOf, entriesFrom, entriesOf, entryBytes, headBytes, inBounds, isBlock}
+use Rattle.model.specs.Layout.{isEntry, isGood, isLaidOut, isTrailer, lineOf, mostEntries, namesDiffer, newest, ofBlock, ofFile, ownVersion, trailerBytes}
+use Rattle.model.specs.Layout.{trailerIn, trailerPlace, versionOf}
 use Rattle.laws.specs.Words.{either}
 
 -- ---- good, or 29 with a version, 28, 26

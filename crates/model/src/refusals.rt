@@ -1,6 +1,6 @@
 // Refusals and faults: "20 length not 8,192; .. 22 idle; 23 word at LR not 224; 24 interrupt not 16-50; 25 class number over 31, or nonzero below
-// 48; 26 fresh or register value out of range"; "A longer or odd list is refused by 27"; "a version above the reader's own is refused by 29 with that version, any
-// other break of layout .. by 28", "by 35 if the lent buffer is too short"; "30 a control page used twice or not at all, 31 a wait
+// 48; 26 fresh or register value out of range"; "A longer or odd list is refused by 27"; "a version above the reader's own is refused by 29 with that
+// version, any other break of layout .. by 28", "by 35 if the lent buffer is too short"; "30 a control page used twice or not at all, 31 a wait
 // queue or semaphore, 32 a processor or message record, 33 the code or error table, 34 counters and the running entry".
 pub const WRONG_LENGTH: u8 = 20;
 

@@ -1,7 +1,7 @@
 -- What the kernel promises of its calls, on one page. A memory is a list of words; `Small m` says that each is below 256, as every word of a lent slice is;
 -- `Sound m` that there are 8,192 of them and that the judge accepts them; `Reached m` that m comes from a fresh start, from settings or not, by any calls, and
--- any changes of page 0 and of unprotected words by the host between them (laws/specs/Calls.antt). An answer is spoken of by document 01's numbers, `numbers`, `heldNumbers` and
--- `verdictNumbers` (model/specs/Answer.antt). Each statement is followed by its proof in the laws. Assumes nothing.
+-- any changes of page 0 and of unprotected words by the host between them (laws/specs/Calls.antt). An answer is spoken of by document 01's numbers, `numbers`,
+-- `heldNumbers` and `verdictNumbers` (model/specs/Answer.antt). Each statement is followed by its proof in the laws. Assumes nothing.
 use mathlib.Core.Path.{_≡_}
 use mathlib.Core.Logic.{_≢_, _⊎_}
 use mathlib.Core.Bool.{true, false}
@@ -53,9 +53,9 @@ pub wrong-length-refused : (m : List ℕ) → length m ≢ memorySize
     × ((f : List ℕ) → Refuses numbers (fromSettings m f) (wrongLength ∷ []) m)
 wrong-length-refused m n = (Numbers.length-refused m n, Numbers.fresh-length m n, Numbers.settings-length m n)
 
--- ---- "Say what is broken". One that the judge of document 01 refuses is refused by every call but the two fresh starts with a class and an address, and comes back
--- untouched: `Told`. `Offends` says which (laws/specs/Findings.antt): the class is one of 30-34; the address offends in its class, and is the lowest that
--- does; nothing offends in the classes before. What offends is the table, model/specs/Classes.antt
+-- ---- "Say what is broken". One that the judge of document 01 refuses is refused by every call but the two fresh starts with a class and an address, and
+-- comes back untouched: `Told`. `Offends` says which (laws/specs/Findings.antt): the class is one of 30-34; the address offends in its class, and is the
+-- lowest that does; nothing offends in the classes before. What offends is the table, model/specs/Classes.antt
 pub broken-refused : (m : List ℕ) → length m ≡ memorySize → judged m ≡ false → Told m
 broken-refused = Numbers.broken-refused
 

@@ -23,9 +23,9 @@ use Rattle.laws.specs.Settle.{FromSettings, from-settings, settled-lr}
 use Rattle.laws.specs.Files as Files
 use Rattle.laws.specs.Files.{filed, Sample, toldWriting}
 
--- ---- "A fresh start from settings equals fresh followed by creation of the entries in order, processor 1's LR staying." On any memory of 8,192 words, whatever
--- it holds, a good file is taken: `FromSettings` (laws/specs/Settle.antt) has the memory that the fresh start with the file's line and divider leaves, and the
--- one that the call leaves. From the first to the second leads CRP, once for each entry, in order, done each time, with LR put back: `Created`. What stands
+-- ---- "A fresh start from settings equals fresh followed by creation of the entries in order, processor 1's LR staying." On any memory of 8,192 words,
+-- whatever it holds, a good file is taken: `FromSettings` (laws/specs/Settle.antt) has the memory that the fresh start with the file's line and divider leaves,
+-- and the one that the call leaves. From the first to the second leads CRP, once for each entry, in order, done each time, with LR put back: `Created`. What stands
 -- there then is `Settled`: the processors are 1 and the entries in their order, on pages 236, 237, .., each entry stopped with its own name, priority, W and
 -- address and all else zero, nothing in its queues; processor 1 runs
 pub a-start-from-settings : (m : List ℕ) → length m ≡ memorySize → Small m → (f : List ℕ) → ofFile f ≡ Good → FromSettings m f
@@ -39,7 +39,8 @@ pub settings-well-formed : {m : List ℕ} → length m ≡ memorySize → Small 
 settings-well-formed = settings-starts
 
 -- ---- what refuses the file refuses the call, after 20, with the same number, and with 29 the version; memory untouched. A good one is taken
-pub a-bad-file-is-refused : (m : List ℕ) → length m ≡ memorySize → (f : List ℕ) → ((k : ℕ) → ofFile f ≡ Refused k → Refuses numbers (fromSettings m f) (k ∷ []) m)
+pub a-bad-file-is-refused : (m : List ℕ) → length m ≡ memorySize → (f : List ℕ)
+    → ((k : ℕ) → ofFile f ≡ Refused k → Refuses numbers (fromSettings m f) (k ∷ []) m)
     × ((k v : ℕ) → ofFile f ≡ RefusedAt k v → Refuses numbers (fromSettings m f) (k ∷ v ∷ []) m)
     × (ofFile f ≡ Good → numbers (answerOf (fromSettings m f)) ≡ doneNumber ∷ [])
 a-bad-file-is-refused m l f = (Numbers.settings-refuses m l f, Numbers.settings-too-new m l f, Numbers.settings-takes m l f)

@@ -19,7 +19,7 @@ use Rattle.model.specs.Fresh.{startable}
 use Rattle.model.specs.Layout as Layout
 use Rattle.model.specs.Layout.{entryBytes, trailerBytes, mostEntries, ownVersion, labelled, headBytes, blockBytes, entryAt, entriesFrom, entriesOf, isLetter}
 use Rattle.model.specs.Layout.{isZeros, isLabel, isLaidOut, isBlock, isRanged, isEntry, areEntries, bears, namesDiffer, inBounds, ofBlock, trailerPlace}
-use Rattle.model.specs.Layout.{trailerIn, back, newest, begins, pointsBack, isTrailer, ofFile, isGood, versionOf, countOf, lineOf, dividerOf, labelBytes, labelPlace}
+use Rattle.model.specs.Layout.{trailerIn, back, newest, begins, pointsBack, isTrailer, ofFile, isGood, labelBytes, labelPlace}
 use Rattle.laws.specs.Fits.{laid-of, laid-least, ends-of, points-of, good-is}
 use Rattle.settings.specs.declared.entries.Cursor.{Cursor}
 use Rattle.settings.specs.declared.entries.Read.{Read}
@@ -56,7 +56,8 @@ pub not-short : (b : List ℕ) (c : Cursor) (r : Read) (k n : ℕ) → r ≡ rea
 unfolding Cursors.read
 not-short b c r k n er z o h = go (ltb (length b) (c .at + entryBytes)) refl (sym z ∙ er)
   where
-    go : (x : Bool) → ltb (length b) (c .at + entryBytes) ≡ x → Read.Refused k ≡ cond x (Read.Refused brokenLayout) (Read.Has (entryAt b (c .at)) (behind c)) → ⊥
+    go : (x : Bool) → ltb (length b) (c .at + entryBytes) ≡ x
+        → Read.Refused k ≡ cond x (Read.Refused brokenLayout) (Read.Has (entryAt b (c .at)) (behind c)) → ⊥
     go true e q = let l = ltb-true (length b) (c .at + entryBytes) e in omega (arith, o)
     go false e q = let k : _≡_ {A = ℕ} 0 1 = cc in omega arith
 

@@ -75,7 +75,8 @@ fn trailer_for(block: &[u8]) -> [u8; 4]
 // The bytes go to a place and the ones behind it.
 fn lay(buffer: &mut [u8], at: usize, laid: &[u8])
     requires { ⌜ at + length (now laid) ≤ length (now buffer) ⌝ }
-    ensures { λ _. ⌜ now (buffer .exit) ≡ take at (now (buffer .entry)) ++ (now (laid .entry)) ++ drop (at + length (now (laid .entry))) (now (buffer .entry)) ⌝ }
+    ensures { λ _. ⌜ now (buffer .exit)
+        ≡ take at (now (buffer .entry)) ++ (now (laid .entry)) ++ drop (at + length (now (laid .entry))) (now (buffer .entry)) ⌝ }
 {
     copy(laid, &mut buffer[at..]);
 }

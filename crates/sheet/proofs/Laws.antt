@@ -1,6 +1,6 @@
 -- Laws of the words that build a block, a law for each way through the code. l is the buffer before a step, l₁ and l₂ are the buffer after it, n is how many
 -- bytes of it are taken.
-use Prim.Native.Nat.{ℕ, zero, suc, _+_, _-_, _*_, _/_, _%_, _≤_, _<_}
+use Prim.Native.Nat.{ℕ, zero, suc, _+_, _-_, _/_, _%_, _≤_, _<_}
 use mathlib.Core.Path.{_≡_, refl, sym, ap, _∙_}
 use mathlib.Core.Bool.{Bool, true, false, cond}
 use mathlib.Core.List.{List, [], _∷_, _++_, append-assoc}
@@ -18,7 +18,7 @@ use Rattle.model.specs.Answer.{noRoom}
 use Rattle.model.specs.Answer.Outcome.{gives}
 use Rattle.model.specs.Map.{aWord, wordValues}
 use Rattle.model.specs.Layout as Layout
-use Rattle.model.specs.Layout.{entryBytes, labelBytes, labelPlace, versionOf, headBytes, ofBlock, ofFile, isGood}
+use Rattle.model.specs.Layout.{entryBytes, labelBytes, versionOf, headBytes, ofBlock, ofFile, isGood}
 use Rattle.model.specs.Settings as Settings
 use Rattle.model.specs.Settings.{newLength, worse, ofUsed, heedsBoth, writeSettings}
 use Rattle.laws.specs.Fits.{head-range}
@@ -30,11 +30,12 @@ use Rattle.sheet.specs.declared.building.Due.{Due}
 use Rattle.sheet.specs.declared.building.Due.the-variants.{Version, Byte, Label, Address, Nothing}
 use Rattle.sheet.specs.declared.files.Got.{Got}
 use Rattle.sheet.specs.declared.files.Got.the-variants.{Has}
-use Rattle.sheet.specs.Files.{gotBytes}
+use Rattle.sheet.specs.Files as Files
+use Rattle.sheet.specs.Files.{newBytes, newName, gotBytes}
 use Rattle.sheet.specs.Words as Words
-use Rattle.sheet.specs.Words.{mostGroups, mostBehind, blockRoom, numberOf, headOf, dueBehind, dueInHead, dueAt, Built, dash, letters, labelled, newName}
+use Rattle.sheet.specs.Words.{mostGroups, mostBehind, blockRoom, noBlock, numberOf, headOf, dueBehind, dueInHead, dueAt, dash, letters, labelled}
 use Rattle.sheet.specs.Words.{byteTaken, versionTaken, addressTaken, labelTaken, taken, next, counted, ended, finished, stands}
-use Rattle.sheet.specs.Words.Built.{wrong, built}
+use Rattle.sheet.specs.Words.Built.{built}
 
 -- ---- a word as a number
 module _ (w : List ℕ) (d : Figures) where
@@ -76,15 +77,15 @@ pub ruleset numbering = (number-empty, number-whole, number-part, head-none, hea
 
 -- ---- what a word adds: x is its number
 module _ (l : List ℕ) (w b : List ℕ) (x : ℕ) (ex : x ≡ numberOf w) where
-  pub byte-wrong : aWord < x → stands 1293 l ≡ byteTaken b w
+  pub byte-wrong : aWord < x → stands noBlock l ≡ byteTaken b w
   unfolding Words.byteTaken Words.stands
   byte-wrong h = rw (← ex, lt-ltb aWord x h)
 
-  pub version-wrong : aWord < x → stands 1293 l ≡ versionTaken w
+  pub version-wrong : aWord < x → stands noBlock l ≡ versionTaken w
   unfolding Words.versionTaken Words.stands
   version-wrong h = rw (← ex, lt-ltb aWord x h)
 
-  pub address-wrong : largestNumber < x → stands 1293 l ≡ addressTaken b w
+  pub address-wrong : largestNumber < x → stands noBlock l ≡ addressTaken b w
   unfolding Words.addressTaken Words.stands
   address-wrong h = rw (← ex, lt-ltb largestNumber x h)
 
@@ -121,16 +122,16 @@ pub ruleset bytes = (byte-wrong, version-wrong, address-wrong, byte-more, versio
 
 -- ---- bytes laid into a buffer
 pub new-name : (f l l₁ l₂ : List ℕ) → l₁ ≡ take 0 l ++ f ++ drop (0 + length f) l
-    → l₂ ≡ take (length f) l₁ ++ (46 ∷ 110 ∷ 101 ∷ 119 ∷ []) ++ drop (length f + 4) l₁ → take (length f + 4) l₂ ≡ newName f
-unfolding Words.newName
+    → l₂ ≡ take (length f) l₁ ++ (46 ∷ 110 ∷ 101 ∷ 119 ∷ []) ++ drop (length f + newBytes) l₁ → take (length f + newBytes) l₂ ≡ newName f
+unfolding Files.newName
 new-name f l l₁ l₂ e₁ e₂ =
     let four : List ℕ = 46 ∷ 110 ∷ 101 ∷ 119 ∷ [] in
     let a : take (length f) l₁ ≡ f = rw e₁ (take-append-seam f (drop (0 + length f) l)) in
-    rw (e₂, a) (take-at (f ++ four) (drop (length f + 4) l₁) (length f + 4) (length-append f four))
+    rw (e₂, a) (take-at (f ++ four) (drop (length f + newBytes) l₁) (length f + newBytes) (length-append f four))
 
 pub new-long : (f l l₁ l₂ : List ℕ) → l₁ ≡ take 0 l ++ f ++ drop (0 + length f) l
-    → l₂ ≡ take (length f) l₁ ++ (46 ∷ 110 ∷ 101 ∷ 119 ∷ []) ++ drop (length f + 4) l₁ → length f + 4 ≡ length (take (length f + 4) l₂)
-unfolding Words.newName
+    → l₂ ≡ take (length f) l₁ ++ (46 ∷ 110 ∷ 101 ∷ 119 ∷ []) ++ drop (length f + newBytes) l₁ → length f + newBytes ≡ length (take (length f + newBytes) l₂)
+unfolding Files.newName
 new-long f l l₁ l₂ e₁ e₂ = sym (ap length (new-name f l l₁ l₂ e₁ e₂) ∙ length-append f (46 ∷ 110 ∷ 101 ∷ 119 ∷ []))
 
 pub counts-is : (l : List ℕ) (n : ℕ) → n ≤ length l → n ≡ length (take n l)
@@ -180,18 +181,18 @@ twelve w h =
     omega (arith, length-append (take k w) (replicate (labelBytes - k) 0))
 
 module _ (l l₁ w : List ℕ) (n : ℕ) where
-  pub label-wrong : labelBytes < length w → stands 1293 l ≡ labelTaken (take n l) w
+  pub label-wrong : labelBytes < length w → stands noBlock l ≡ labelTaken (take n l) w
   unfolding Words.labelTaken Words.stands
   label-wrong h = rw (lt-ltb labelBytes (length w) h)
 
-  pub label-more : (p : List ℕ) → length l ≡ blockRoom → n + 12 ≤ blockRoom → length w ≤ labelBytes → p ≡ labelled w
-      → l₁ ≡ take n l ++ p ++ drop (n + length p) l → stands (n + 12) l₁ ≡ labelTaken (take n l) w
+  pub label-more : (p : List ℕ) → length l ≡ blockRoom → n + labelBytes ≤ blockRoom → length w ≤ labelBytes → p ≡ labelled w
+      → l₁ ≡ take n l ++ p ++ drop (n + length p) l → stands (n + labelBytes) l₁ ≡ labelTaken (take n l) w
   unfolding Words.labelTaken
   label-more p long o h ep e =
       let t : length p ≡ 12 = ap length ep ∙ twelve w h in
-      let a : length (take n l ++ p) ≡ n + 12 =
+      let a : length (take n l ++ p) ≡ n + labelBytes =
       length-append (take n l) p ∙ ap (λ (k : ℕ). k + length p) (length-take-le n l (omega arith)) ∙ ap (λ (k : ℕ). n + k) t in
-      rw (le-ltb labelBytes (length w) h, stands-in l₁ (n + 12) o, e, take-at (take n l ++ p) (drop (n + length p) l) (n + 12) a, ep)
+      rw (le-ltb labelBytes (length w) h, stands-in l₁ (n + labelBytes) o, e, take-at (take n l ++ p) (drop (n + length p) l) (n + labelBytes) a, ep)
 
 pub ruleset laying = (lay-is, label-is, label-wrong, label-more)
 
@@ -287,10 +288,10 @@ module _ (v n : ℕ) (d : Due) (e : d ≡ dueAt v n) where
           let k = behind-address (n - headOf v) (sym h ∙ placed (λ z. omega arith)) in
           omega arith
 
-  pub label-room : d ≡ Label → n + 12 ≤ blockRoom
+  pub label-room : d ≡ Label → n + labelBytes ≤ blockRoom
   label-room h = go (ltb n 17) refl
     where
-      go : (x : Bool) → ltb n 17 ≡ x → n + 12 ≤ blockRoom
+      go : (x : Bool) → ltb n 17 ≡ x → n + labelBytes ≤ blockRoom
       go true t = let u = ltb-true n 17 t in omega arith
       go false t = let u = ltb-false n 17 t in absurd (behind-label (n - headOf v) (sym h ∙ placed (λ z. omega arith)))
 
@@ -325,7 +326,7 @@ module _ (l l₁ w : List ℕ) (v n r : ℕ) (d : Due) (long : length l ≡ bloc
   pub next-address : d ≡ Address → stands r l₁ ≡ addressTaken (take n l) w → stands r l₁ ≡ next (stands n l) w
   next-address z q = q ∙ sym (next-so Address z)
 
-  pub next-nothing : d ≡ Nothing → stands 1293 l ≡ next (stands n l) w
+  pub next-nothing : d ≡ Nothing → stands noBlock l ≡ next (stands n l) w
   unfolding Words.stands
   next-nothing z = sym (next-so Nothing z)
 
@@ -343,11 +344,11 @@ pub ruleset nexts = (
 
 -- ---- no word is left: k is the number of groups in n bytes
 module _ (l l₁ b : List ℕ) (a n k : ℕ) (ek : k ≡ n / entryBytes) where
-  pub groups-many : mostGroups < k → stands 1293 l ≡ counted b n
+  pub groups-many : mostGroups < k → stands noBlock l ≡ counted b n
   unfolding Words.counted Words.stands
   groups-many h = rw (← ek, lt-ltb mostGroups k h)
 
-  pub groups-part : k ≤ mostGroups → (n % entryBytes ≡ 0 → ⊥) → stands 1293 l ≡ counted b n
+  pub groups-part : k ≤ mostGroups → (n % entryBytes ≡ 0 → ⊥) → stands noBlock l ≡ counted b n
   unfolding Words.counted Words.stands
   groups-part h z = rw (← ek, le-ltb mostGroups k h, ne-eqb (n % entryBytes) 0 z)
 
@@ -369,7 +370,7 @@ module _ (l l₁ : List ℕ) (v n r h : ℕ) (long : length l ≡ blockRoom) (o 
       go zero t = omega arith
       go (suc k) t = rw (getD-take (suc k) l 0 0 (omega arith), ← ev, ← eh) t
 
-  pub finish-short : n < h → stands 1293 l ≡ finished (stands n l)
+  pub finish-short : n < h → stands noBlock l ≡ finished (stands n l)
   unfolding Words.ended Words.stands
   finish-short t = rw (le-ltb blockRoom n o, length-take-le n l (omega arith), lt-ltb n (headOf (versionOf (take n l))) (short-same t))
 

@@ -5,7 +5,7 @@ use mathlib.Core.List.{List, [], _∷_}
 use Rattle.model.specs.Layout as Layout
 use Rattle.script.specs.Script as Script
 use Rattle.sheet.specs.Words as Words
-use Rattle.sheet.specs.Words.{Built, blockOf}
+use Rattle.sheet.specs.Words.{blockOf}
 use Rattle.sheet.specs.Words.Built.{wrong, built}
 
 -- ---- the words, in their characters' numbers

@@ -1,5 +1,6 @@
--- How many bytes were read of a file.
+-- How many bytes were read of a file, and the name of the new one.
 use Prim.Native.Nat.{ℕ}
+use mathlib.Core.List.{List, [], _∷_, _++_}
 use Rattle.sheet.specs.declared.files.Got.{Got}
 use Rattle.sheet.specs.declared.files.Got.the-variants.{Has, TooLong, Missing, Failed}
 
@@ -8,3 +9,14 @@ gotBytes (Has n) = n
 gotBytes TooLong = 0
 gotBytes Missing = 0
 gotBytes Failed = 0
+
+-- a file's name is at most so long; ".new" behind it
+abbrev pub nameRoom : ℕ
+nameRoom = 4096
+
+abbrev pub newBytes : ℕ
+newBytes = 4
+
+-- "New contents go to `FILE.new`"
+unfoldable pub newName : List ℕ → List ℕ
+newName f = f ++ 46 ∷ 110 ∷ 101 ∷ 119 ∷ []

@@ -2,13 +2,14 @@
 -- makes all wrong.
 use Prim.Native.Nat.{ℕ, _+_, _-_, _/_, _%_, _≤_, _<_}
 use native.Mathlib.Omega.{arith}
-use mathlib.Core.Path.{_≡_, refl, sym, ap, _∙_}
+use mathlib.Core.Path.{_≡_, refl}
 use mathlib.Core.Bool.{Bool, true, false, cond}
 use mathlib.Core.List.{List, [], _∷_, _++_, append-assoc}
 use lib.Dec.{eqb}
-use lib.ListN.{length, getD, length-append, List·getD-append}
-use borrow.Author.Tests.{eq-eqb, ne-eqb, lt-ltb, le-ltb, lt-leb}
+use lib.ListN.{length, length-append, List·getD-append}
+use borrow.Author.Tests.{eqb-false, eq-eqb, ne-eqb, lt-ltb, le-ltb, lt-leb}
 use Rattle.model.specs.Map.{aWord, wordValues}
+use Rattle.model.specs.Layout as Layout
 use Rattle.model.specs.Layout.{entryBytes, labelBytes, versionOf, headBytes}
 use Rattle.script.specs.Sizes.{largestNumber}
 use Rattle.laws.specs.Fits.{head-range}
@@ -120,3 +121,20 @@ module _ (v l d s : ℕ) (w : List ℕ) (ws : List (List ℕ)) where
       → behind (built (v ∷ 0 ∷ l ∷ d ∷ s ∷ [])) (w ∷ ws) ≡ behind (built (v ∷ 0 ∷ l ∷ d ∷ s ∷ labelled w)) ws
   unfolding Words.behind Words.dueAt Words.dueInHead Words.labelTaken
   label-adds h g = rw (lt-ltb 5 (headOf v) h, le-ltb labelBytes (length w) g)
+
+-- which versions have which: "a version over 3 has both, 0 none"
+pub head-bare : (v : ℕ) → v < 2 → headOf v ≡ 4
+unfolding Words.headOf Layout.headBytes
+head-bare v h = go (eqb v 0) refl
+  where
+    go : (x : Bool) → eqb v 0 ≡ x → cond x 4 (headBytes v) ≡ 4
+    go true e = refl
+    go false e = let z = eqb-false v 0 e in rw (eq-eqb v 1 (omega (arith, z)))
+
+pub head-sited : headOf 2 ≡ 5
+unfolding Words.headOf Layout.headBytes
+head-sited = refl
+
+pub head-labelled : (v : ℕ) → 3 ≤ v → headOf v ≡ 17
+unfolding Words.headOf Layout.headBytes
+head-labelled v h = rw (ne-eqb v 0 (λ z. omega arith), ne-eqb v 1 (λ z. omega arith), ne-eqb v 2 (λ z. omega arith))

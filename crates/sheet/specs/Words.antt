@@ -1,7 +1,6 @@
 -- What the words behind FILE build: "VERSION LINE DIVIDER [SITE [LABEL]] NAME PRIORITY W ADDRESS ..". A word is a list of bytes, w; b are the bytes of the
 -- block that the words before it have built. The number of entries stands there as 0 until the last word is taken.
-use Prim.Native.Nat.{ℕ, _+_, _-_, _*_, _/_, _%_}
-use mathlib.Core.Path.{_≡_, refl}
+use Prim.Native.Nat.{ℕ, _+_, _-_, _/_, _%_}
 use mathlib.Core.Bool.{cond}
 use mathlib.Core.List.{List, [], _∷_, _++_}
 use lib.Dec.{eqb, ltb, leb}
@@ -23,6 +22,10 @@ mostBehind = 1275
 
 abbrev pub blockRoom : ℕ
 blockRoom = 1292
+
+-- in place of its length, for words that build no block
+abbrev pub noBlock : ℕ
+noBlock = 1293
 
 -- ---- "Numbers are digits": a word as a number; noNumber where it has none, another character, or is over 65535
 unfoldable pub numberOf : List ℕ → ℕ
@@ -110,7 +113,3 @@ blockOf ws = behind (built []) ws
 -- what stands in a buffer l of which n bytes are taken; more than it has room for stand for words that build no block
 unfoldable pub stands : ℕ → List ℕ → Built
 stands n l = cond (ltb blockRoom n) wrong (built (take n l))
-
--- "New contents go to `FILE.new`"
-unfoldable pub newName : List ℕ → List ℕ
-newName f = f ++ 46 ∷ 110 ∷ 101 ∷ 119 ∷ []

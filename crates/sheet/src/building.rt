@@ -8,9 +8,9 @@ use model::layout;
 use script::reading::digits;
 use settings::block::head_bytes;
 ghost use mathlib.Core.Path.{_≡_};
-ghost use mathlib.Core.List.{_++_, _∷_, []};
 ghost use Prim.Native.Nat.{_<_, _≤_, _+_};
 ghost use lib.ListN.{length, take, set};
+ghost use Rattle.model.specs.Layout.{labelBytes};
 ghost use Rattle.sheet.specs.Words as Words;
 
 // What the next word is: the version, a byte, the label, an address; or there is room for none.
@@ -140,7 +140,7 @@ fn letters(word: &[u8]) -> usize
 
 // The label that a word is: its letters, and zeros to the end.
 fn label_of(word: &[u8]) -> [u8; layout::LABEL_BYTES]
-    requires { ⌜ length (now word) ≤ 12 ⌝ }
+    requires { ⌜ length (now word) ≤ labelBytes ⌝ }
     ensures { λ r. ⌜ r ≡ Words.labelled (now (word .entry)) ⌝ }
 {
     let end = letters(word);
@@ -150,7 +150,7 @@ fn label_of(word: &[u8]) -> [u8; layout::LABEL_BYTES]
 }
 
 fn take_label(block: &mut [u8], at: usize, word: &[u8]) -> usize
-    requires { ⌜ (length (now block) ≡ Words.blockRoom) × (at + 12 ≤ Words.blockRoom) ⌝ }
+    requires { ⌜ (length (now block) ≡ Words.blockRoom) × (at + labelBytes ≤ Words.blockRoom) ⌝ }
     ensures { λ r. ⌜ Words.stands r (now (block .exit)) ≡ Words.labelTaken (take at (now (block .entry))) (now (word .entry)) ⌝ }
 {
     if layout::LABEL_BYTES < word.len() {

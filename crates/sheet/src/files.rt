@@ -3,9 +3,9 @@
 use crate::laying::lay_new_name;
 use crate::sizes;
 ghost use mathlib.Core.Path.{_≡_};
-ghost use Prim.Native.Nat.{_≤_, _+_};
+ghost use Prim.Native.Nat.{_≤_};
 ghost use lib.ListN.{length};
-ghost use Rattle.sheet.specs.Files.{gotBytes};
+ghost use Rattle.sheet.specs.Files.{nameRoom, gotBytes};
 
 // What came of reading a file: so many bytes; it has more than the buffer; there is none; or it cannot be read, which is told already.
 pub enum Got {
@@ -114,7 +114,7 @@ fn replace_by(new: &[u8], name: &[u8], contents: &[u8]) -> bool {
 
 // New contents for the file with a name, by way of the name with `.new` behind it: a power cut leaves one of the two whole.
 pub fn replace(name: &[u8], contents: &[u8]) -> bool
-    requires { ⌜ length (now name) ≤ 4096 ⌝ }
+    requires { ⌜ length (now name) ≤ nameRoom ⌝ }
 {
     let mut new = [0u8; sizes::NEW_NAME_ROOM];
     let end = lay_new_name(&mut new, name);

@@ -1,11 +1,12 @@
 // Bytes laid into a buffer: a part of a block, and the name of a new file.
+use crate::sizes;
 use bytes::copy;
 ghost use mathlib.Core.Path.{_≡_};
 ghost use mathlib.Core.List.{_++_};
 ghost use Prim.Native.Nat.{_≤_, _+_};
 ghost use lib.ListN.{length, take, drop};
 ghost use Rattle.io.specs.Counts.{Counts};
-ghost use Rattle.sheet.specs.Words as Words;
+ghost use Rattle.sheet.specs.Files.{newBytes, newName};
 
 // The bytes go to a place and the ones behind it.
 pub fn lay(buffer: &mut [u8], at: usize, laid: &[u8])
@@ -18,11 +19,11 @@ pub fn lay(buffer: &mut [u8], at: usize, laid: &[u8])
 
 // A file's name with `.new` behind it. Answers how long it is.
 pub fn lay_new_name(new: &mut [u8], name: &[u8]) -> usize
-    requires { ⌜ length (now name) + 4 ≤ length (now new) ⌝ }
-    ensures { λ r. ⌜ (Counts r (now (new .exit))) × (take r (now (new .exit)) ≡ Words.newName (now (name .entry))) ⌝ }
+    requires { ⌜ length (now name) + newBytes ≤ length (now new) ⌝ }
+    ensures { λ r. ⌜ (Counts r (now (new .exit))) × (take r (now (new .exit)) ≡ newName (now (name .entry))) ⌝ }
 {
     let end = name.len();
     lay(new, 0, name);
     lay(new, end, b".new");
-    end + 4
+    end + sizes::NEW_BYTES
 }

@@ -24,6 +24,7 @@ use settings::write::write_settings;
 ghost use mathlib.Core.Path.{_≡_};
 ghost use Prim.Native.Nat.{_≤_};
 ghost use lib.ListN.{length};
+ghost use Rattle.sheet.specs.Files.{nameRoom};
 ghost use Rattle.sheet.specs.Words as Words;
 
 fn usage() {
@@ -67,7 +68,7 @@ fn show_file(name: &[u8]) {
 
 // A block behind the bytes in use; where it is refused, no file changes.
 fn write_behind(name: &[u8], file: &mut [u8], used: usize, block: &[u8])
-    requires { ⌜ length (now name) ≤ 4096 ⌝ }
+    requires { ⌜ length (now name) ≤ nameRoom ⌝ }
 {
     match write_settings(file, used, block) {
         Writing::Written(end) => {
@@ -82,7 +83,7 @@ fn write_behind(name: &[u8], file: &mut [u8], used: usize, block: &[u8])
 
 // A block into the file with a name, which need not be there.
 fn write_file(name: &[u8], block: &[u8])
-    requires { ⌜ length (now name) ≤ 4096 ⌝ }
+    requires { ⌜ length (now name) ≤ nameRoom ⌝ }
 {
     let mut file = [0u8; sizes::FILE_ROOM];
     match read_file(name, &mut file) {
@@ -110,7 +111,7 @@ fn take_arguments(block: &mut [u8], count: usize) -> usize
     requires { ⌜ length (now block) ≡ Words.blockRoom ⌝ }
 {
     let mut at = 0;
-    let mut number = 2;
+    let mut number = sizes::FIRST_WORD;
     while number < count {
         at = take_argument(block, at, number);
         number += 1;
@@ -120,7 +121,7 @@ fn take_arguments(block: &mut [u8], count: usize) -> usize
 
 // The block that the words build goes into the file.
 fn write_words(name: &[u8], count: usize)
-    requires { ⌜ length (now name) ≤ 4096 ⌝ }
+    requires { ⌜ length (now name) ≤ nameRoom ⌝ }
 {
     let mut block = [0u8; sizes::BLOCK_ROOM];
     let end = take_arguments(&mut block, count);

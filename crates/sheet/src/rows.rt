@@ -12,7 +12,7 @@ use settings::entries::entry_at;
 use settings::file::newest;
 ghost use mathlib.Core.Path.{_≡_};
 ghost use mathlib.Core.Bool.{true};
-ghost use Prim.Native.Nat.{_<_, _≤_, _+_, _*_};
+ghost use Prim.Native.Nat.{_<_, _≤_};
 ghost use lib.ListN.{length};
 ghost use Rattle.model.specs.Layout as Layout;
 ghost use Rattle.sheet.specs.Rows as Rows;
@@ -28,20 +28,26 @@ pub enum Row {
     Nothing,
 }
 
-// The rows of the longest head and of 14 processors.
+// How many rows stand before those of the processors: version, line and divider; with a site; with a label too.
+const BARE_ROWS: u8 = 3;
+
+const SITED_ROWS: u8 = 4;
+
+const LABELLED_ROWS: u8 = 5;
+
+// These and 14 processors.
 const MOST_ROWS: u8 = 19;
 
-// How many rows stand before those of the processors.
 fn head_rows(version: u8) -> u8
     ensures { λ r. ⌜ r ≡ Rows.headRows version ⌝ }
 {
     if version < layout::SITED {
-        return 3;
+        return BARE_ROWS;
     }
     if version < layout::LABELLED {
-        return 4;
+        return SITED_ROWS;
     }
-    5
+    LABELLED_ROWS
 }
 
 fn head_row(block: &[u8], number: u8) -> Row

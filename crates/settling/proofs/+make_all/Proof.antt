@@ -16,7 +16,14 @@ abbrev μ : Measures 2 kinds.ps ℕ
 μ κs a = a .1 .1 .1 .0
 
 pub +make-all-spec : {M : Type 1} → statement M
-+make-all-spec = close μ λ t. lts.spec (entry-at-reads.Asked, entry-at-reads.Learnt, make-reads.Asked, make-reads.Learnt, and 2 kinds.ps (falls 2 kinds.ps _<_ μ t) own.Pre, own.Post)
++make-all-spec = close μ λ t. lts.spec (
+  entry-at-reads.Asked,
+  entry-at-reads.Learnt,
+  make-reads.Asked,
+  make-reads.Learnt,
+  and 2 kinds.ps (falls 2 kinds.ps _<_ μ t) own.Pre,
+  own.Post,
+)
     (and 2 kinds.ps (is 2 kinds.ps μ t) own.Pre)
     own.Post
     (λ c. search (needs, entering, settling))

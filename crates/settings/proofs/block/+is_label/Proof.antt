@@ -15,7 +15,14 @@ abbrev μ : Measures 1 kinds.ps ℕ
 μ κs a = a .1 .1 .0
 
 pub +is-label-spec : {M : Type 1} → statement M
-+is-label-spec = close μ λ t. lts.spec (is-letter-reads.Asked, is-letter-reads.Learnt, and 1 kinds.ps (falls 1 kinds.ps _<_ μ t) own.Pre, own.Post, is-zeros-reads.Asked, is-zeros-reads.Learnt)
++is-label-spec = close μ λ t. lts.spec (
+  is-letter-reads.Asked,
+  is-letter-reads.Learnt,
+  and 1 kinds.ps (falls 1 kinds.ps _<_ μ t) own.Pre,
+  own.Post,
+  is-zeros-reads.Asked,
+  is-zeros-reads.Learnt,
+)
     (and 1 kinds.ps (is 1 kinds.ps μ t) own.Pre)
     own.Post
     (λ c. search (needs, labels))

@@ -13,7 +13,10 @@ abbrev μ : Measures 1 kinds.ps ℕ
 μ κs a = a .1 .1 .0
 
 pub +is-zeros-spec : {M : Type 1} → statement M
-+is-zeros-spec = close μ λ t. lts.spec (and 1 kinds.ps (falls 1 kinds.ps _<_ μ t) own.Pre, own.Post)
++is-zeros-spec = close μ λ t. lts.spec (
+  and 1 kinds.ps (falls 1 kinds.ps _<_ μ t) own.Pre,
+  own.Post,
+)
     (and 1 kinds.ps (is 1 kinds.ps μ t) own.Pre)
     own.Post
     (λ c. search (needs, labels))
