@@ -1,6 +1,6 @@
--- Settings that survive a box swap (document 02, 5/13): "The exact layout goes to docs/". Blocks, trailers and files, as lists of bytes, and which of them are
--- good. "After 20, in this order: a version above the reader's own is refused by 29 with that version, any other break of layout in trailer or newest block by 28, a
--- name twice, the name 1 or a field out of range by 26."
+-- Settings that survive a box swap (document 02, 5/13): "The exact layout goes to docs/". Blocks, trailers and files, as lists of bytes, and which of them
+-- are good. "After 20, in this order: a version above the reader's own is refused by 29 with that version, any other break of layout in trailer or newest
+-- block (over 14 entries too) by 28, a name twice, the name 1 or a field out of range by 26, memory untouched."
 use Prim.Native.Nat.{ℕ, zero, suc, _+_, _-_, _*_, _/_, _%_}
 use mathlib.Core.Bool.{Bool, true, false, cond}
 use mathlib.Core.List.{List, [], _∷_}
