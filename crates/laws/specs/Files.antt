@@ -8,7 +8,7 @@ use native.Mathlib.Omega.{arith}
 use lib.Dec.{eqb, ltb}
 use lib.ListN.{length, getD, take, drop, length-append, length-drop, take-append-drop, drop-of-length-le}
 use lib.Seq.{length-take-le, getD-append-add, drop-cons, drop-drop, take-at, drop-at, drop-append-add, take-append-le, drop-append-le}
-use borrow.Author.Tests.{eqb-true, eqb-false, eq-eqb, ne-eqb, ltb-false, lt-ltb, le-ltb}
+use borrow.Author.Tests.{eqb-true, eqb-false, eq-eqb, ne-eqb, ltb-true, ltb-false, lt-ltb, le-ltb}
 use Rattle.model.specs.declared.Answer.the-variants.{Done}
 use Rattle.model.specs.declared.Fit.{Fit}
 use Rattle.model.specs.declared.Fit.the-variants.{Good, Refused, RefusedAt}
@@ -22,13 +22,14 @@ use Rattle.model.specs.Fresh as Fresh
 use Rattle.model.specs.Layout as Layout
 use Rattle.model.specs.Layout.{trailerBytes, mostEntries, ownVersion, headBytes, blockBytes, versionOf, countOf, isLaidOut, isBlock, isGood, ofBlock}
 use Rattle.model.specs.Layout.{trailerPlace, trailerIn, back, newest, begins, pointsBack, isTrailer, ofFile}
+use Rattle.model.specs.Layout.{labelled, labelPlace, labelBytes, isLetter, isZeros, isLabel}
 use Rattle.model.specs.Settings as Settings
 use Rattle.model.specs.Settings.{trailerFor, placeFor, newLength, written, weight, worse, ofUsed, writes, writeSettings}
 use Rattle.model.specs.Bytes.{fromSettings, settled}
 use Rattle.laws.specs.Count.{hit-or}
 use Rattle.laws.specs.Words.{Small, either}
 use Rattle.laws.specs.Refusals.{first-number}
-use Rattle.laws.specs.Fits.{Sets, Points, block-of, ends-of, points-of, good-is, block-each, file-each}
+use Rattle.laws.specs.Fits.{Sets, Points, block-of, block-label, ends-of, points-of, good-is, block-each, file-each}
 
 -- ---- a file: anything, then a block, then its trailer
 abbrev pub filed : List ℕ → List ℕ → List ℕ
@@ -269,6 +270,26 @@ write-told l used b = go (ltb (length l) used) (worse (ofUsed (take used l)) (of
         let e : j ≡ tooNew = worse-placed (ofUsed (take used l)) (ofBlock b) (used-placed (take used l)) (block-placed b) j v q in
         rw (h, q, ne-eqb j writtenNumber (omega (arith, e)))
 
+-- ---- of two refusals the greater number is told; of two alike the file's
+module _ (l : List ℕ) (used : ℕ) (b : List ℕ) (u : used ≤ length l) where
+  pub file-told : (k : ℕ) → ofUsed (take used l) ≡ Refused k → weight (ofBlock b) ≤ k → writingNumbers (answerOf (writeSettings l used b)) ≡ k ∷ []
+  unfolding Settings.writeSettings Settings.worse Settings.weight Answer.writingNumbers Answer.answerOf
+  file-told k e h = rw (le-ltb (length l) used u, e, le-ltb k (weight (ofBlock b)) h)
+
+  pub file-told-new : (k v : ℕ) → ofUsed (take used l) ≡ RefusedAt k v → weight (ofBlock b) ≤ k
+      → writingNumbers (answerOf (writeSettings l used b)) ≡ k ∷ v ∷ []
+  unfolding Settings.writeSettings Settings.worse Settings.weight Answer.writingNumbers Answer.answerOf
+  file-told-new k v e h = rw (le-ltb (length l) used u, e, le-ltb k (weight (ofBlock b)) h)
+
+  pub block-told : (k : ℕ) → ofBlock b ≡ Refused k → weight (ofUsed (take used l)) < k → writingNumbers (answerOf (writeSettings l used b)) ≡ k ∷ []
+  unfolding Settings.writeSettings Settings.worse Settings.weight Answer.writingNumbers Answer.answerOf
+  block-told k e h = rw (le-ltb (length l) used u, e, lt-ltb (weight (ofUsed (take used l))) k h)
+
+  pub block-told-new : (k v : ℕ) → ofBlock b ≡ RefusedAt k v → weight (ofUsed (take used l)) < k
+      → writingNumbers (answerOf (writeSettings l used b)) ≡ k ∷ v ∷ []
+  unfolding Settings.writeSettings Settings.worse Settings.weight Answer.writingNumbers Answer.answerOf
+  block-told-new k v e h = rw (le-ltb (length l) used u, e, lt-ltb (weight (ofUsed (take used l))) k h)
+
 -- ---- refused, it changes nothing
 module _ (l : List ℕ) (used : ℕ) (b : List ℕ) where
   writes-kept : (k : ℕ) (ns : List ℕ) → k ≢ writtenNumber → writingNumbers (answerOf (writes l used b)) ≡ k ∷ ns → memoryOf (writes l used b) ≡ l
@@ -289,6 +310,68 @@ module _ (l : List ℕ) (used : ℕ) (b : List ℕ) where
       go false Good h q = rw (h, q) (writes-kept k ns n (rw (h, q) at e))
       go false (Refused j) h q = rw (h, q)
       go false (RefusedAt j v) h q = rw (h, q)
+
+-- ---- "a label of up to 12 letters": of a good block of version 3 some letters, and then zeros to its end
+abbrev pub Letter : ℕ → Type 0
+Letter c = ((65 ≤ c) × (c ≤ 90)) ⊎ ((97 ≤ c) × (c ≤ 122))
+
+letter-of : (c : ℕ) → isLetter c ≡ true → Letter c
+unfolding Layout.isLetter
+letter-of c h = go (ltb c 65) (ltb c 91) (ltb c 97) (ltb c 123) refl refl refl refl
+  where
+    go : (x y z t : Bool) → ltb c 65 ≡ x → ltb c 91 ≡ y → ltb c 97 ≡ z → ltb c 123 ≡ t → Letter c
+    go true y z t e f g i = let k = rw e at h in let q : _≡_ {A = ℕ} 0 1 = cc in absurd (omega arith)
+    go false true z t e f g i = let a = ltb-false c 65 e in let b = ltb-true c 91 f in inl (omega arith, omega arith)
+    go false false true t e f g i = let k = rw (e, f, g) at h in let q : _≡_ {A = ℕ} 0 1 = cc in absurd (omega arith)
+    go false false false true e f g i = let a = ltb-false c 97 g in let b = ltb-true c 123 i in inr (omega arith, omega arith)
+    go false false false false e f g i = let k = rw (e, f, g, i) at h in let q : _≡_ {A = ℕ} 0 1 = cc in absurd (omega arith)
+
+-- n bytes of b from i on
+pub record Label (b : List ℕ) (i n : ℕ) : Type 0 where
+  pub count : ℕ
+  pub most : count ≤ n
+  pub letters : (j : ℕ) → j < count → Letter (getD b (i + j) 0)
+  pub zeros : (j : ℕ) → count ≤ j → j < n → getD b (i + j) 0 ≡ 0
+
+zeros-of : (n : ℕ) (b : List ℕ) (i : ℕ) → isZeros n b i ≡ true → (j : ℕ) → j < n → getD b (i + j) 0 ≡ 0
+unfolding Layout.isZeros
+zeros-of zero b i h j l = absurd (omega arith)
+zeros-of (suc n) b i h j l = go (eqb (getD b i 0) 0) refl (hit-or j 0) (zeros-of n b (i + 1))
+  where
+    go : (x : Bool) → eqb (getD b i 0) 0 ≡ x → (j ≡ 0) ⊎ (j ≢ 0) → (isZeros n b (i + 1) ≡ true → (j : ℕ) → j < n → getD b (i + 1 + j) 0 ≡ 0)
+        → getD b (i + j) 0 ≡ 0
+    go false e c ih = let k = rw (e, isZeros) at h in let q : _≡_ {A = ℕ} 0 1 = cc in absurd (omega arith)
+    go true e (inl c) ih = let z : i + j ≡ i = omega arith in rw z (eqb-true (getD b i 0) 0 e)
+    go true e (inr c) ih = let z : i + 1 + (j - 1) ≡ i + j = omega arith in rw z at (ih (rw (e, isZeros) at h) (j - 1) (omega arith))
+
+label-is : (n : ℕ) (b : List ℕ) (i : ℕ) → isLabel n b i ≡ true → Label b i n
+unfolding Layout.isLabel
+label-is zero b i h = record { count = 0; most = omega arith; letters = λ j l. absurd (omega arith); zeros = λ j k l. absurd (omega arith) }
+label-is (suc n) b i h = go (isLetter (getD b i 0)) refl (label-is n b (i + 1))
+  where
+    go : (x : Bool) → isLetter (getD b i 0) ≡ x → (isLabel n b (i + 1) ≡ true → Label b (i + 1) n) → Label b i (suc n)
+    go false e ih = record {
+      count = 0;
+      most = omega arith;
+      letters = λ j l. absurd (omega arith);
+      zeros = λ j k l. zeros-of (suc n) b i (rw (e, isLabel) at h) j l;
+    }
+    go true e ih = record {
+      count = suc (t .count);
+      most = omega (arith, t .most);
+      letters = λ j l. one j l (hit-or j 0);
+      zeros = λ j k l. let z : i + 1 + (j - 1) ≡ i + j = omega arith in rw z at (t .zeros (j - 1) (omega arith) (omega arith));
+    }
+      where
+        t : Label b (i + 1) n
+        t = ih (rw (e, isLabel) at h)
+
+        one : (j : ℕ) → j < suc (t .count) → (j ≡ 0) ⊎ (j ≢ 0) → Letter (getD b (i + j) 0)
+        one j l (inl c) = let z : i + j ≡ i = omega arith in rw z (letter-of (getD b i 0) e)
+        one j l (inr c) = let z : i + 1 + (j - 1) ≡ i + j = omega arith in rw z at (t .letters (j - 1) (omega arith))
+
+pub good-label : (b : List ℕ) → ofBlock b ≡ Good → versionOf b ≡ labelled → Label b labelPlace labelBytes
+good-label b g v = label-is labelBytes b labelPlace (block-label b g v)
 
 -- ---- there is a good file of each version with each number of entries: processors 2, 3, ..
 unfoldable pub rowOf : ℕ → List ℕ

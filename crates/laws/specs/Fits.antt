@@ -7,7 +7,7 @@ use Prim.Native.Nat.{ℕ, zero, suc, _+_, _≤_, _<_}
 use native.Mathlib.Omega.{arith}
 use lib.ListN.{length}
 use lib.Dec.{eqb, ltb, leb}
-use borrow.Author.Tests.{eqb-true, eqb-false, ltb-false, leb-true, leb-false}
+use borrow.Author.Tests.{eqb-true, eqb-false, eq-eqb, ltb-false, leb-true, leb-false}
 use Rattle.model.specs.Map.{firstName, fourBits, lastAddress, lastName, lastPriority}
 use Rattle.model.specs.declared.Entry.{Entry}
 use Rattle.model.specs.declared.Trailer.{Trailer}
@@ -18,7 +18,7 @@ use Rattle.model.specs.Fresh.{startable}
 use Rattle.model.specs.Layout as Layout
 use Rattle.model.specs.Layout.{areEntries, back, bears, blockBytes, countOf, dividerOf, entriesFrom, entriesOf, entryBytes, headBytes, inBounds, isBlock}
 use Rattle.model.specs.Layout.{isEntry, isGood, isLaidOut, isTrailer, lineOf, mostEntries, namesDiffer, newest, ofBlock, ofFile, ownVersion, trailerBytes}
-use Rattle.model.specs.Layout.{trailerIn, trailerPlace, versionOf}
+use Rattle.model.specs.Layout.{isLabel, labelBytes, labelPlace, labelled, trailerIn, trailerPlace, versionOf}
 use Rattle.laws.specs.Words.{either}
 
 -- ---- good, or 29 with a version, 28, 26
@@ -97,6 +97,18 @@ laid-of b h =
       long = long-of b (versionOf b) (countOf b) (h3 .1);
     }
 
+-- of a version that has a label: it is one
+label-of : (b : List ℕ) (v n : ℕ) → isLaidOut b v n ≡ true → v ≡ labelled → isLabel labelBytes b labelPlace ≡ true
+unfolding Layout.isLaidOut
+label-of b v n h e = rw (eq-eqb v labelled e) at (meets (eqb (length b) (blockBytes v n)) _ h .1)
+
+block-labelled : (b : List ℕ) → isBlock b ≡ true → versionOf b ≡ labelled → isLabel labelBytes b labelPlace ≡ true
+unfolding Layout.isBlock
+block-labelled b h =
+    let h1 = passes (eqb (versionOf b) 0) _ h .1 in
+    let h2 = passes (eqb (length b) 1) _ h1 .1 in
+    label-of b (versionOf b) (countOf b) (passes (ltb mostEntries (countOf b)) (isLaidOut b (versionOf b) (countOf b)) h2 .1)
+
 pub head-range : (v : ℕ) → (4 ≤ headBytes v) × (headBytes v ≤ 17)
 unfolding Layout.headBytes
 head-range v = go (eqb v 1) (eqb v 2)
@@ -128,6 +140,13 @@ block-of b h =
       entries = h6 .0;
       differ = h6 .1;
     }
+
+pub block-label : (b : List ℕ) → ofBlock b ≡ Good → versionOf b ≡ labelled → isLabel labelBytes b labelPlace ≡ true
+unfolding Layout.ofBlock
+block-label b h =
+    let h1 = lest (eqb (length b) 0) (Refused brokenLayout) _ (not-refused brokenLayout) h .1 in
+    let h2 = lest (ltb ownVersion (versionOf b)) (RefusedAt tooNew (versionOf b)) _ (not-placed tooNew (versionOf b)) h1 .1 in
+    block-labelled b (met (isBlock b) (Refused brokenLayout) _ (not-refused brokenLayout) h2 .0)
 
 -- of a good file: its trailer is whole, and its newest block good
 pub record Ends (f : List ℕ) : Type 0 where

@@ -4,7 +4,7 @@
 use mathlib.Core.Path.{_≡_}
 use mathlib.Core.Logic.{_≢_}
 use mathlib.Core.List.{List, [], _∷_}
-use Prim.Native.Nat.{ℕ, _+_, _-_, _≤_}
+use Prim.Native.Nat.{ℕ, _+_, _-_, _≤_, _<_}
 use lib.ListN.{length, take, drop}
 use Rattle.model.specs.declared.Answer.the-variants.{Done}
 use Rattle.model.specs.declared.Fit.the-variants.{Good, Refused, RefusedAt}
@@ -12,8 +12,9 @@ use Rattle.model.specs.declared.Writing.the-variants.{Written}
 use Rattle.model.specs.Map.{memorySize, startAddress}
 use Rattle.model.specs.Answer.{answerOf, memoryOf, numbers, writingNumbers, doneNumber, writtenNumber}
 use Rattle.model.specs.Answer.Outcome.{gives}
+use Rattle.model.specs.Layout.{labelled, labelPlace, labelBytes}
 use Rattle.model.specs.Layout.{trailerBytes, mostEntries, ownVersion, versionOf, countOf, trailerPlace, trailerIn, newest, ofBlock, ofFile}
-use Rattle.model.specs.Settings.{placeFor, newLength, written, ofUsed, writeSettings}
+use Rattle.model.specs.Settings.{placeFor, newLength, written, weight, ofUsed, writeSettings}
 use Rattle.model.specs.Bytes.{fromSettings, settled, lr}
 use Rattle.laws.specs.Words.{Small}
 use Rattle.laws.specs.Calls.{Sound, settings-starts}
@@ -21,13 +22,13 @@ use Rattle.laws.specs.Numbers as Numbers
 use Rattle.laws.specs.Numbers.{Refuses}
 use Rattle.laws.specs.Settle.{FromSettings, from-settings, settled-lr}
 use Rattle.laws.specs.Files as Files
-use Rattle.laws.specs.Files.{filed, Sample, toldWriting}
+use Rattle.laws.specs.Files.{filed, Label, Sample, toldWriting}
 
 -- ---- "A fresh start from settings equals fresh followed by creation of the entries in order, processor 1's LR staying." On any memory of 8,192 words,
--- whatever it holds, a good file is taken: `FromSettings` (laws/specs/Settle.antt) has the memory that the fresh start with the file's line and divider leaves,
--- and the one that the call leaves. From the first to the second leads CRP, once for each entry, in order, done each time, with LR put back: `Created`. What stands
--- there then is `Settled`: the processors are 1 and the entries in their order, on pages 236, 237, .., each entry stopped with its own name, priority, W and
--- address and all else zero, nothing in its queues; processor 1 runs
+-- whatever it holds, a good file is taken: `FromSettings` (laws/specs/Settle.antt) has the memory that the fresh start with the file's line and divider
+-- leaves, and the one that the call leaves. From the first to the second leads CRP, once for each entry, in order, done each time, with LR put back:
+-- `Created`. What stands there then is `Settled`: the processors are 1 and the entries in their order, on pages 236, 237, .., each entry stopped with its
+-- own name, priority, W and address and all else zero, nothing in its queues; processor 1 runs
 pub a-start-from-settings : (m : List ℕ) → length m ≡ memorySize → Small m → (f : List ℕ) → ofFile f ≡ Good → FromSettings m f
 a-start-from-settings = from-settings
 
@@ -51,6 +52,10 @@ such-a-file-is-good x b g = (Files.filed-good x b g, Files.filed-newest x b)
 
 pub a-good-file-is-such : (f : List ℕ) → Small f → ofFile f ≡ Good → f ≡ filed (take (trailerPlace f - trailerIn f .distance) f) (newest f)
 a-good-file-is-such = Files.good-filed
+
+-- the label of a good block of version 3 is some letters, A-Z and a-z, and then zeros to its end: `Label` (laws/specs/Files.antt)
+pub a-label-is-letters : (b : List ℕ) → ofBlock b ≡ Good → versionOf b ≡ labelled → Label b labelPlace labelBytes
+a-label-is-letters = Files.good-label
 
 -- there is one of each version with each number of entries
 pub there-are-good-files : (v n : ℕ) → 1 ≤ v → v ≤ ownVersion → n ≤ mostEntries → Sample v n
@@ -78,6 +83,15 @@ pub nothing-else-is-written : (l : List ℕ) (used : ℕ) (b : List ℕ) → use
     × (drop (newLength used b) (written l used b) ≡ drop (newLength used b) l)
     × (length (written l used b) ≡ length l)
 nothing-else-is-written l used b u r = (Files.written-before l used b u, Files.written-behind l used b u, Files.written-size l used b u r)
+
+-- "refused by 29, 28 and 26 alike": of what refuses the file and what refuses the block the greater number is told, of two alike the file's
+pub the-greater-number-is-told : (l : List ℕ) (used : ℕ) (b : List ℕ) → used ≤ length l
+    → ((k : ℕ) → ofUsed (take used l) ≡ Refused k → weight (ofBlock b) ≤ k → writingNumbers (answerOf (writeSettings l used b)) ≡ k ∷ [])
+    × ((k v : ℕ) → ofUsed (take used l) ≡ RefusedAt k v → weight (ofBlock b) ≤ k → writingNumbers (answerOf (writeSettings l used b)) ≡ k ∷ v ∷ [])
+    × ((k : ℕ) → ofBlock b ≡ Refused k → weight (ofUsed (take used l)) < k → writingNumbers (answerOf (writeSettings l used b)) ≡ k ∷ [])
+    × ((k v : ℕ) → ofBlock b ≡ RefusedAt k v → weight (ofUsed (take used l)) < k → writingNumbers (answerOf (writeSettings l used b)) ≡ k ∷ v ∷ [])
+the-greater-number-is-told l used b u =
+    (Files.file-told l used b u, Files.file-told-new l used b u, Files.block-told l used b u, Files.block-told-new l used b u)
 
 -- "and changes nothing": an answer with any other number than that of written leaves every byte; and the numbers tell the answer
 pub a-refused-write-changes-nothing : (l : List ℕ) (used : ℕ) (b : List ℕ) (k : ℕ) (ns : List ℕ) → k ≢ writtenNumber
