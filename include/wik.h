@@ -8,7 +8,7 @@
  * between calls. docs/HOSTS.md says what a host may do between calls.
  *
  * ANSWERS. Every call answers with one number of 64 bits (crates/host/specs/Encoded.antt):
- *   bits 0-7    the number of the answer: WIK_DONE, WIK_WAITS, WIK_HANDED_OUT, WIK_WRITTEN, a fault 1-12 or a refusal 20, 22-35
+ *   bits 0-7    the number of the answer: WIK_DONE, WIK_WAITS, WIK_HANDED_OUT, WIK_WRITTEN, a fault 1-13 or a refusal 20, 22-35
  *   bits 8-23   of WIK_HANDED_OUT the address of the program; of a fault the name of the processor that it stopped; of a refusal 30-34 the address of
  *               what is broken; of a refusal 24 or 25 of wik_burst the place of the bad pair, from 1; of a refusal 29 the version
  *   bits 24-39  of WIK_HANDED_OUT the address of word n+1, or of the arguments
@@ -20,6 +20,8 @@
  *   - A memory that is not well-formed is refused with 30, 31, 32, 33 or 34 and an address, by every call but wik_fresh and wik_fresh_from_settings. From
  *     an accepted one of these two on, none of the five comes, as long as the host writes only page 0 (words 0-31) and words that are not protected (all
  *     but 0-15, 128-351 and 7552-8191).
+ *   - From there on, and as long as the host writes no more than that, the highest priority among the processors never grows until the next fresh start: a
+ *     processor keeps its own, and creates none above itself.
  *   - Answer and memory are exactly those of the definitions in crates/model/specs.
  */
 #ifndef WIK_H
@@ -52,6 +54,7 @@ enum wik_number {
     WIK_NOT_STOPPED = 10,
     WIK_PROTECTED = 11,
     WIK_BAD_ARGUMENT = 12,
+    WIK_ABOVE_ITSELF = 13,      /* CRP with a priority above that of the one that runs it */
 
     WIK_WRONG_LENGTH = 20,      /* refusals: nothing has changed */
     WIK_IDLE = 22,              /* nobody runs: deliver an interrupt */
@@ -101,6 +104,7 @@ static inline const char *wik_text(uint64_t answer) {
     case WIK_NOT_STOPPED: return "fault: the processor to delete is not stopped";
     case WIK_PROTECTED: return "fault: protected word";
     case WIK_BAD_ARGUMENT: return "fault: bad argument";
+    case WIK_ABOVE_ITSELF: return "fault: a priority above its own";
     case WIK_WRONG_LENGTH: return "refused: the length is not 8192";
     case WIK_IDLE: return "refused: nobody runs";
     case WIK_NATIVE: return "refused: the word at LR is not 224";
@@ -121,11 +125,12 @@ static inline const char *wik_text(uint64_t answer) {
 }
 
 /* The fresh start, on any memory of 8,192 words: processor 1 runs at 2752, nineteen pages are free. line is the clock's line, 16-47; divider is 1-255.
+ * Processor 1 has priority 1, and so has everybody that is created after it; other priorities come from settings only.
  * Answers WIK_DONE; 20; 26 where line or divider is out of range. */
 uint64_t wik_fresh(uint8_t *memory, size_t length, uint16_t line, uint16_t divider);
 
 /* The fresh start from a file of settings (docs/SETTINGS.md): that of wik_fresh with the file's clock line and divider, then its processors, each created
- * stopped, in order, as CRP does it; processor 1 runs at 2752. file are the file_length bytes in use; they are only read, must lie outside of the memory
+ * stopped, in order, as CRP does it, but with whatever priority of 1-15 the file gives; processor 1 runs at 2752. file are the file_length bytes in use; they are only read, must lie outside of the memory
  * that is lent, and file is no null pointer even where there are none.
  * Answers WIK_DONE; 20; 29 with wik_version; 28; 26 where a name stands twice or is 1, or a value is out of range. */
 uint64_t wik_fresh_from_settings(uint8_t *memory, size_t length, const uint8_t *file, size_t file_length);

@@ -6,7 +6,7 @@ use Rattle.model.specs.Map.{place, pageSize, link, listLink, processorList, wai
 use Rattle.model.specs.Answer.{notStartable}
 use Rattle.model.specs.Operate as Operate
 use Rattle.model.specs.Bytes.{Memory, Step, word, start, setLr, done, fault, onPage}
-use Rattle.model.specs.Bytes.{st2Found, zeroed, headed, join, created}
+use Rattle.model.specs.Bytes.{st2Found, zeroed, headed, join, created, running, priority}
 
 module _ (m : Memory) (o : Step) (p len : ℕ) where
   module _ (a x : ℕ) (ex : x ≡ word m p state) (h : 128 ≤ x) where
@@ -30,4 +30,7 @@ pub created-is : (m m₁ m₂ m₃ : Memory) (q n b w a s : ℕ) → s ≡ place
 unfolding Operate.created
 created-is m m₁ m₂ m₃ q n b w a s es e₁ e₂ e₃ = rw (← es, ← e₁, ← e₂) e₃
 
-pub ruleset creates = (st2-starts, st2-waits, page-at, st2-at, created-is)
+pub own-is : (m : Memory) (r v : ℕ) → r ≡ running m → v ≡ priority m r → v ≡ priority m (running m)
+own-is m r v er ev = rw (← er) ev
+
+pub ruleset creates = (st2-starts, st2-waits, page-at, st2-at, created-is, own-is)

@@ -13,6 +13,7 @@ use model::map;
 use model::wide;
 use pages::take_page;
 use processors::page_of;
+use processors::priority;
 use processors::running;
 use processors::set_lr;
 use processors::start;
@@ -153,6 +154,15 @@ fn crp_page(m: &mut [u8], name: Name, priority: u8, w: u8, address: u16, length:
     done(m, length)
 }
 
+// The priority of the one that runs.
+fn own_priority(m: &[u8]) -> u8
+    requires { ⌜ List.length (now m) ≡ 8192 ⌝ }
+    ensures { λ r. ⌜ r ≡ Model.priority (now (m .entry)) (Model.running (now (m .entry))) ⌝ }
+{
+    let r = running(m);
+    priority(m, r)
+}
+
 pub fn crp(m: &mut [u8], name: Name, priority: u8, w: u8, address: u16, length: u16) -> Answer
     requires { ⌜ (List.length (now m) ≡ 8192) × (name .0 < 16) × (priority < 16) × (length < 8192) ⌝ }
     ensures { λ r. ⌜ gives r (now (m .exit)) ≡ Model.crp (now (m .entry)) (name .0) priority w address length ⌝ }
@@ -162,6 +172,10 @@ pub fn crp(m: &mut [u8], name: Name, priority: u8, w: u8, address: u16, length: 
     }
     if priority == 0 {
         return fault(m, faults::BAD_ARGUMENT);
+    }
+    let own = own_priority(m);
+    if own < priority {
+        return fault(m, faults::ABOVE_ITSELF);
     }
     let page = page_of(m, name);
     if page.0 == 0 {

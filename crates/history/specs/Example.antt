@@ -61,13 +61,13 @@ use Rattle.history.specs.Said.{times, none-twice, times-append}
 abbrev program : List ℕ
 program = 224 ∷ 65 ∷ 43 ∷ 184 ∷ 224 ∷ 81 ∷ 32 ∷ 224 ∷ 97 ∷ 44 ∷ 28 ∷ []
 
--- then: CRP 2 with priority 2, which starts at 3300; ST1 2; DEP 2; CRP 2 again
+-- then: CRP 2 with priority 1, which starts at 3300; ST1 2; STP 1; DEP 2; CRP 2 again
 abbrev making : List ℕ
-making = 224 ∷ 178 ∷ 32 ∷ 12 ∷ 228 ∷ 224 ∷ 130 ∷ 224 ∷ 194 ∷ 224 ∷ 178 ∷ 32 ∷ 12 ∷ 228 ∷ []
+making = 224 ∷ 178 ∷ 16 ∷ 12 ∷ 228 ∷ 224 ∷ 130 ∷ 224 ∷ 145 ∷ 224 ∷ 194 ∷ 224 ∷ 178 ∷ 16 ∷ 12 ∷ 228 ∷ []
 
--- from 3300, where 2 starts: SME to 1 with flag 2 of the text at 3000; STP 2
+-- from 3300, where 2 starts: SME to 1 with flag 2 of the text at 3000; ST1 1; STP 2
 abbrev sender : List ℕ
-sender = 224 ∷ 65 ∷ 75 ∷ 184 ∷ 224 ∷ 146 ∷ []
+sender = 224 ∷ 65 ∷ 75 ∷ 184 ∷ 224 ∷ 129 ∷ 224 ∷ 146 ∷ []
 
 -- length 2, text 5 6
 abbrev spoken : List ℕ
@@ -93,7 +93,7 @@ module _ (S : Store) where
   abbrev m4 : S .M
   m4 = memoryOf (Call.instruction S m3)
 
-  -- 2 is created, is started, sends, stops; is deleted, and created again
+  -- 2 is created, is started, and 1 stops; 2 sends, starts 1, stops; it is deleted, and created again
   abbrev m5 : S .M
   m5 = memoryOf (Call.instruction S m4)
 
@@ -112,6 +112,12 @@ module _ (S : Store) where
   abbrev m10 : S .M
   m10 = memoryOf (Call.instruction S m9)
 
+  abbrev m11 : S .M
+  m11 = memoryOf (Call.instruction S m10)
+
+  abbrev m12 : S .M
+  m12 = memoryOf (Call.instruction S m11)
+
   -- who lives and what waits: after SME a message on page 237, after RME none
   record Seen : Type 0 where
     living2 : Queue.processors S m2 ≡ 236 ∷ []
@@ -126,11 +132,11 @@ module _ (S : Store) where
     left1 : Queue.queue S m4 7557 ≡ []
     left2 : Queue.queue S m4 7558 ≡ []
     -- the second 2 on page 240, and mail of 2 on page 239 in Q1 of 1
-    living10 : Queue.processors S m10 ≡ 236 ∷ 240 ∷ []
-    named10 : S .get m10 7687 ≡ 34
-    waits10 : Queue.queue S m10 7557 ≡ 239 ∷ []
-    note10 : S .get m10 7649 ≡ 34
-    size10 : S .get m10 7650 ≡ 66
+    living12 : Queue.processors S m12 ≡ 236 ∷ 240 ∷ []
+    named12 : S .get m12 7687 ≡ 18
+    waits12 : Queue.queue S m12 7557 ≡ 239 ∷ []
+    note12 : S .get m12 7649 ≡ 34
+    size12 : S .get m12 7650 ≡ 66
 
 at-trees : Seen trees
 unfolding
@@ -181,11 +187,11 @@ at-trees = record {
   second = refl;
   left1 = refl;
   left2 = refl;
-  living10 = refl;
-  named10 = refl;
-  waits10 = refl;
-  note10 = refl;
-  size10 = refl;
+  living12 = refl;
+  named12 = refl;
+  waits12 = refl;
+  note12 = refl;
+  size12 = refl;
 }
 
 seen : Seen bytes
@@ -353,22 +359,28 @@ unfolding Calls.after
 run9 =
     call (m8 bytes) h8 instruct (call (m7 bytes) h7 instruct (call (m6 bytes) h6 instruct (call (m5 bytes) h5 instruct (call (m4 bytes) past instruct example-run))))
 
-run10 : Run (m10 bytes) (later instruct (m9 bytes) h9)
+abbrev h10 : Past
+h10 = later instruct (m9 bytes) h9
+
+abbrev h11 : Past
+h11 = later instruct (m10 bytes) h10
+
+run12 : Run (m12 bytes) (later instruct (m11 bytes) h11)
 unfolding Calls.after
-run10 = call (m9 bytes) h9 instruct run9
+run12 = call (m11 bytes) h11 instruct (call (m10 bytes) h10 instruct (call (m9 bytes) h9 instruct run9))
 
 pub example-namesake : Namesake
 example-namesake = record {
-  memory = m10 bytes;
-  past = later instruct (m9 bytes) h9;
-  run = run10;
+  memory = m12 bytes;
+  past = later instruct (m11 bytes) h11;
+  run = run12;
   holder = 236;
-  holds = rw (seen .living10) (omega arith);
+  holds = rw (seen .living12) (omega arith);
   page = 239;
-  waits = (omega arith, omega arith, rw (seen .waits10) (omega arith));
-  marked = rw (seen .size10);
-  mail = rw (seen .size10);
+  waits = (omega arith, omega arith, rw (seen .waits12) (omega arith));
+  marked = rw (seen .size12);
+  mail = rw (seen .size12);
   other = 240;
-  lives = rw (seen .living10) (omega arith);
-  named = rw (seen .named10, seen .note10);
+  lives = rw (seen .living12) (omega arith);
+  named = rw (seen .named12, seen .note12);
 }

@@ -39,4 +39,5 @@ pub mod Begin
 pub mod Lives
 pub mod Senders
 pub mod Said
+pub mod Highest
 pub mod Example

@@ -147,7 +147,7 @@ grown-kept {m} {m′} {e} t h k p i s f = go (leb 1 (count p (processors m))) re
         rw (q, now) (adds (key s f) (h .read p) (of p (e .reads)) (waitingFor m p) (waitingFor m′ p) (h .put p) (of p (e .puts)) (t .at p j i s f) (k p j s f))
     go false q =
         let j = leb-false 1 (count p (processors m)) q in
-        rw (q, t .born p (omega arith) i)
+        rw (q, t .born p (omega arith) i .0)
 
 -- ---- the laws of one call
 pub passing-lawful : {m m′ : List ℕ} → Passing m m′ → Lawful m m′ nothing

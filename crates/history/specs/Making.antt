@@ -1,12 +1,13 @@
--- Instructions: CRP puts and reads nothing; Q1 and Q2 of every processor stay, and the new one has nothing. Assumes nothing.
+-- Instructions: CRP puts and reads nothing; Q1 and Q2 of every processor stay, and the new one has nothing, and no higher a priority than the one that ran.
+-- Assumes nothing.
 use mathlib.Core.Path.{_≡_, refl, ap, _∙_}
 use mathlib.Core.Logic.{_≢_, _⊎_, inl, inr}
 use mathlib.Core.List.{List, [], _∷_, _++_, append-nil}
 use Prim.Native.Nat.{ℕ, _≤_, _<_}
 use native.Mathlib.Omega.{arith}
 use lib.ListN.{getD}
-use Rattle.model.specs.Map.{controlPages, label, lastName, lastPriority, link, listLink, place, processorList, q1, q2}
-use Rattle.model.specs.Bytes.{running, word, lists, processors, pageOf, queue, created, waitsForPage}
+use Rattle.model.specs.Map.{controlPages, label, lastName, lastPriority, link, listLink, pair, place, processorList, q1, q2, upper}
+use Rattle.model.specs.Bytes.{running, word, lists, priority, processors, pageOf, queue, created, waitsForPage}
 use Rattle.model.specs.Answer.{memoryOf}
 use Rattle.model.specs.Bytes as Model
 use Rattle.model.specs.Lists.{count, Lists}
@@ -21,7 +22,7 @@ use Rattle.laws.specs.Grants.Takes.{gets, lacks}
 use Rattle.laws.specs.Ways.{Faults, crp-each, crp-page-each}
 use Rattle.laws.specs.Aside.{aside-hand, Aside}
 use Rattle.laws.specs.Who.{listed, Busy, busy}
-use Rattle.laws.specs.Create.{made, only, below, created-base, created-word, nobody}
+use Rattle.laws.specs.Create.{made, only, below, label-is, created-base, created-word, nobody}
 use Rattle.history.specs.Letter.{Same, Posts, posts, posts-on, posts-then, agrees, waitingFor, label-same, waits-same, procs-same}
 use Rattle.history.specs.Letter.Mine.{page}
 use Rattle.history.specs.Put.{nothing}
@@ -73,6 +74,9 @@ module _ {m : List ℕ} {ps : List ℕ} {L : Lists} {W : View} {hs : List ℕ} {
       ∙ below b n r v a k (omega arith))
       (omega arith)
 
+  created-own : word m2 q label ≡ pair r n
+  created-own = made-word (place q label) (omega (arith, pg)) (omega arith) (λ z i. omega arith) ∙ label-is b n r v a
+
   created-empty : waitingFor m2 q ≡ []
   unfolding waitingFor
   created-empty = rw (empty-queue q1 (omega arith) (omega arith), empty-queue q2 (omega arith) (omega arith))
@@ -86,8 +90,9 @@ module _ {m : List ℕ} (w : WellFormed m) (d : running m ≢ 0) where
   bad : Faults m Ends
   bad = record { all = λ f i j. fault-lawful w d f }
 
-  crp-page : (n r v a len : ℕ) → 1 ≤ n → n ≤ lastName → 1 ≤ r → r ≤ lastPriority → pageOf m n ≡ 0 → Lawful m (memoryOf (Model.crpPage m n r v a len)) nothing
-  crp-page n r v a len n1 n2 r1 r2 free = go (take-page (running m) hr b)
+  crp-page : (n r v a len : ℕ) → 1 ≤ n → n ≤ lastName → 1 ≤ r → r ≤ lastPriority → r ≤ priority m (running m)
+      → pageOf m n ≡ 0 → Lawful m (memoryOf (Model.crpPage m n r v a len)) nothing
+  crp-page n r v a len n1 n2 r1 r2 under free = go (take-page (running m) hr b)
     where
       go : Takes m (running m) (lists m processorList) (lists m) (view m) [] noOne → Lawful m (memoryOf (Model.crpPage m n r v a len)) nothing
       go (lacks e f2 g2) =
@@ -117,7 +122,16 @@ module _ {m : List ℕ} (w : WellFormed m) (d : running m ≢ 0) where
                   label-same d2 p (more p j) ∙ created-label (t .base) n r v a n1 n2 r1 r2 fr p j ∙ label-same s1 p j;
               born = λ p h i.
                   let pq : p ≡ q = new p q (omega (arith, ap (count p) pr, count-append p (lists m processorList) (q ∷ []), ap (count p) lm)) in
-                  rw pq (waits-same (c .base) (posts d2) q qc ∙ created-empty (t .base) n r v a n1 n2 r1 r2 fr);
+                  let lq : word (memoryOf (Model.done m2 len)) q label ≡ pair r n =
+                  label-same d2 q qc ∙ created-own (t .base) n r v a n1 n2 r1 r2 fr in
+                  let up : upper (pair r n) ≡ r = omega arith in
+                  rw pq (
+                    waits-same (c .base) (posts d2) q qc ∙ created-empty (t .base) n r v a n1 n2 r1 r2 fr,
+                    record {
+                      creator = rw lm hr;
+                      most = rw (lq, up) under;
+                    },
+                  );
             };
             stands = stands-none m3;
             -- by pages: those of the ones that lived stay, and the new one has none
@@ -147,4 +161,4 @@ module _ {m : List ℕ} (w : WellFormed m) (d : running m ≢ 0) where
               cases (inr y) = absurd (omega (arith, hit-other p q y))
 
   pub crp-lawful : (n r v a len : ℕ) → n < 16 → r < 16 → Lawful m (memoryOf (Model.crp m n r v a len)) nothing
-  crp-lawful n r v a len hn hr = crp-each bad n r v a len (λ g. crp-page n r v a len (g .name) (omega arith) (g .priority) (omega arith) (g .unnamed))
+  crp-lawful n r v a len hn hr = crp-each bad n r v a len (λ g. crp-page n r v a len (g .name) (omega arith) (g .priority) (omega arith) (g .under) (g .unnamed))

@@ -19,6 +19,7 @@ use Rattle.model.specs.Call as Call
 use Rattle.model.specs.Call.{isOuter, isClass}
 use Rattle.model.specs.Layout.{isGood, ofFile}
 use Rattle.model.specs.Processor.{inRange}
+use Rattle.model.specs.Lists.{count}
 use Rattle.laws.specs.Uses.{Sep, proc-page}
 use Rattle.laws.specs.Inv.{Base, noOne, view}
 use Rattle.laws.specs.Judged.{invariant}
@@ -47,7 +48,7 @@ passing-on {m} {m₁} {m₂} s t = record {
   told = record {
     at = λ p i j k f. t .told .at p (rw (s .still .alive) i) j k f ∙ ap (only (key k f)) (between p) ∙ s .told .at p i (rw (s .still .alive) i) k f;
     keeps = λ p i j. t .told .keeps p (rw (s .still .alive) i) j ∙ s .told .keeps p i (rw (s .still .alive) i);
-    born = λ p i j. t .told .born p (rw (s .still .alive) i) j;
+    born = λ p i j. absurd (omega (arith, ap (count p) (t .still .alive), ap (count p) (s .still .alive)));
   };
   still = still-on (s .still) (t .still);
 }

@@ -190,7 +190,7 @@ module _ {m m′ : List ℕ} {e : Mailed} (t : Lawful m m′ e) (one : OneEach m
   mail p w x i c n = go (zero-or (count p (processors m)))
     where
       go : (count p (processors m) ≡ 0) ⊎ (1 ≤ count p (processors m)) → Known m′ h′ x
-      go (inl z) = absurd (none-waits m′ p w x (t .told .born p z i) c)
+      go (inl z) = absurd (none-waits m′ p w x (t .told .born p z i .0) c)
       go (inr j) = mail-on p w x i c n (t .traced .pages p w x j i (c .0) (c .1) (c .2)) j
 
   -- ---- notices: to whom it goes is the life that sent what it is about

@@ -17,7 +17,7 @@ use Rattle.model.specs.Map.{place, q1}
 use Rattle.model.specs.Answer as Answer
 use Rattle.model.specs.Answer.{memoryOf}
 use Rattle.model.specs.Processor as Processor
-use Rattle.model.specs.Bytes.{processors, queue, fault, done, jumps, waits, setLr, lr, putToWait, whoRuns}
+use Rattle.model.specs.Bytes.{priority, processors, queue, fault, done, jumps, waits, setLr, lr, putToWait, whoRuns}
 use Rattle.model.specs.Lists.{count, Lists, queues}
 use Rattle.laws.specs.Uses.{Sep, proc-page}
 use Rattle.laws.specs.Inv.{View, Base}
@@ -30,14 +30,19 @@ use Rattle.history.specs.Letter.{Letter, mailOf, key, waitingFor, Same, 
 use Rattle.history.specs.Put.{of, Mailed, nothing}
 use Rattle.history.specs.Calm.{calm-lr, calm-turn, calm-wait, ours-unmoved, ours-low, ours-proc}
 
+-- ---- document 02, 6/13: "No creating above yourself". Someone ran who lives, and the one of page p, who is new, has no higher a priority than that one had
+pub record Under (m m′ : List ℕ) (p : ℕ) : Type 0 where
+  pub creator : 1 ≤ count (running m) (processors m)
+  pub most : priority m′ p ≤ priority m (running m)
+
 -- ---- from m to m′ with the mail e, for every processor that lives before and after
 pub record Told (m m′ : List ℕ) (e : Mailed) : Type 0 where
   pub at : (p : ℕ) → 1 ≤ count p (processors m) → 1 ≤ count p (processors m′) → (s f : ℕ)
       → only (key s f) (of p (e .reads) ++ waitingFor m′ p) ≡ only (key s f) (waitingFor m p ++ of p (e .puts))
   -- who lives on has the priority and the name it had
   pub keeps : (p : ℕ) → 1 ≤ count p (processors m) → 1 ≤ count p (processors m′) → word m′ p label ≡ word m p label
-  -- who is new has nothing
-  pub born : (p : ℕ) → count p (processors m) ≡ 0 → 1 ≤ count p (processors m′) → waitingFor m′ p ≡ []
+  -- who is new has nothing, and no higher a priority than the one that ran
+  pub born : (p : ℕ) → count p (processors m) ≡ 0 → 1 ≤ count p (processors m′) → (waitingFor m′ p ≡ []) × Under m m′ p
 
 -- what was put stands at the end of Q1, word for word
 pub record Stands (m′ : List ℕ) (e : Mailed) : Type 0 where

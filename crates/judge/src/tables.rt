@@ -132,7 +132,7 @@ pub fn clock(m: &[u8]) -> bool
     )
 }
 
-// "page 9 in range with names 1-15, faults 1-12, unused zero": entry i + 1, used; used or not; all of them.
+// "page 9 in range with names 1-15", "faults 1 to 13", "unused zero": entry i + 1, used; used or not; all of them.
 fn used(m: &[u8], i: u8) -> bool
     requires { ⌜ length (now m) ≡ 8192 ⌝ }
     ensures { λ r. ⌜ r ≡ holds (Judge.used bytes (now (m .entry)) i) ⌝ }

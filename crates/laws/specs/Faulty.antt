@@ -11,7 +11,7 @@ use lib.Dec.{eqb, ltb}
 use borrow.Author.Tests.{eqb-false}
 use Rattle.model.specs.declared.Finding.{Finding}
 use Rattle.model.specs.declared.Finding.the-variants.{Nothing, WrongLength, Broken}
-use Rattle.model.specs.Map.{place, pair, state, stopSet, firstUnused, entryAt, entriesFull, lastFault, processorList, runningPage}
+use Rattle.model.specs.Map.{place, pair, state, stopSet, firstUnused, entryAt, entriesFull, grantFor, lastFault, lastName, processorList, runningPage}
 use Rattle.model.specs.Processor as Processor
 use Rattle.model.specs.Fault as Faults
 use Rattle.model.specs.Answer as Answer
@@ -25,8 +25,9 @@ use Rattle.laws.specs.Inv.{Base, View, noOne, view}
 use Rattle.laws.specs.Frames.{other}
 use Rattle.laws.specs.Words.{either}
 use Rattle.laws.specs.Judged.{WellFormed, invariant}
-use Rattle.laws.specs.Who.{chosen-in}
+use Rattle.laws.specs.Who.{zero-low, chosen-in}
 use Rattle.laws.specs.Ends.{run-page, fault-base}
+use Rattle.laws.specs.Unmoved.{fault-frame}
 use Rattle.laws.specs.Turns.{Turned, who-turns}
 use Rattle.laws.specs.Findings.{found-well, found-broken}
 use Rattle.laws.specs.Kinds.{instruction-kind}
@@ -119,3 +120,16 @@ module _ (m : List ℕ) (f n : ℕ) (e : numbers (answerOf (instruction m)) ≡ 
     stays = λ q. memory-is ∙ turn .0 (run-same ∙ q);
     turns = λ d. rw memory-is (rw run-same at (turn .1 (λ q. d (sym run-same ∙ q))));
   }
+
+  -- ---- document 02, 6/13: "keeps its grant if it faults". Word k of page 10 is as it was, for every name k
+  pub grants-stay : (k : ℕ) → 1 ≤ k → k ≤ lastName → at (memoryOf (instruction m)) (grantFor k) ≡ at m (grantFor k)
+  unfolding Answer.memoryOf
+  grants-stay k l u =
+      let next = b .mem .reads .fixed .next in
+      let full = b .facts .faults .range in
+      rw (is .0) (fault-frame m f (b .mem .size) (page .0) (omega (arith, page .1)) (grantFor k) (record {
+        page = omega arith;
+        label = omega arith;
+        zero = λ i h. omega (arith, zero-low i h);
+        kept = λ i h. omega (arith, page);
+      }) (omega (arith, page)) (omega arith) (omega arith))

@@ -166,7 +166,7 @@ pub record Clock (l : ℕ → ℕ) : Type 0 where
   pub line : (firstOuter ≤ l clockLine) × (l clockLine ≤ lastLine)
   pub nought : l zeroWord ≡ 0
 
--- "page 9 in range with names 1-15, faults 1-12, unused zero"
+-- "page 9 in range with names 1-15", "faults 1 to 13", "unused zero"
 pub record Entry (w : ℕ) : Type 0 where
   pub name : (1 ≤ upper w) × (upper w ≤ lastName)
   pub fault : (1 ≤ lower w) × (lower w ≤ lastFault)

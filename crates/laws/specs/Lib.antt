@@ -69,6 +69,7 @@ pub mod Numbers
 pub mod Files
 pub mod Bursts
 pub mod Faulty
+pub mod Above
 pub mod Unmoved
 pub mod Turns
 pub mod UsedOnce

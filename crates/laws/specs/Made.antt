@@ -1,5 +1,6 @@
--- Settings that survive a box swap: "creation of the entries in order, processor 1's LR staying". What an entry makes is what CRP leaves when it is done, with
--- the LR of the one that runs put back: so the memory is well-formed, and one processor more is on the list, stopped. Assumes nothing.
+-- Settings that survive a box swap: "creation of the entries in order, processor 1's LR staying". What an entry makes is what CRP leaves behind its tests, when
+-- it is done, with the LR of the one that runs put back: so the memory is well-formed, and one processor more is on the list, stopped. Of CRP's tests it is
+-- only that of its own priority which an entry need not pass: "A fresh start from settings isn't bound by this rule." Assumes nothing.
 use mathlib.Core.Path.{_≡_, sym, ap, _∙_}
 use mathlib.Core.Logic.{_≢_, _⊎_, inl, inr}
 use mathlib.Core.List.{List, [], _∷_, _++_}
@@ -26,7 +27,7 @@ use Rattle.model.specs.Answer as Answer
 use Rattle.model.specs.Answer.Outcome.{gives}
 use Rattle.model.specs.Settings as Settings
 use Rattle.model.specs.Bytes as Model
-use Rattle.model.specs.Bytes.{word, store, lists, processors, running, pageOf, takePage, created, crp, lr, lrOf, setLr, advance, registersOf, keptOn}
+use Rattle.model.specs.Bytes.{word, store, lists, processors, running, pageOf, takePage, created, crpPage, lr, lrOf, setLr, advance, registersOf, keptOn}
 use Rattle.model.specs.Lists.{count, Lists}
 use Rattle.laws.specs.Count.{hit-self, hit-other, hit-or, count-append}
 use Rattle.laws.specs.Chain.{Page}
@@ -144,10 +145,17 @@ stands-on {m} {m′} {p} f s = record {
   mail = λ j l u. f j (omega arith) (omega arith) ∙ s .mail j l u;
 }
 
--- what CRP leaves when it is done, with LR of the one that runs put back, is m′
+-- what CRP asks of name and priority, but that the one that runs has as high a one
+pub record Unbound (m : List ℕ) (e : Entry) : Type 0 where
+  pub name : 1 ≤ e .name
+  pub priority : 1 ≤ e .priority
+  pub unnamed : pageOf m (e .name) ≡ 0
+
+-- what CRP leaves behind its tests when it is done, with LR of the one that runs put back, is m′
 pub record ByCrp (len : ℕ) (m : List ℕ) (e : Entry) (m′ : List ℕ) : Type 0 where
+  pub tests : Unbound m e
   pub left : List ℕ
-  pub done : crp m (e .name) (e .priority) (e .w) (e .address) len ≡ gives Done left
+  pub done : crpPage m (e .name) (e .priority) (e .w) (e .address) len ≡ gives Done left
   pub back : setLr left (running left) (lr m) ≡ m′
 
 -- ---- from a well-formed memory, with page q taken and the memory m1 left: that page becomes a processor
@@ -301,18 +309,11 @@ module _ {m : List ℕ} (w : WellFormed m) where
       unfolding advanced
       advanced-well = kept-keeps (lr-kept m2 r (wrapped (lr m) len) (λ z. page-r)) made-well
 
-      crp-goes : crp m (e .name) (e .priority) (e .w) (e .address) len ≡ Model.done m2 len
-      unfolding Operate.crp Operate.crpPage Operate.withPage
-      crp-goes =
-          rw (
-            ne-eqb (e .name) 0 (omega (arith, f .name)),
-            ne-eqb (e .priority) 0 (omega (arith, f .priority)),
-            eq-eqb (pageOf m (e .name)) 0 free,
-            k,
-            ne-eqb q 0 (omega (arith, pg)),
-          )
+      crp-goes : crpPage m (e .name) (e .priority) (e .w) (e .address) len ≡ Model.done m2 len
+      unfolding Operate.crpPage Operate.withPage
+      crp-goes = rw (k, ne-eqb q 0 (omega (arith, pg)))
 
-      crp-done : crp m (e .name) (e .priority) (e .w) (e .address) len ≡ gives Done advanced
+      crp-done : crpPage m (e .name) (e .priority) (e .w) (e .address) len ≡ gives Done advanced
       unfolding Answer.done
       crp-done = crp-goes ∙ rw (advance-is, who-stays advanced-well)
 
@@ -324,7 +325,12 @@ module _ {m : List ℕ} (w : WellFormed m) where
           (rw (made-stays r lowLr hr (omega arith) (omega arith)) (s .at (place r lowLr))))
 
       pub given-by-crp : ByCrp len m e m2
-      given-by-crp = record { left = advanced; done = crp-done; back = lr-stays }
+      given-by-crp = record {
+        tests = record { name = f .name; priority = f .priority; unnamed = free };
+        left = advanced;
+        done = crp-done;
+        back = lr-stays;
+      }
 
   -- "SME and CRP use the page granted to them, else the first free one"
   given : (d : running m ≢ 0) (q : ℕ) (m1 : List ℕ) → takePage m (running m) ≡ took q m1 → q ≢ 0 → Given q m1
@@ -347,7 +353,7 @@ module _ {m : List ℕ} (w : WellFormed m) where
                 (running m) q′ m′ e;
           } in rw (eq, em) at x
 
--- ---- on a well-formed memory where someone runs and a page is to be had: CRP is done, and with its LR put back that is what the entry makes
+-- ---- on a well-formed memory where someone runs and a page is to be had: CRP behind its tests is done, and with its LR put back that is what the entry makes
 pub crp-makes : {m : List ℕ} → WellFormed m → Small m → running m ≢ 0 → (q : ℕ) (m1 : List ℕ) → takePage m (running m) ≡ took q m1 → q ≢ 0 → (e : Entry)
     → Fields e → pageOf m (e .name) ≡ 0 → (len : ℕ) → ByCrp len m e (Model.made m e) × WellFormed (Model.made m e)
 crp-makes w s d q m1 k z e f free len =

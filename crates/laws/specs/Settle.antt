@@ -28,7 +28,7 @@ use Rattle.model.specs.Settings as Settings
 use Rattle.model.specs.Lists as Lists
 use Rattle.model.specs.Lists.{count, range}
 use Rattle.model.specs.Bytes as Model
-use Rattle.model.specs.Bytes.{word, lists, processors, running, pageOf, isNamed, takePage, takeFree, created, crp, lr, setLr, started, made, allMade}
+use Rattle.model.specs.Bytes.{word, lists, processors, running, pageOf, isNamed, takePage, takeFree, created, crpPage, lr, setLr, started, made, allMade}
 use Rattle.model.specs.Bytes.{fromSettings}
 use Rattle.laws.specs.Count.{hit-self, hit-other, hit-or, count-append}
 use Rattle.laws.specs.Chain.{Page}
@@ -48,12 +48,13 @@ use Rattle.laws.specs.Mails.{first-none, none-first}
 use Rattle.laws.specs.InstructionWords.{small-created}
 use Rattle.laws.specs.Fits.{Fields, file-of, entries-few, entry-of, first-entry, first-differs, bears-not}
 use Rattle.laws.specs.Made.{Given, Stands, AsSet, stands-on, made-is, made-stays, made-low, made-stands, made-well, made-procs, made-free, ByCrp}
-use Rattle.laws.specs.Made.{given-by-crp}
+use Rattle.laws.specs.Made.{Unbound, given-by-crp}
 
--- ---- the entries one after the other, by CRP with LR put back: from m to m′, done each time; len is what LR would grow by
+-- ---- the entries one after the other, by CRP behind its tests with LR put back: from m to m′, done each time; len is what LR would grow by. Each passes the
+-- tests too, but the one of its own priority: `Unbound`
 pub data Created (len : ℕ) : List ℕ → List Entry → List ℕ → Type 0 where
   none : (m : List ℕ) → Created len m [] m
-  one : (m m₁ m′ : List ℕ) (e : Entry) (es : List Entry) → crp m (e .name) (e .priority) (e .w) (e .address) len ≡ gives Done m₁
+  one : (m m₁ m′ : List ℕ) (e : Entry) (es : List Entry) → Unbound m e → crpPage m (e .name) (e .priority) (e .w) (e .address) len ≡ gives Done m₁
       → Created len (setLr m₁ (running m₁) (lr m)) es m′ → Created len m (e ∷ es) m′
 
 -- ---- pages and entries, row by row
@@ -237,7 +238,7 @@ all-settle len (e ∷ es) done m n s a d u =
     let c = by-crp s1 e f (u .0) len in
     let v = unnamed-on m (made m e) (e .name) es (still-unnamed s1 e f (u .0)) (ed .0) (u .1) in
     let r = all-settle len es (done ++ e ∷ []) (made m e) n (one-more s1 e f (u .0)) (ea .1) (ed .1) v in (
-      Created.one m (c .left) (allMade (made m e) es) e es (c .done) (rw (c .back) (r .0)),
+      Created.one m (c .left) (allMade (made m e) es) e es (c .tests) (c .done) (rw (c .back) (r .0)),
       rw (append-assoc done (e ∷ []) es) at (r .1),
     )
 

@@ -114,6 +114,10 @@ protected = 11
 abbrev pub badArgument : ℕ
 badArgument = 12
 
+-- ---- document 02, 6/13: "CRP with a priority higher than that of the processor running it is now fault 13"
+abbrev pub aboveItself : ℕ
+aboveItself = 13
+
 -- ---- "Other answers: done; put to wait; handed out": document 01 gives them no number, so the house does, clear of faults and refusals
 abbrev pub doneNumber : ℕ
 doneNumber = 0

@@ -167,7 +167,7 @@ module _ (S : Store) (m : S .M) (ps : List ℕ) (L : Lists) where
       ∷ tells (range 1 1 builtInCodes) codeWord isForeign
       ∷ []
 
-  -- "page 9 in range with names 1-15, faults 1-12, unused zero"
+  -- "page 9 in range with names 1-15", "faults 1 to 13", "unused zero"
   unfoldable pub inRange : ℕ → Rule
   inRange a = among (at S m a) 1 entriesFull
 

@@ -42,6 +42,9 @@ st1Code = 8
 abbrev pub stpCode : ℕ
 stpCode = 9
 
+abbrev pub crpCode : ℕ
+crpCode = 11
+
 abbrev pub depCode : ℕ
 depCode = 12
 

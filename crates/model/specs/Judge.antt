@@ -58,7 +58,7 @@ module _ (S : Store) (m : S .M) where
   unfoldable pub kind : ℕ → Rule
   kind c = most (top (at S m (codeWord c))) own
 
-  -- "names 1-15, faults 1-12, unused zero": word i + 1 of page 9
+  -- "names 1-15", "faults 1 to 13" (document 02, 6/13), "unused zero": word i + 1 of page 9
   unfoldable pub used : ℕ → Rule
   used i = both (among (upper (at S m (entryAfter i))) 1 lastName) (among (lower (at S m (entryAfter i))) 1 lastFault)
 
@@ -194,7 +194,7 @@ module _ (S : Store) (m : S .M) where
     unfoldable pub clock : Rule
     clock = both counters (both (among (at S m divider) 1 aWord) (among (at S m clockLine) firstOuter lastLine))
 
-    -- "page 9 in range with names 1-15, faults 1-12, unused zero": word i + 1
+    -- "page 9 in range with names 1-15", "faults 1 to 13", "unused zero": word i + 1
     unfoldable pub faults : Rule
     faults = both (among (at S m firstUnused) 1 entriesFull) (below entries entry)
 

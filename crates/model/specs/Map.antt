@@ -375,7 +375,7 @@ lengthIn w = w % mark
 abbrev pub headWords : ℕ
 headWords = 3
 
--- ---- bounds: names and priorities 1-15, flags 1-7, faults 1-12
+-- ---- bounds: names and priorities 1-15, flags 1-7; document 02, 6/13: "faults 1 to 13"
 abbrev pub lastName : ℕ
 lastName = 15
 
@@ -386,7 +386,7 @@ abbrev pub lastFlag : ℕ
 lastFlag = 7
 
 abbrev pub lastFault : ℕ
-lastFault = 12
+lastFault = 13
 
 -- interrupts from outside 16-50, the clock line 16-47; "For 48-50 .. the class number 0-31"
 abbrev pub firstOuter : ℕ

@@ -12,14 +12,15 @@ use Rattle.model.specs.Map.{link, ownSemaphore, q2, processorList, freeS
 use Rattle.model.specs.Map.{headWords, controlPages}
 use Rattle.model.specs.Address.{unless, word, store, at, write, addressAt, wrapped, guarded, clear, zeroed}
 use Rattle.model.specs.Queue.{join, leave}
-use Rattle.model.specs.Processor.{name, stopped, waiting, stop, start, running, pageOf, lr, setLr, advance, handBack, startingAt, stoppedOnce}
+use Rattle.model.specs.Processor.{name, priority, stopped, waiting, stop, start, running, pageOf, lr, setLr, advance, handBack, startingAt}
+use Rattle.model.specs.Processor.{stoppedOnce}
 use Rattle.model.specs.Page.{Taken, takePage, giveBack}
 use Rattle.model.specs.Page.Taken.{took}
 use Rattle.model.specs.Mail.{Tested, inQ1, inQ2, lengthOf, deliver, writeMessage, makeNotice, move, testQ1, copyOut}
 use Rattle.model.specs.Mail.Tested.{tested}
 use Rattle.model.specs.Delete.{delete}
 use Rattle.model.specs.Answer.{Step, done, jumps, waits, absentCode, codeExists, keptCode, badWait, noMatch, noName, notStartable, nameExists}
-use Rattle.model.specs.Answer.{notStopped, protected, badArgument}
+use Rattle.model.specs.Answer.{notStopped, protected, badArgument, aboveItself}
 use Rattle.model.specs.Fault.{fault}
 use Rattle.model.specs.Interrupt.{serve}
 use Rattle.model.specs.Instruction.{st1Code, stpCode, firstGoing, jumpOperation, vepOperation, kind, absent, own, setCode, indexed}
@@ -167,12 +168,14 @@ module _ (S : Store) where
   unfoldable pub crpPage : S .M → ℕ → ℕ → ℕ → ℕ → ℕ → Step S
   crpPage m n b w a len = withPage m (λ q m₁. created m₁ q n b w a) len
 
+  -- document 02, 6/13: "CRP with a priority higher than that of the processor running it is now fault 13. It stands after 12 and before 9."
   unfoldable pub crp : S .M → ℕ → ℕ → ℕ → ℕ → ℕ → Step S
   crp m n b w a len =
       cond (eqb n 0) (fault S m badArgument)
       (cond (eqb b 0) (fault S m badArgument)
+      (cond (ltb (priority S m (running S m)) b) (fault S m aboveItself)
       (unless (eqb (pageOf S m n) 0) (fault S m nameExists)
-      (crpPage m n b w a len)))
+      (crpPage m n b w a len))))
 
   -- ---- code 13: "field I X XN; CODE1 0-5". M is the word at a
   -- "0 A becomes A+M modulo 256, P the carry"

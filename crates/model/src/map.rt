@@ -222,7 +222,7 @@ pub const HEAD_WORDS: u8 = 3;
 
 pub const HEAD_WORDS_WIDE: u16 = 3;
 
-// "names 1-15, priorities 1-15, flags 1-7, faults 1-12".
+// "names 1-15, priorities 1-15, flags 1-7", "faults 1 to 13".
 pub const FIRST_NAME: u8 = 1;
 
 pub const LAST_NAME: u8 = 15;
@@ -231,7 +231,7 @@ pub const LAST_PRIORITY: u8 = 15;
 
 pub const LAST_FLAG: u8 = 7;
 
-pub const LAST_FAULT: u8 = 12;
+pub const LAST_FAULT: u8 = 13;
 
 // "interrupt not 16-50", "line 16-47", "For 48-50 .. the class number 0-31".
 pub const FIRST_OUTER: u8 = 16;

@@ -34,6 +34,12 @@ module _ {A : Type 0} (o x y : A) where
     pub found-less : v < l → o ≡ y → o ≡ cond (leb l k) x y
     found-less h e = rw (← ev, lt-leb l v h) e
 
+    pub found-below : v < l → o ≡ x → o ≡ cond (ltb k l) x y
+    found-below h e = rw (← ev, lt-ltb v l h) e
+
+    pub found-from : l ≤ v → o ≡ y → o ≡ cond (ltb k l) x y
+    found-from h e = rw (← ev, le-ltb v l h) e
+
   -- the test t was found to be b
   module _ (b t : Bool) (eb : b ≡ t) where
     pub found-true : b ≡ true → o ≡ x → o ≡ cond t x y
@@ -51,6 +57,8 @@ pub ruleset ways = (
   found-other,
   found-least,
   found-less,
+  found-below,
+  found-from,
   found-true,
   found-false,
 )

@@ -1,29 +1,31 @@
--- What the kernel promises of mail and notices, on one page. `Run m h` says that the memory m comes from a fresh start, from settings or not, by any calls, and
--- any changes by the host between them, and that h is the past: what was put to each processor and what it has read, in its present life, and which life
--- sent the message of each page (history/specs/Lives.antt). What an instruction puts and reads is `mailed` (history/specs/Put.antt); a message as a value,
--- mail or a notice, is a `Letter`; what waits for a processor is `waitingFor`, Q2 then Q1 (history/specs/Letter.antt). A processor is named by its page.
--- Each statement is followed by its proof. Assumes nothing.
+-- What the kernel promises of mail and notices, and of priorities, over any run, on one page. `Run m h` says that the memory m comes from a fresh start, from
+-- settings or not, by any calls, and any changes by the host between them, and that h is the past: what was put to each processor and what it has read, in its
+-- present life, and which life sent the message of each page (history/specs/Lives.antt). What an instruction puts and reads is `mailed`
+-- (history/specs/Put.antt); a message as a value, mail or a notice, is a `Letter`; what waits for a processor is `waitingFor`, Q2 then Q1
+-- (history/specs/Letter.antt). A processor is named by its page. Each statement is followed by its proof. Assumes nothing.
 use mathlib.Core.Path.{_≡_}
 use mathlib.Core.Logic.{_≢_, _⊎_}
 use mathlib.Core.Bool.{true, false}
 use mathlib.Core.List.{List, [], _∷_, _++_, map}
 use Prim.Native.Nat.{ℕ, suc, _+_, _≤_, _<_}
 use lib.ListN.{length, getD}
-use Rattle.model.specs.Map.{memorySize, place, q1, headWords}
+use Rattle.model.specs.declared.Entry.{Entry}
+use Rattle.model.specs.Map.{memorySize, place, q1, headWords, firstPriority}
 use Rattle.model.specs.Address.{wrapped}
 use Rattle.model.specs.Instruction.{smeCode, rmeCode, depCode}
 use Rattle.model.specs.declared.Fit.the-variants.{Good}
 use Rattle.model.specs.Fresh.{startable}
-use Rattle.model.specs.Layout.{isGood, ofFile}
+use Rattle.model.specs.Layout.{isGood, ofFile, newest, entriesOf}
 use Rattle.model.specs.Answer.{memoryOf}
 use Rattle.model.specs.Lists.{count}
-use Rattle.model.specs.Bytes.{fromSettings, instruction, processors, queue, running, name, at, unmarked, isNotice}
+use Rattle.model.specs.Bytes.{fresh, fromSettings, instruction, priority, processors, queue, running, name, at, unmarked, isNotice}
 use Rattle.laws.specs.Words.{Small}
 use Rattle.laws.specs.Calls.{Act, Host, Reached, after, reached-sound}
 use Rattle.laws.specs.Calls.Act.{fresh-start, fresh-from}
 use Rattle.history.specs.Letter.{Letter, mailOf, ofSenderAndFlag, waitingFor}
 use Rattle.history.specs.Put.{nothing, of, mailed, puts, reads, codeRun, onlyNotices}
 use Rattle.history.specs.Went.{wentTo}
+use Rattle.history.specs.Told.{Under}
 use Rattle.history.specs.Whole.{instruction-lawful, instruction-written, instruction-one}
 use Rattle.history.specs.Traced.{About, Each, Origin, Stood, Turned}
 use Rattle.history.specs.Begin.{settings-empty}
@@ -33,6 +35,8 @@ use Rattle.history.specs.Senders as Senders
 use Rattle.history.specs.Senders.{SentBy, WaitsAt}
 use Rattle.history.specs.Said as Said
 use Rattle.history.specs.Said.{same, same-is, is-same, times}
+use Rattle.history.specs.Highest.{Since, highest, highest-most, highest-least, never-higher, host-never-higher, priority-stays, new-under, above-nobody}
+use Rattle.history.specs.Highest.{fresh-alike, settings-bound}
 use Rattle.history.specs.Example.{Heard, Namesake, letter, example-heard, example-namesake}
 
 -- ---- THE ORDER OF MAIL. At every point of every run, for every processor p that lives, of every sender s and flag f: what it has read, then what waits for
@@ -154,6 +158,42 @@ what-a-notice-is-about m h = instruction-lawful (reached-sound m h) .traced .abo
 pub a-notice-stands-where-the-mail-was : (m : List ℕ) → Reached m → (p : ℕ) → Living (memoryOf (instruction m)) p
     → Turned (memoryOf (instruction m)) p (of p (mailed m .about)) (onlyNotices (of p (puts m)))
 a-notice-stands-where-the-mail-was m h = instruction-lawful (reached-sound m h) .traced .turned
+
+-- ---- NO CREATING ABOVE YOURSELF (document 02, 6/13). `highest m` is the highest priority among those that live (history/specs/Highest.antt): none of them
+-- is above it, and nothing lower is above them all
+pub what-highest-means : (m : List ℕ) → ((p : ℕ) → Living m p → priority m p ≤ highest m)
+    × ((b : ℕ) → ((p : ℕ) → Living m p → priority m p ≤ b) → highest m ≤ b)
+what-highest-means m = (highest-most m (processors m), highest-least m (processors m))
+
+-- in every run, after any call but a fresh start that is taken, from settings or not, it is no higher than before; nor is it after a change by the host
+pub the-highest-never-grows : (m : List ℕ) → Reached m → (a : Act) → restarts a ≡ false → highest (after a m) ≤ highest m
+the-highest-never-grows m h = never-higher (reached-sound m h)
+
+pub the-host-raises-nobody : (m m′ : List ℕ) → Reached m → Host m m′ → highest m′ ≤ highest m
+the-host-raises-nobody m m′ h = host-never-higher (reached-sound m h)
+
+-- since: a life keeps its priority, and one that begins has no higher one than the processor had that ran: `Under`
+pub a-life-keeps-its-priority : (m : List ℕ) → Reached m → (a : Act) → restarts a ≡ false → (p : ℕ) → Living m p → Living (after a m) p
+    → priority (after a m) p ≡ priority m p
+a-life-keeps-its-priority m h = priority-stays (reached-sound m h)
+
+pub who-is-new-is-not-above : (m : List ℕ) → Reached m → (a : Act) → restarts a ≡ false → (p : ℕ) → count p (processors m) ≡ 0 → Living (after a m) p
+    → Under m (after a m) p
+who-is-new-is-not-above m h = new-under (reached-sound m h)
+
+-- so nobody is starved by one created later: who is highest at one point of a run has nobody above it at any later point, `Since`, until the next fresh start
+pub nobody-comes-above : (m m₁ : List ℕ) → Reached m → Since m m₁ → (p : ℕ) → priority m p ≡ highest m → (q : ℕ) → Living m₁ q → priority m₁ q ≤ priority m p
+nobody-comes-above m m₁ = above-nobody
+
+-- "From a fresh start every processor thus has priority 1, but for those of settings": nobody is ever above the first one and all entries
+pub from-fresh-all-are-alike : (m : List ℕ) → length m ≡ memorySize → Small m → (line d : ℕ) → startable line d ≡ true → (m₁ : List ℕ)
+    → Since (memoryOf (fresh m line d)) m₁ → (p : ℕ) → Living m₁ p → priority m₁ p ≡ firstPriority
+from-fresh-all-are-alike m l s line d e m₁ = fresh-alike m l s line d e
+
+pub from-settings-no-higher : (m f : List ℕ) → length m ≡ memorySize → Small m → ofFile f ≡ Good → (b : ℕ) → firstPriority ≤ b
+    → Each (λ (e : Entry). e .priority ≤ b) (entriesOf (newest f)) → (m₁ : List ℕ) → Since (memoryOf (fromSettings m f)) m₁ → (p : ℕ) → Living m₁ p
+    → priority m₁ p ≤ b
+from-settings-no-higher m f l s g b i u m₁ = settings-bound m f l s g b i u
 
 -- ---- what is put and read is what the instruction does. Only SME and DEP put, only RME reads, direct or by EXI: so WNM and TME only move
 pub only-4-and-12-put : (m : List ℕ) → codeRun m ≢ smeCode → codeRun m ≢ depCode → puts m ≡ []

@@ -9,12 +9,12 @@ use mathlib.Core.List.{List, [], _∷_}
 use Prim.Native.Nat.{ℕ, _+_, _≤_, _<_}
 use lib.ListN.{length}
 use Rattle.model.specs.declared.Registers.{Registers}
-use Rattle.model.specs.Map.{memorySize, firstControl, lastControl, lastFault}
+use Rattle.model.specs.Map.{memorySize, firstControl, lastControl, grantFor, lastFault, lastName}
 use Rattle.model.specs.Fresh.{startable}
 use Rattle.model.specs.declared.Answer.the-variants.{Done}
 use Rattle.model.specs.Answer.Outcome.{gives}
 use Rattle.model.specs.Answer.{answerOf, memoryOf, numbers, heldNumbers, verdictNumbers, doneNumber, handedOutNumber, wrongLength}
-use Rattle.model.specs.Bytes.{judged, fresh, fromSettings, instruction, interrupt, burst, setRegisters, readRegisters, judge, running}
+use Rattle.model.specs.Bytes.{judged, fresh, fromSettings, instruction, interrupt, burst, setRegisters, readRegisters, judge, running, at}
 use Rattle.laws.specs.Words.{Small}
 use Rattle.laws.specs.Calls.{Sound, Host, Reached, fresh-starts, fresh-sound, instruction-sound, interrupt-sound, burst-sound, set-sound, host-sound}
 use Rattle.laws.specs.Calls.{settings-sound, reached-sound}
@@ -22,7 +22,9 @@ use Rattle.laws.specs.Numbers as Numbers
 use Rattle.laws.specs.Numbers.{told, toldHeld, toldVerdict, kind-numbers, Refuses, RefuseAll, Told, Class, Bad, sound-good, read-kept, judge-kept}
 use Rattle.laws.specs.Kinds.{instruction-kind, fresh-kind, settings-kind, interrupt-kind, burst-kind, set-kind}
 use Rattle.laws.specs.Refusals.{firstRefusal, lastRefusal, kind-kept, kind-hands}
-use Rattle.laws.specs.Faulty.{Faulted, faulted}
+use Rattle.laws.specs.Faulty.{Faulted, faulted, grants-stay}
+use Rattle.laws.specs.Above.{InOrder, asked, asked-in-order}
+use Rattle.laws.specs.Above.Asked.{one}
 use Rattle.laws.specs.Bursts.{Comes, comes, empty-done}
 use Rattle.laws.specs.UsedOnce.{asProcessor, asFree, asMessage, asGrant, used-once, used-never}
 use Rattle.laws.specs.Witness.{example, example-reached, example-runs}
@@ -109,9 +111,21 @@ pub handed-out-keeps : (m : List ℕ) (program arguments : ℕ) → numbers (ans
 handed-out-keeps m = kind-hands (instruction m) (instruction-kind m)
 
 -- ---- a faulty instruction stops only the processor that ran it, is entered while page 9 has room, and changes nothing else but who runs. From the answer
--- alone, faults being 1-12: `Faulted` says who, which fault, and what every word of the memory is afterwards (laws/specs/Faulty.antt, Turns.antt)
+-- alone, faults being 1-13: `Faulted` says who, which fault, and what every word of the memory is afterwards (laws/specs/Faulty.antt, Turns.antt)
 pub a-fault : (m : List ℕ) (f n : ℕ) → numbers (answerOf (instruction m)) ≡ f ∷ n ∷ [] → f ≤ lastFault → Faulted m f n (memoryOf (instruction m))
 a-fault = faulted
+
+-- so a fault leaves every grant, 13 as any other: "keeps its grant if it faults". Word k of page 10 is as it was, for every name k
+pub a-fault-leaves-the-grants : (m : List ℕ) (f n : ℕ) → numbers (answerOf (instruction m)) ≡ f ∷ n ∷ [] → f ≤ lastFault → (k : ℕ) → 1 ≤ k → k ≤ lastName
+    → at (memoryOf (instruction m)) (grantFor k) ≡ at m (grantFor k)
+a-fault-leaves-the-grants = grants-stay
+
+-- ---- "No creating above yourself" (document 02, 6/13). `asked m` is for whom a CRP asks that the instruction at LR is or that EXI runs there: `one n b`, of name
+-- n and priority b. What it is answered is `InOrder` (laws/specs/Above.antt), test by test: 12 if n or b is 0; else 13 if b is above the priority of the one
+-- that runs, whatever names and pages there are; else 9 if the name exists; else it is done or waits for a page, so that none is refused that asks for no more
+-- than its own
+pub creating-in-order : {m : List ℕ} → Sound m → running m ≢ 0 → (n b : ℕ) → asked m ≡ one n b → InOrder m (instruction m) n b
+creating-in-order = asked-in-order
 
 -- ---- "A burst from the line card", on every memory that the judge of document 01 accepts, of every list of numbers: one of three things comes of it, `Comes`
 -- (laws/specs/Bursts.antt), each with its answer. The list is longer than 64 or odd: 27. Or a pair would be refused as one interrupt, 24 or 25, and each

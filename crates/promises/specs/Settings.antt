@@ -15,22 +15,28 @@ use Rattle.model.specs.Answer.Outcome.{gives}
 use Rattle.model.specs.Layout.{labelled, labelPlace, labelBytes}
 use Rattle.model.specs.Layout.{trailerBytes, mostEntries, ownVersion, versionOf, countOf, trailerPlace, trailerIn, newest, ofBlock, ofFile}
 use Rattle.model.specs.Settings.{placeFor, newLength, written, weight, ofUsed, writeSettings}
-use Rattle.model.specs.Bytes.{fromSettings, settled, lr}
+use Rattle.model.specs.Bytes.{fromSettings, settled, lr, running, priority, pageOf, crp, crpPage}
 use Rattle.laws.specs.Words.{Small}
 use Rattle.laws.specs.Calls.{Sound, settings-starts}
 use Rattle.laws.specs.Numbers as Numbers
 use Rattle.laws.specs.Numbers.{Refuses}
+use Rattle.laws.specs.Above.{crp-behind}
 use Rattle.laws.specs.Settle.{FromSettings, from-settings, settled-lr}
 use Rattle.laws.specs.Files as Files
 use Rattle.laws.specs.Files.{filed, Label, Sample, toldWriting}
 
 -- ---- "A fresh start from settings equals fresh followed by creation of the entries in order, processor 1's LR staying." On any memory of 8,192 words,
 -- whatever it holds, a good file is taken: `FromSettings` (laws/specs/Settle.antt) has the memory that the fresh start with the file's line and divider
--- leaves, and the one that the call leaves. From the first to the second leads CRP, once for each entry, in order, done each time, with LR put back:
--- `Created`. What stands there then is `Settled`: the processors are 1 and the entries in their order, on pages 236, 237, .., each entry stopped with its
+-- leaves, and the one that the call leaves. From the first to the second leads what CRP does behind its tests, once for each entry, in order, done each time,
+-- with LR put back: `Created`. Each entry passes the tests too, but that of its own priority (`Unbound`). What stands there then is `Settled`: the processors are 1 and the entries in their order, on pages 236, 237, .., each entry stopped with its
 -- own name, priority, W and address and all else zero, nothing in its queues; processor 1 runs
 pub a-start-from-settings : (m : List ℕ) → length m ≡ memorySize → Small m → (f : List ℕ) → ofFile f ≡ Good → FromSettings m f
 a-start-from-settings = from-settings
+
+-- what stands behind CRP's tests is CRP itself, wherever they are passed: 6/13, "A fresh start from settings isn't bound by this rule", is all the difference
+pub behind-its-tests-it-is-crp : (m : List ℕ) (n b w a len : ℕ) → 1 ≤ n → 1 ≤ b → b ≤ priority m (running m) → pageOf m n ≡ 0
+    → crp m n b w a len ≡ crpPage m n b w a len
+behind-its-tests-it-is-crp = crp-behind
 
 pub its-lr-stays : (m : List ℕ) (l : length m ≡ memorySize) (s : Small m) (f : List ℕ) (g : ofFile f ≡ Good) → lr (from-settings m l s f g .left) ≡ startAddress
 its-lr-stays m l s f g = settled-lr (from-settings m l s f g .settled)

@@ -154,6 +154,7 @@ fn fault_text(fault: u8) {
         faults::NOT_STOPPED => text(b"the processor to delete is not stopped\n"),
         faults::PROTECTED => text(b"protected word\n"),
         faults::BAD_ARGUMENT => text(b"bad argument\n"),
+        faults::ABOVE_ITSELF => text(b"priority above its own\n"),
         _ => text(b"unknown\n"),
     }
 }

@@ -7,3 +7,4 @@ pub mod Told
 pub mod Bursts
 pub mod Namesakes
 pub mod Settings
+pub mod Above

@@ -10,18 +10,17 @@ use Rattle.model.specs.Delete.{delete}
 use Rattle.model.specs.Same.{by-trees}
 use Rattle.table.specs.Program.{sme, wnm, rme, st1, stp, crp, dep}
 use Rattle.table.specs.Script as Script
-use Rattle.table.specs.Script.{playsFromZero, writes, looks, Script, ok, begins, times}
+use Rattle.table.specs.Script.{playsFromZero, writes, looks, Script, ok, begins, begins-with-2, times}
 use Rattle.table.specs.Script.Line.{step, judges, host, made, has}
 
 -- ---- what rows are made of
--- 1 creates the ledger, of a higher priority, on page 237 and the printer on 238, and starts the ledger; it sends the printer 65, 66, on page 239, and stops
+-- the ledger, of a higher priority, stands on page 237; 1 creates the printer on 238 and starts the ledger; it sends the printer 65, 66, on page 239, and stops
 -- itself; then 1 goes on with the instructions ws
 abbrev pub ledger-sends : List ℕ → Script → Script
 ledger-sends ws s =
-    begins (crp 2 2 0 3000 ++ crp 3 1 0 3500 ++ st1 2 ++ ws)
+    begins-with-2 (crp 3 1 0 3500 ++ st1 2 ++ ws)
     (host 3000 (sme 3 1 3200 ++ stp 2)
     ∷ host 3200 (2 ∷ 65 ∷ 66 ∷ [])
-    ∷ step ok
     ∷ step ok
     ∷ step ok
     ∷ has (7 * 32 + 24) (237 ∷ (2 * 16 + 2) ∷ [])
@@ -60,13 +59,13 @@ held-by-two s =
 -- page 240, has nothing in Q1, and the page of the mail is free, between those of the ledger and of the printer
 unfoldable pub ledger-made-again : Script
 ledger-made-again =
-    ledger-sends (dep 2 ++ crp 2 2 0 3000 ++ dep 3)
+    ledger-sends (dep 2 ++ crp 2 1 0 3000 ++ dep 3)
     (step ok
     ∷ has (239 * 32 + 0) (0 ∷ (2 * 16 + 1) ∷ (64 + 2) ∷ 65 ∷ 66 ∷ [])
     ∷ step ok
     ∷ has (236 * 32 + 1) (238 ∷ [])
     ∷ has (238 * 32 + 1) (240 ∷ [])
-    ∷ has (240 * 32 + 7) ((2 * 16 + 2) ∷ [])
+    ∷ has (240 * 32 + 7) ((1 * 16 + 2) ∷ [])
     ∷ step ok
     ∷ has (240 * 32 + 5) (0 ∷ 0 ∷ [])
     ∷ has (7 * 32 + 20) (241 ∷ 18 ∷ [])
@@ -161,11 +160,11 @@ marked-once-holds = by-trees (λ S. playsFromZero S marked-once) refl
 unfoldable pub own-queues-marked : Script
 unfolding Script.times
 own-queues-marked =
-    begins (crp 2 2 0 3000 ++ st1 2 ++ dep 2)
+    begins-with-2 (st1 2 ++ dep 2)
     (host 3000 (sme 2 1 3200 ++ sme 2 2 3300 ++ wnm 2 1 ++ stp 2)
     ∷ host 3200 (29 ∷ [])
     ∷ host 3300 (2 ∷ 65 ∷ 66 ∷ [])
-    ∷ times 6 (step ok ∷ [])
+    ∷ times 5 (step ok ∷ [])
     ++ has (237 * 32 + 5) (239 ∷ 238 ∷ [])
     ∷ step ok
     ∷ has (238 * 32 + 0) (239 ∷ (2 * 16 + 1) ∷ (64 + 29) ∷ [])
@@ -182,10 +181,10 @@ own-queues-marked-holds = by-trees (λ S. playsFromZero S own-queues-marked) ref
 unfoldable pub true-length-read : Script
 unfolding Script.times
 true-length-read =
-    begins (crp 2 2 0 3000 ++ st1 2 ++ dep 2 ++ wnm 2 3 ++ rme 2 3 3300)
+    begins-with-2 (st1 2 ++ dep 2 ++ wnm 2 3 ++ rme 2 3 3300)
     (host 3000 (sme 1 3 3200 ++ stp 2)
     ∷ host 3200 (2 ∷ 65 ∷ 66 ∷ [])
-    ∷ times 5 (step ok ∷ [])
+    ∷ times 4 (step ok ∷ [])
     ++ has (238 * 32 + 1) ((2 * 16 + 3) ∷ (64 + 2) ∷ [])
     ∷ step ok
     ∷ step ok

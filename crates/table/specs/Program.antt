@@ -27,6 +27,9 @@ st1 n = 224 ∷ (128 + n) ∷ []
 abbrev pub stp : ℕ → List ℕ
 stp n = 224 ∷ (144 + n) ∷ []
 
+abbrev pub st2 : ℕ → ℕ → List ℕ
+st2 n a = 224 ∷ (160 + n) ∷ address 0 a
+
 abbrev pub crp : ℕ → ℕ → ℕ → ℕ → List ℕ
 crp n b w a = 224 ∷ (176 + n) ∷ (b * 16 + w) ∷ address 0 a
 

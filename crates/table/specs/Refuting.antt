@@ -8,7 +8,7 @@ use Rattle.model.specs.Store.{bytes}
 use Rattle.model.specs.Same.{by-trees}
 use Rattle.table.specs.Program.{win, sme, wnm, rme, tme, st1, crp, dep, exi}
 use Rattle.table.specs.Script as Script
-use Rattle.table.specs.Script.{playsFromZero, Script, ok, put-to-wait, registers, begins, mailed}
+use Rattle.table.specs.Script.{playsFromZero, Script, ok, put-to-wait, registers, begins, begins-with-2, mailed}
 use Rattle.table.specs.Script.Line.{step, signal, sets, judges, host, made, has}
 
 -- ---- deleting
@@ -118,7 +118,7 @@ order-rme-holds = by-trees (λ S. playsFromZero S order-rme) refl
 -- ---- who runs, waiting, EXI
 -- "the running one stays if ready and no ready one has higher priority"
 unfoldable pub lower-runs : Script
-lower-runs = begins (crp 2 2 0 3000 ++ st1 2) (step ok ∷ step ok ∷ has (7 * 32 + 24) (237 ∷ (2 * 16 + 2) ∷ []) ∷ [])
+lower-runs = begins-with-2 (st1 2) (step ok ∷ has (7 * 32 + 24) (237 ∷ (2 * 16 + 2) ∷ []) ∷ [])
 
 pub lower-runs-holds : playsFromZero bytes lower-runs ≡ true
 unfolding Script.playsFromZero lower-runs
@@ -126,7 +126,7 @@ lower-runs-holds = by-trees (λ S. playsFromZero S lower-runs) refl
 
 -- "13-15 and 16-31 keep words 4-6 and 16-31 of page 0 while another runs": the last of them
 unfoldable pub saved-words : Script
-saved-words = begins (crp 2 2 0 3000 ++ st1 2) (host 31 (9 ∷ []) ∷ step ok ∷ step ok ∷ has (236 * 32 + 31) (9 ∷ []) ∷ has 31 (0 ∷ []) ∷ [])
+saved-words = begins-with-2 (st1 2) (host 31 (9 ∷ []) ∷ step ok ∷ has (236 * 32 + 31) (9 ∷ []) ∷ has 31 (0 ∷ []) ∷ [])
 
 pub saved-words-holds : playsFromZero bytes saved-words ≡ true
 unfolding Script.playsFromZero saved-words

@@ -6,9 +6,9 @@ use mathlib.Core.Bool.{Bool, true}
 use mathlib.Core.List.{List, [], _∷_, _++_}
 use Rattle.model.specs.Store.{bytes}
 use Rattle.model.specs.Same.{by-trees}
-use Rattle.table.specs.Program.{win, sme, wnm, rme, st1, stp, crp, dep, code}
+use Rattle.table.specs.Program.{win, sme, wnm, rme, st1, stp, dep, code}
 use Rattle.table.specs.Script as Script
-use Rattle.table.specs.Script.{playsAll, Script, ok, put-to-wait, begins, times, repeated, faulty}
+use Rattle.table.specs.Script.{playsAll, Script, ok, put-to-wait, begins, begins-with-2, times, repeated, faulty}
 use Rattle.table.specs.Script.Line.{fresh-start, step, reads, judges, host, has}
 
 -- (a) "Fresh, line 16, divider 5: page 7 words 15-27 are 16,0,0,0,0,237,19,0,236,236,17,0,5; page 236 words 7-12 are 17,0,0,10,192,0."
@@ -112,12 +112,11 @@ row-f =
 unfoldable pub row-g : Script
 row-g = faulty (dep 1) 10
 
--- (h) "31 faults fill page 9; the 32nd still stops its processor.": 1 makes 2, and starts it again after each of its faults
+-- (h) "31 faults fill page 9; the 32nd still stops its processor.": 1 starts 2, of a higher priority, again after each of its faults
 unfoldable pub row-h : Script
 row-h =
-    begins (crp 2 2 0 3000 ++ repeated 32 (st1 2))
+    begins-with-2 (repeated 32 (st1 2))
     (host 3000 (code 15 0)
-    ∷ step ok
     ∷ times 31 (step ok ∷ step (1 ∷ 2 ∷ []) ∷ [])
     ++ has (9 * 32 + 0) (32 ∷ repeated 31 ((2 * 16 + 1) ∷ []))
     ∷ step ok

@@ -1,7 +1,7 @@
 -- A row is a script of calls on a whole memory of 8,192 words, with the numbers of each answer and the words to be found afterwards. Every call
 -- but fresh judges the memory first. Places and answers are written in document 01's numbers, word k of page p as p * 32 + k, and not by the
 -- model's names: a row that took them from the model would follow it wherever it went.
-use Prim.Native.Nat.{ℕ, zero, suc, _+_, _*_}
+use Prim.Native.Nat.{ℕ, zero, suc, _+_, _*_, _/_, _%_}
 use mathlib.Core.Bool.{Bool, true, false}
 use mathlib.Core.List.{List, [], _∷_, _++_}
 use lib.Dec.{eqb}
@@ -159,6 +159,10 @@ registers a s p z c l w = record { a = a; s = s; p = p; z = z; ci = c; lr = l; w
 -- fresh, line 16, divider 5, with these words from 2752 on
 abbrev pub begins : List ℕ → Script → Script
 begins ws s = fresh-start 16 5 ok ∷ host 2752 ws ∷ s
+
+-- from settings of that line and divider with one entry: processor 2, of the higher priority 2, on page 237, stopped at 3000
+abbrev pub begins-with-2 : List ℕ → Script → Script
+begins-with-2 ws s = settles (1 ∷ 1 ∷ 16 ∷ 5 ∷ 2 ∷ 2 ∷ 0 ∷ 3000 / 256 ∷ 3000 % 256 ∷ 0 ∷ 9 ∷ 1 ∷ 1 ∷ []) ok ∷ host 2752 ws ∷ s
 
 -- the same n times
 unfoldable pub times : ℕ → Script → Script
