@@ -104,7 +104,7 @@ static inline const char *wik_text(uint64_t answer) {
     case WIK_NOT_STOPPED: return "fault: the processor to delete is not stopped";
     case WIK_PROTECTED: return "fault: protected word";
     case WIK_BAD_ARGUMENT: return "fault: bad argument";
-    case WIK_ABOVE_ITSELF: return "fault: a priority above its own";
+    case WIK_ABOVE_ITSELF: return "fault: priority above its own";
     case WIK_WRONG_LENGTH: return "refused: the length is not 8192";
     case WIK_IDLE: return "refused: nobody runs";
     case WIK_NATIVE: return "refused: the word at LR is not 224";
@@ -130,8 +130,8 @@ static inline const char *wik_text(uint64_t answer) {
 uint64_t wik_fresh(uint8_t *memory, size_t length, uint16_t line, uint16_t divider);
 
 /* The fresh start from a file of settings (docs/SETTINGS.md): that of wik_fresh with the file's clock line and divider, then its processors, each created
- * stopped, in order, as CRP does it, but with whatever priority of 1-15 the file gives; processor 1 runs at 2752. file are the file_length bytes in use; they are only read, must lie outside of the memory
- * that is lent, and file is no null pointer even where there are none.
+ * stopped, in order, as CRP does it, but with whatever priority of 1-15 the file gives; processor 1 runs at 2752. file are the file_length bytes in use;
+ * they are only read, must lie outside of the memory that is lent, and file is no null pointer even where there are none.
  * Answers WIK_DONE; 20; 29 with wik_version; 28; 26 where a name stands twice or is 1, or a value is out of range. */
 uint64_t wik_fresh_from_settings(uint8_t *memory, size_t length, const uint8_t *file, size_t file_length);
 

@@ -96,7 +96,14 @@ static void begin_life(void)
     kind = kinds[below(4)];
     late = chance(25);
     scenes_left = from_to(4, 80);
-    order_fresh(from_to(16, 47), divider);
+    if (chance(70)) {
+        start_with_crew(divider);
+        scene_revive();
+    } else {
+        order_fresh(from_to(16, 47), divider);
+        if (chance(70))
+            raise_first();
+    }
     if (chance(80))
         scene_grow();
 }

@@ -236,15 +236,16 @@ static bool build_crp(struct plan *p, const struct look *l, unsigned outcome)
 {
     p->g.address = some_lr();
     p->g.w = below(16);
-    p->g.priority = chance(60) ? from_to(1, runner_of(l)->priority) : from_to(1, 15);
+    p->g.priority = outcome == FAULT_ABOVE_ITSELF ? priority_above(l) : allowed_priority(l);
     p->g.field = outcome == FAULT_NAME_EXISTS ? existing_name(l) : absent_name(l);
     if (outcome == FAULT_ARGUMENT) {
         p->g.field = chance(50) ? 0 : existing_name(l);
-        if (p->g.field != 0 || chance(30))
-            p->g.priority = 0;
+        p->g.priority = p->g.field != 0 || chance(30) ? 0 : chance(60) ? priority_above(l) : p->g.priority;
         return true;
     }
-    return p->g.field != 0;
+    if (outcome == FAULT_ABOVE_ITSELF && (p->g.field == 0 || chance(40)))
+        p->g.field = existing_name(l);
+    return p->g.field != 0 && p->g.priority != 0;
 }
 
 /* A pointer to `target`, in words that may be protected. */
@@ -320,7 +321,7 @@ static builder *const builders[CODES] = {
     build_by_name, build_by_name, build_crp, build_by_name, build_13, build_any, build_any
 };
 
-/* By EXI every instruction with arguments can meet 11 and, if a word has a field, 12. */
+/* By EXI every instruction with arguments can meet 11 and, if a word has a field, 12; CRP before its 13 and 9. */
 bool build(struct plan *p, unsigned code, bool exi, unsigned outcome)
 {
     struct look l = look_at(world);
@@ -332,7 +333,7 @@ bool build(struct plan *p, unsigned code, bool exi, unsigned outcome)
         return build_any(p, &l, outcome);
     if (exi && outcome == FAULT_ARGUMENT && chance(60)) {
         p->bad_word = (int)pick_bad_word(code);
-        return p->bad_word < 6 && builders[code](p, &l, 0);
+        return p->bad_word < 6 && builders[code](p, &l, code == 11 && chance(80) ? FAULT_ABOVE_ITSELF : 0);
     }
     if (exi && outcome == FAULT_PROTECTED && code != 2 && chance(60)) {
         p->protected_words = true;

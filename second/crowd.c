@@ -1,18 +1,20 @@
 /* Plays of a crowd: many processors, mail and waits among them, no page left, grants, and deletions of all kinds. */
 #include "generate.h"
 
-/* Creates processors up to a number, many of them in one put, and starts most of them. */
+/* Creates processors up to a number and starts most of them; a higher one can create more different ones. */
 void scene_grow(void)
 {
     unsigned wanted = chance(40) ? HIGHEST_NAME : from_to(3, HIGHEST_NAME);
 
+    if (chance(70))
+        call_higher();
     for (unsigned left = 40; left > 0 && !is_idle() && !full(); left--) {
         struct look l = look_at(world);
-        unsigned own = runner_of(&l)->priority, name = absent_name(&l);
+        unsigned name = absent_name(&l);
 
         if (l.count >= wanted || name == 0 || (l.free == 0 && runner_of(&l)->grant == 0))
             break;
-        if (!do_create(name, chance(75) ? from_to(1, own) : from_to(1, 15)))
+        if (!do_create(name, some_priority(&l)))
             break;
         if (last.kind == ANSWER_DONE && chance(50))
             do_name(chance(50) ? 8 : 10, name);
@@ -50,7 +52,7 @@ static void fault_before_wait(void)
     if (chance(50))
         try_to(4, chance(35) ? 12 : 11);
     else
-        try_to(11, chance(50) ? 9 : chance(50) ? 12 : 11);
+        try_to(11, chance(35) ? 9 : chance(50) ? 13 : chance(50) ? 12 : 11);
 }
 
 /* With no page left, one after the other asks for one and waits. */
@@ -64,8 +66,8 @@ static void starve(void)
             do_name(9, runner_of(&l)->name);
         else if (chance(30))
             fault_before_wait();
-        else if (name != 0 && chance(50))
-            do_create(name, from_to(1, 15));
+        else if (name != 0 && chance(60))
+            do_create(name, some_priority(&l));
         else
             send_some(name != 0 && chance(25) ? name : existing_name(&l), 6);
     }
@@ -77,6 +79,8 @@ void scene_hunger(void)
         scene_grow();
     flood();
     starve();
+    if (chance(85))
+        scene_second_thoughts();
     for (unsigned left = may_break() ? from_to(1, 5) : 0; left > 0; left--)
         scene_break();
     if (may_break() && chance(50))
@@ -88,14 +92,18 @@ void scene_hunger(void)
 }
 
 /* The runner reads or moves its mail, or deletes somebody, so that pages come back. */
-static void give_something_back(void)
+void give_something_back(void)
 {
     struct look l = look_at(world);
     const struct one *me = runner_of(&l);
 
+    if (me->grant != 0 && chance(60) && create_anew())
+        return;
     if (me->grant != 0 && chance(50)) {
         if (others_ready() && chance(20))
             try_to(4, chance(50) ? 12 : 11);
+        else if (others_ready() && chance(20))
+            try_to(11, chance(70) ? 13 : 9);
         else if (chance(60))
             try_to(chance(50) ? 4 : 11, 0);
         else
@@ -196,7 +204,7 @@ void scene_notice(void)
     send_some(name, 5);
     if (chance(30))
         do_message(5, chance(50) ? name : 0, 0);
-    do_create(name, from_to(1, 15));
+    do_create(name, allowed_priority(&l));
     if (chance(40))
         do_name(8, name);
     do_name(9, holder);

@@ -56,12 +56,12 @@ static void add_head(struct file *f, unsigned version, unsigned entries)
         add_label(f);
 }
 
-static void add_entry(struct file *f, unsigned name)
+static void add_entry(struct file *f, unsigned name, unsigned highest)
 {
     unsigned address;
 
     add(f, name);
-    add(f, some_of(1, 15));
+    add(f, some_of(1, highest));
     add(f, some_of(0, 15));
     address = some_address();
     add(f, address / 256);
@@ -73,6 +73,7 @@ static void add_entries(struct file *f, unsigned entries)
 {
     static const uint8_t none[] = { 0, 1, 16, 2, 15 };
     uint8_t names[MOST_ENTRIES];
+    unsigned highest = chance(50) ? 15 : from_to(2, 15);
 
     for (unsigned i = 0; i < MOST_ENTRIES; i++)
         names[i] = (uint8_t)(i + 2);
@@ -84,7 +85,7 @@ static void add_entries(struct file *f, unsigned entries)
         names[other] = kept;
     }
     for (unsigned i = 0; i < entries; i++)
-        add_entry(f, i < MOST_ENTRIES ? names[i] : none[below(sizeof none)]);
+        add_entry(f, i < MOST_ENTRIES ? names[i] : none[below(sizeof none)], highest);
 }
 
 static void add_block(struct file *f, unsigned version, unsigned entries)
@@ -159,20 +160,6 @@ void make_bare(struct file *f)
     add_block(f, version, entries);
 }
 
-struct verdict verdict_on(const struct file *f)
-{
-    const uint8_t *bytes = f->bytes + f->first;
-    unsigned length = f->length - f->first;
-
-    return f->bare ? verdict_of_block(bytes, length) : verdict_of_file(bytes, length);
-}
-
-/* Where the trailer stands in a file as it was made; a bare one has its end there. */
-static unsigned trailer_of(const struct file *f)
-{
-    return f->bare || f->length < TRAILER_BYTES ? f->length : f->length - TRAILER_BYTES;
-}
-
 static unsigned version_of(const struct file *f)
 {
     return f->bytes[f->block + AT_VERSION];
@@ -187,6 +174,41 @@ static unsigned entries_of(const struct file *f)
 static unsigned entry_at(const struct file *f, unsigned i)
 {
     return f->block + (unsigned)head_length(version_of(f)) + ENTRY_BYTES * i;
+}
+
+/* Some processors of different priorities, most of them where they can run, for a script to go on with. */
+void make_crew(struct file *f, unsigned divider)
+{
+    unsigned version = from_to(1, 3), most = chance(70) ? 8 : MOST_ENTRIES, entries = from_to(3, most);
+
+    make_empty(f);
+    add_block(f, version, entries);
+    f->bytes[f->block + AT_DIVIDER] = (uint8_t)divider;
+    for (unsigned i = 0; i < entries; i++) {
+        unsigned address = from_to(TABLES_END, 7400), first = entry_at(f, i);
+
+        if (chance(10))
+            continue;
+        f->bytes[first + AT_HIGH] = (uint8_t)(address / 256);
+        f->bytes[first + AT_LOW] = (uint8_t)(address % 256);
+        if (chance(50))
+            f->bytes[first + AT_PRIORITY] = (uint8_t)from_to(1, 15);
+    }
+    add_trailer(f);
+}
+
+struct verdict verdict_on(const struct file *f)
+{
+    const uint8_t *bytes = f->bytes + f->first;
+    unsigned length = f->length - f->first;
+
+    return f->bare ? verdict_of_block(bytes, length) : verdict_of_file(bytes, length);
+}
+
+/* Where the trailer stands in a file as it was made; a bare one has its end there. */
+static unsigned trailer_of(const struct file *f)
+{
+    return f->bare || f->length < TRAILER_BYTES ? f->length : f->length - TRAILER_BYTES;
 }
 
 static unsigned spot_of(const struct file *f, unsigned at)

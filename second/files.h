@@ -24,6 +24,7 @@ enum { SPOT_HEAD = 4, SPOT_ENTRY = SPOT_HEAD + 17, SPOTS = SPOT_ENTRY + ENTRY_BY
 void make_file(struct file *f);
 void make_bare(struct file *f);
 void make_empty(struct file *f);
+void make_crew(struct file *f, unsigned divider);
 struct verdict verdict_on(const struct file *f);
 void damage(struct file *f);
 void damage_to(struct file *f, unsigned number);  /* so that it is refused by that number */

@@ -12,7 +12,7 @@
 #include "kernel.h"
 #include "machine.h"
 
-enum { BUFFER = 8200, LONGEST_PUT = 32, FORMS = 2, DIRECT = 0, BY_EXI = 1, OUTCOMES = 13 };
+enum { BUFFER = 8200, LONGEST_PUT = 32, FORMS = 2, DIRECT = 0, BY_EXI = 1, OUTCOMES = FAULTS + 1 };
 
 enum kind { KIND_CALLS, KIND_BROKEN, KIND_JUDGE, KIND_PARSER, KIND_CLOCK, KINDS };
 extern enum kind kind;
@@ -99,6 +99,16 @@ unsigned absent_name(const struct look *l);
 unsigned existing_name(const struct look *l);
 const struct one *find_one(const struct look *l, unsigned name);
 unsigned pick_code(unsigned wanted_kind, unsigned lowest);
+unsigned highest_priority(const struct look *l);   /* of all, ready or not */
+unsigned allowed_priority(const struct look *l);   /* the runner's own or less */
+unsigned priority_above(const struct look *l);     /* the runner's own; 0 if there is none */
+unsigned some_priority(const struct look *l);      /* allowed, seldom above */
+struct wish {
+    unsigned name, priority;        /* asked for */
+    unsigned name_at, priority_at;  /* in which words */
+    bool exi, fits;                 /* by EXI; no argument word goes beyond its field */
+};
+bool wishes_to_create(const uint8_t *m, unsigned page, struct wish *w);  /* CRP at its LR, if all words can be read */
 
 /* reach.c: what was reached */
 enum mark {
@@ -113,7 +123,10 @@ enum mark {
     MARK_MARKS_OWN, MARK_MARKS_OWN_Q2, MARK_NOT_AGAIN, MARK_NOTICE_LEFT, MARK_DELETE_MARKED, MARK_GIVEN_ALIVE,
     MARK_GIVEN_GONE, MARK_DELETE_MIXED, MARK_DELETE_NOBODYS, MARK_NAMESAKE, MARK_NOBODYS_MADE, MARK_TWO_LIVES,
     MARK_THREE_LIVES, MARK_READ, MARK_READ_0, MARK_READ_1, MARK_READ_29, MARK_READ_TIGHT, MARK_READ_FAULT,
-    MARK_MOVED_WNM, MARK_MOVED_TME,
+    MARK_MOVED_WNM, MARK_MOVED_TME, MARK_ABOVE_BY_ONE, MARK_ABOVE_BY_MORE, MARK_AS_HIGH, MARK_BELOW, MARK_ABOVE_TAKEN,
+    MARK_AS_HIGH_TAKEN, MARK_ABOVE_NAME_0, MARK_ABOVE_BAD_WORD, MARK_ABOVE_NO_PAGE, MARK_ABOVE_OTHERS,
+    MARK_ABOVE_NOT_NAME, MARK_ABOVE_FULL, MARK_UNDER_OTHERS, MARK_ABOVE_GRANT, MARK_LEFT_TO_SME, MARK_LEFT_TO_CRP,
+    MARK_ANEW, MARK_ANEW_WORDS, MARK_ANEW_RANK, MARK_ANEW_TAKEN, MARK_13_GOOD, MARK_14_TOLD, MARK_15_TOLD,
     MARKS
 };
 void mark(enum mark what);
@@ -130,6 +143,10 @@ void write_told(void);
 
 /* gone.c: what marks on mail reached */
 void reach_gone(const uint8_t *before, unsigned code, unsigned form, const struct answer *answer);
+
+/* ranked.c: what CRP asked for, against the priority of who ran it; faults of page 9 that the judge saw */
+void reach_rank(const uint8_t *before, unsigned code, const struct answer *answer);
+void reach_page_9(const struct answer *answer);
 
 /* struck.c: what bursts reached */
 unsigned long bursts_done(unsigned pairs);
@@ -181,11 +198,33 @@ void any_burst(void);
 bool burst_for_waiters(void);
 void burst_on(unsigned number);
 
+/* turns.c: who runs and who would, and that another one runs or is deleted */
+unsigned runner_name(void);                 /* 0 if nobody does */
+unsigned next_name(const struct look *l);   /* 0 if nobody else is ready */
+bool has_equals(const struct look *l);      /* others are ready with the runner's priority */
+bool built_in(unsigned code);
+struct plan plan_for(unsigned code, unsigned name);  /* direct */
+bool call_higher(void);                     /* true if a higher one was started and runs now */
+bool let_run(unsigned name);
+bool clear_the_way(unsigned name);
+void bury(unsigned name);
+
+/* crowd.c: with a page granted or mail to read, or by a deletion */
+void give_something_back(void);
+
+/* ranks.c: who may create what */
+void promote(unsigned page, unsigned priority);  /* by hand, if the memory stays well-formed */
+bool create_anew(void);   /* true if the runner's CRP was run again where it had waited for a page */
+void raise_first(void);
+bool is_flat(const struct look *l);
+void lift(void);
+
 /* swap.c: settings, good and bad; the memory may have any length and be broken */
 void any_settings(void);
 void start_from_settings(void);
+void start_with_crew(unsigned divider);
 
-/* scenes.c, interrupts.c, crowd.c, namesakes.c, broken.c, harmless.c, lines.c, bursts.c, swap.c: plays of some orders each */
+/* scenes.c, interrupts.c, crowd.c, namesakes.c, ranks.c, broken.c, harmless.c, lines.c, bursts.c, swap.c: plays of some orders each */
 void scene_single(void);
 void scene_calls(void);
 void scene_interrupts(void);
@@ -210,6 +249,10 @@ void scene_lives(void);
 void scene_heirs(void);
 void scene_estate(void);
 void scene_keepsakes(void);
+void scene_ranks(void);
+void scene_second_thoughts(void);
+void scene_pledges(void);
+void scene_promotions(void);
 void scene_ruin(void);
 void scene_break(void);
 void scene_harmless_break(void);

@@ -22,7 +22,7 @@ static void fill_page_9(void)
     for (unsigned word = 1; word < unused; word++) {
         unsigned name = from_to(1, 15);
 
-        table[word] = (uint8_t)(name * 16 + from_to(1, 12));
+        table[word] = (uint8_t)(name * 16 + (chance(20) ? FAULTS : from_to(1, FAULTS)));
     }
     order_break(FAULT_TABLE, table, PAGE_WORDS);
 }
@@ -224,13 +224,24 @@ static unsigned some_divider(void)
     return chance(80) ? from_to(1, 4) : chance(25) ? 255 : from_to(1, 255);
 }
 
-/* A fresh start with some line, often the first or the last; or one from settings. */
+/*
+ * A fresh start with some line, often the first or the last; or one from settings.  After fresh nobody comes above
+ * priority 1 but by hand, so most scripts go on from settings.
+ */
 static void start_afresh(unsigned divider)
 {
-    if (kind != KIND_CLOCK && chance(30))
+    unsigned choice = below(100);
+    bool by_hand = may_break() || kind == KIND_CLOCK;
+
+    if (kind != KIND_CLOCK && choice < 20) {
         start_from_settings();
-    else
+    } else if (choice < (by_hand ? 60 : 88)) {
+        start_with_crew(divider);
+    } else {
         order_fresh(chance(20) ? 16 : chance(20) ? 47 : from_to(16, 47), divider);
+        if (by_hand && chance(75))
+            raise_first();
+    }
 }
 
 /*

@@ -320,7 +320,7 @@ const struct rule rules[RULES] = {
     { REFUSE_RECORDS, "senders 1-15, flags 1-7, word 2 of a message 0-29, 64-93 or 128", message_records },
     { REFUSE_TABLES, "kinds 0-2, codes 0, 1 built in, 15 absent or own", codes },
     { REFUSE_TABLES, "page 9 in range", page_9_range },
-    { REFUSE_TABLES, "names 1-15, faults 1-12, unused zero", page_9_entries },
+    { REFUSE_TABLES, "names 1-15, faults 1-13, unused zero", page_9_entries },
     { REFUSE_RUNNING, "line 16-47", line },
     { REFUSE_RUNNING, "counters below their ends", counters },
     { REFUSE_RUNNING, "the running one is ready and none ready is higher, idle only if none is ready",

@@ -138,3 +138,67 @@ unsigned pick_code(unsigned wanted_kind, unsigned lowest)
             found[count++] = code;
     return count > 0 ? found[below(count)] : CODES;
 }
+
+unsigned highest_priority(const struct look *l)
+{
+    unsigned highest = 0;
+
+    for (unsigned i = 0; i < l->count; i++)
+        if (l->one[i].priority > highest)
+            highest = l->one[i].priority;
+    return highest;
+}
+
+unsigned allowed_priority(const struct look *l)
+{
+    unsigned own = runner_of(l)->priority;
+
+    return chance(35) ? own : from_to(1, own);
+}
+
+unsigned priority_above(const struct look *l)
+{
+    unsigned own = runner_of(l)->priority, highest = highest_priority(l);
+
+    if (own == 15)
+        return 0;
+    if (highest > own && chance(40))
+        return from_to(own + 1, highest);  /* somebody has as much, or more */
+    return chance(50) ? own + 1 : from_to(own + 1, 15);
+}
+
+/* Who asks for too much is stopped, so somebody else must be ready. */
+unsigned some_priority(const struct look *l)
+{
+    unsigned above = l->ready > 1 && chance(5) ? priority_above(l) : 0;
+
+    return above != 0 ? above : allowed_priority(l);
+}
+
+/* By EXI: where the arguments stand.  The X registers are page 0's of who runs, else kept in the page. */
+static unsigned pointed_at(const uint8_t *m, unsigned page, unsigned lr)
+{
+    unsigned x = m[lr + 2] / 32u, kept = page == m[RUNNING_PAGE] ? 0 : at(page, 0), address = read_address(m, lr + 2);
+
+    return (x & 4) != 0 ? wrap(address + read_address(m, kept + 24 + 2 * (x & 3))) : address;
+}
+
+bool wishes_to_create(const uint8_t *m, unsigned page, struct wish *w)
+{
+    unsigned lr = get_lr(m, page), code, from;
+
+    if (any_protected(lr, 5) || m[lr] != INSTRUCTION || code_kind(m, 11) != KIND_BUILT_IN)
+        return false;
+    code = m[lr + 1] / 16u;
+    *w = (struct wish){ .name = m[lr + 1] % 16u, .priority = m[lr + 2] / 16u, .name_at = lr + 1, .priority_at = lr + 2,
+                        .fits = true };
+    if (code != 14 || m[lr + 1] % 16u != 11 || code_kind(m, 14) != KIND_BUILT_IN)
+        return code == 11;
+    from = pointed_at(m, page, lr);
+    if (any_protected(from, 5))
+        return false;
+    *w = (struct wish){ .name = m[from], .priority = m[from + 1], .name_at = from, .priority_at = from + 1 };
+    w->exi = true;
+    w->fits = w->name <= 15 && w->priority <= 15 && m[from + 2] <= 15 && m[from + 3] <= 31;
+    return true;
+}

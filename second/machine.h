@@ -61,12 +61,12 @@ enum { KIND_ABSENT = 0, KIND_BUILT_IN = 1, KIND_OWN = 2 };
 
 enum { INTERRUPTS = 54, MOST_PAIRS = 32 };  /* a burst has "up to 32 interrupts, as pairs" */
 
-enum { FAULTS = 12, FAULT_TABLE_FULL = 32 };
+enum { FAULTS = 13, FAULT_TABLE_FULL = 32 };
 
 enum {
     FAULT_ABSENT_CODE = 1, FAULT_EXI_OF_EXI, FAULT_CODE_EXISTS, FAULT_LASTING_CODE, FAULT_WIN,
     FAULT_NO_MATCH, FAULT_NO_PROCESSOR, FAULT_ST2, FAULT_NAME_EXISTS, FAULT_NOT_STOPPED,
-    FAULT_PROTECTED, FAULT_ARGUMENT
+    FAULT_PROTECTED, FAULT_ARGUMENT, FAULT_ABOVE_ITSELF
 };
 
 enum {
@@ -169,7 +169,7 @@ struct arguments {
     unsigned interrupt, count;
     unsigned priority, w;
 };
-/* What an operation gives: 0, a fault 1-12, or one of these two. */
+/* What an operation gives: 0, a fault 1-13, or one of these two. */
 enum { OUTCOME_DONE = 0, OUTCOME_LR_SET = 100, OUTCOME_WAITS = 101 };
 typedef unsigned operation(struct runner *r, const struct arguments *g);
 extern operation *const operations[CODES];

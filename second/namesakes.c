@@ -4,32 +4,6 @@
  */
 #include "generate.h"
 
-static unsigned runner_name(void)
-{
-    return is_idle() ? 0 : name_of(world, world[RUNNING_PAGE]);
-}
-
-static bool built_in(unsigned code)
-{
-    return code_kind(world, code) == KIND_BUILT_IN;
-}
-
-/* Who would run if the runner did not: the first of the highest others that are ready; 0 if there is none. */
-static unsigned next_name(const struct look *l)
-{
-    const struct one *next = NULL;
-
-    for (unsigned i = 0; i < l->count; i++) {
-        const struct one *one = &l->one[i];
-
-        if (i == l->running || one->stopped || one->wait != WAIT_NONE)
-            continue;
-        if (next == NULL || one->priority > next->priority)
-            next = one;
-    }
-    return next != NULL ? next->name : 0;
-}
-
 static unsigned telling_length(void)
 {
     return chance(25) ? 0 : chance(30) ? 1 : chance(40) ? LONGEST_TEXT : below(LONGEST_TEXT + 1);
@@ -47,11 +21,6 @@ static unsigned old_text(unsigned length)
             return address;
     }
     return 0;
-}
-
-static struct plan plan_for(unsigned code, unsigned name)
-{
-    return (struct plan){ .code = code, .bad_word = -1, .g = { .field = name } };
 }
 
 /* Some letter of those that fit; NULL if none does. */
@@ -136,51 +105,27 @@ static void take_in(unsigned name)
         do_message(code, wanted, chance(50) ? 0 : world[at(message, FROM)] % 16u);
 }
 
-/* The name is made again, above the runner if it can be, and started. */
+/* The name is made again, as high as the runner, and started; by hand it can be made higher between. */
 static void make_again(unsigned name)
 {
     struct look l = look_at(world);
-    unsigned own = runner_of(&l)->priority;
     struct plan batch[2] = { plan_for(11, name), plan_for(8, name) };
 
     if (l.free == 0 || find_one(&l, name) != NULL || !built_in(11) || !built_in(8))
         return;
-    batch[0].g.priority = own < 15 ? from_to(own + 1, 15) : 15;
+    if (has_equals(&l))
+        call_higher();
+    batch[0].g.priority = priority_of(world, world[RUNNING_PAGE]);
     batch[0].g.w = below(16);
     batch[0].g.address = from_to(TABLES_END, 7400);
-    issue_batch(batch, 2);
-}
-
-/* Those before it step aside until the one of that name runs. */
-static bool let_run(unsigned name)
-{
-    for (unsigned tries = 0; tries < 3 && !is_idle() && runner_name() != name; tries++) {
-        unsigned page = find_processor(world, name);
-
-        if (page == 0 || !is_ready(world, page))
-            return false;
-        if (chance(50))
-            do_name(9, runner_name());
-        else
-            do_wait(chance(40) ? from_to(48, 50) : from_to(16, 47), 1);
-    }
-    return runner_name() == name;
-}
-
-/* STP where it is needed, and DEP. */
-static void bury(unsigned name)
-{
-    struct plan batch[2] = { plan_for(9, name), plan_for(12, name) };
-    unsigned page = find_processor(world, name);
-
-    if (page == 0 || page == world[RUNNING_PAGE] || !built_in(9) || !built_in(12))
-        return;
-    if ((world[at(page, STATE)] & STOPPED) != 0)
-        do_name(12, name);
-    else if (chance(50))
+    if (!may_break() || chance(40)) {
         issue_batch(batch, 2);
-    else if (do_name(9, name) && !is_idle())
-        do_name(12, name);
+        return;
+    }
+    issue_batch(batch, 1);
+    if (find_processor(world, name) != 0)
+        promote(find_processor(world, name), 15);
+    do_name(8, name);
 }
 
 /* A life: the runner sends, stops itself, and who runs then deletes it; false if it came to nothing. */
@@ -200,6 +145,16 @@ static bool live_and_die(unsigned name)
     return find_processor(world, name) == 0;
 }
 
+/* One that was made again comes to run. */
+static bool begin_life(unsigned name)
+{
+    struct look l = look_at(world);
+
+    if (runner_name() == name)
+        return true;
+    return has_equals(&l) && chance(70) ? clear_the_way(name) : let_run(name);
+}
+
 /* One name lives and dies up to four times; then its mail is read, or who has it is deleted. */
 void scene_lives(void)
 {
@@ -210,7 +165,7 @@ void scene_lives(void)
             break;
         if (left > 1 || chance(60))
             make_again(name);
-        if (is_idle() || (left > 1 && !let_run(name)))
+        if (is_idle() || ((left > 1 || chance(70)) && !begin_life(name)))
             break;
     }
     if (!is_idle() && runner_name() == name && chance(80))
@@ -284,7 +239,7 @@ void scene_heirs(void)
         return;
     }
     batch[0] = plan_for(11, name);
-    batch[0].g.priority = from_to(1, 15);
+    batch[0].g.priority = from_to(1, priority_of(world, world[RUNNING_PAGE]));
     batch[0].g.address = from_to(TABLES_END, 7400);
     batch[1] = plan_for(12, name);
     batch[2] = batch[0];
@@ -305,7 +260,7 @@ void scene_estate(void)
     if (is_idle() || x == NULL)
         return;
     if (find_processor(world, x->name) == 0 && world[FREE_LIST] != 0 && chance(is_marked(x->length) ? 60 : 20))
-        do_create(x->name, from_to(1, 15));
+        do_create(x->name, from_to(1, priority_of(world, world[RUNNING_PAGE])));
     if (!is_idle())
         bury(name_of(world, x->holder));
 }

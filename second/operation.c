@@ -1,6 +1,6 @@
 /*
  * The fourteen instructions that work on arguments.  Each first tests what its own rules ask, in
- * the order of document 01, and changes memory only after the last test.  Each gives 0 (done:
+ * the order of the documents, and changes memory only after the last test.  Each gives 0 (done:
  * LR becomes the address after), a fault, OUTCOME_LR_SET or OUTCOME_WAITS.
  */
 #include "machine.h"
@@ -202,16 +202,27 @@ static unsigned start_at(struct runner *r, const struct arguments *g)
     return OUTCOME_DONE;
 }
 
-/* CRP: the name and the priority are tested before a page is needed. */
+/* CRP: "a priority higher than that of the processor running it is now fault 13. It stands after 12 and before 9." */
+static unsigned test_create(const struct runner *r, const struct arguments *g)
+{
+    if (g->field == 0 || g->priority == 0)
+        return FAULT_ARGUMENT;
+    if (g->priority > priority_of(r->m, r->page))
+        return FAULT_ABOVE_ITSELF;
+    if (find_processor(r->m, g->field) != 0)
+        return FAULT_NAME_EXISTS;
+    return 0;
+}
+
+/* A CRP that waited for a page is tested again when it runs anew; if it faults, its grant stays. */
 static unsigned create_processor(struct runner *r, const struct arguments *g)
 {
     uint8_t *m = r->m;
+    unsigned fault = test_create(r, g);
     unsigned page;
 
-    if (g->field == 0 || g->priority == 0)
-        return FAULT_ARGUMENT;
-    if (find_processor(m, g->field) != 0)
-        return FAULT_NAME_EXISTS;
+    if (fault != 0)
+        return fault;
     page = take_page(m, r->name);
     if (page == 0)
         return wait_for_page(r);

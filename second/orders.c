@@ -242,6 +242,7 @@ void order_judge(void)
         return;
     write_order("judge");
     answered(kernel_judge(world, lent));
+    reach_page_9(&last);
 }
 
 static void write_store(const char *name, unsigned address, const uint8_t *values, unsigned count)

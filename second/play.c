@@ -59,9 +59,11 @@ static const struct {
     { scene_nobody, { 0, 4, 10, 0, 0 } },     { scene_length, { 0, 3, 2, 3, 0 } },
     { scene_lines, { 0, 2, 1, 60, 1 } },      { scene_bursts, { 42, 26, 18, 18, 20 } },
     { scene_bad_bursts, { 38, 24, 16, 20, 18 } },
-    { scene_muster, { 21, 14, 9, 8, 12 } },   { scene_lives, { 15, 9, 4, 4, 4 } },
+    { scene_muster, { 21, 14, 9, 8, 12 } },   { scene_lives, { 18, 11, 5, 5, 5 } },
     { scene_heirs, { 10, 6, 2, 2, 2 } },      { scene_estate, { 9, 6, 2, 2, 2 } },
     { scene_keepsakes, { 12, 9, 2, 3, 3 } },  { scene_forge, { 0, 20, 14, 0, 0 } },
+    { scene_ranks, { 9, 7, 3, 4, 4 } },       { scene_second_thoughts, { 6, 4, 2, 2, 2 } },
+    { scene_pledges, { 8, 8, 5, 3, 3 } },     { scene_promotions, { 0, 8, 8, 0, 0 } },
     { scene_starts, { 3, 3, 6, 2, 3 } },      { scene_damages, { 34, 30, 44, 13, 24 } },
     { scene_writes, { 34, 30, 44, 13, 24 } }, { scene_parts, { 8, 8, 14, 4, 7 } }
 };
@@ -79,7 +81,7 @@ static void play_some(void)
     scenes[i].play();
 }
 
-/* With nobody beside the runner, waking and starting others comes first. */
+/* With nobody beside the runner, waking and starting others comes first; where all are low, at times higher ones. */
 void keep_going(void)
 {
     struct look l = look_at(world);
@@ -88,6 +90,10 @@ void keep_going(void)
         unstick();
     else if (is_idle())
         scene_idle();
+    else if (is_flat(&l) && chance(6))
+        lift();
+    else if (runner_of(&l)->grant != 0 && l.ready > 1 && chance(40) && create_anew())
+        return;
     else if (l.ready < 2 && l.count > 1 && chance(60))
         scene_revive();
     else if (l.ready < 2 && chance(40))

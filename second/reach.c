@@ -4,7 +4,7 @@
 
 #include "generate.h"
 
-enum { WAIT_KINDS = 7, FAULT_NUMBERS = 13, REFUSALS = 36 };
+enum { WAIT_KINDS = 7, FAULT_NUMBERS = FAULTS + 1, REFUSALS = 36 };
 
 static const char *const mark_names[MARKS] = {
     "grants given", "grants used", "grants used by another instruction than the one that waited",
@@ -33,7 +33,17 @@ static const char *const mark_names[MARKS] = {
     "mail of three or more lives of one name waits", "marked mail read", "marked mail of length 0 read",
     "marked mail of length 1 read", "marked mail of length 29 read",
     "marked mail read to a place too short for word 2 as its length", "marked mail not read, its target protected",
-    "marked messages moved by WNM", "marked messages moved by TME"
+    "marked messages moved by WNM", "marked messages moved by TME",
+    "CRP above its runner by one", "CRP above its runner by more", "CRP as high as its runner, done or put to wait",
+    "CRP below its runner, done or put to wait", "CRP above its runner with a name that exists",
+    "CRP as high as its runner with a name that exists", "12 of CRP with name 0 above its runner",
+    "12 of CRP with a word beyond its field above its runner", "CRP above its runner with no page to be had",
+    "CRP above its runner and not above another one", "CRP above its runner and not above the runner's name",
+    "CRP above its runner with page 9 full", "CRP done while another one is higher than its runner",
+    "CRP above its runner with a grant in hand", "grants left by fault 13 and used by SME",
+    "grants left by fault 13 and used by CRP", "CRP run anew where it waited for a page",
+    "CRP run anew and above its runner, with other words", "CRP run anew and above its runner, which is lower now",
+    "CRP run anew with a name that exists by now", "13 in page 9 judged good", "14 in page 9 told", "15 in page 9 told"
 };
 static const char *const wait_names[WAIT_KINDS] = {
     "interrupt 1-15", "interrupt 16-47", "interrupt 48-50", "interrupt 51-54", "page by SME", "page by CRP", "message"
@@ -244,6 +254,7 @@ void reach_step(const uint8_t *before, const struct answer *answer)
     }
     outcomes[code][form][answer->kind == ANSWER_FAULT ? answer->number : 0]++;
     reach_gone(before, code, form, answer);
+    reach_rank(before, code, answer);
     if (answer->kind == ANSWER_WAITS)
         reach_wait(code, new);
     if (answer->kind != ANSWER_DONE)

@@ -141,7 +141,10 @@ static struct answer refused(struct verdict verdict)
     return (struct answer){ .kind = ANSWER_REFUSED, .number = verdict.number, .version = verdict.version };
 }
 
-/* "what CRP does when it is done, as run by processor 1, but that LR of processor 1 stays" */
+/*
+ * "what CRP does when it is done, as run by processor 1, but that LR of processor 1 stays".  Its tests are not made:
+ * an entry may be above processor 1.
+ */
 static void create_entry(uint8_t *m, const uint8_t *entry)
 {
     unsigned page = take_page(m, 1);

@@ -73,7 +73,7 @@ static bool spoil_name_of_granted(const struct look *l)
 /* Words 0 and 16-31 of page 10 are no grants, even if they hold a control page. */
 static bool spoil_page_10(const struct look *l)
 {
-    unsigned word = chance(40) ? 0 : chance(25) ? 16 : chance(50) ? 31 : from_to(16, 31);
+    unsigned word = chance(40) ? 0 : chance(25) ? 16 : chance(65) ? 31 : from_to(16, 31);
 
     (void)l;
     poke(GRANTS + word, chance(60) ? some_page() : from_to(1, 255));
@@ -175,13 +175,26 @@ static bool spoil_page_9_first(const struct look *l)
 
 static bool spoil_entry(const struct look *l)
 {
-    static const uint8_t faults[] = { 0, 12, 13, 13, 13, 13, 14, 15 };
+    static const uint8_t faults[] = { 0, 13, 13, 14, 14, 14, 14, 15 };
     unsigned first = world[FAULT_TABLE], name = chance(20) ? 0 : from_to(1, 15), fault = faults[below(sizeof faults)];
 
     (void)l;
     if (first < 2 || first > FAULT_TABLE_FULL)
         return false;
     poke(FAULT_TABLE + from_to(1, first - 1), name * 16 + fault);
+    return true;
+}
+
+/* One more entry, with a fault behind the last that there is. */
+static bool spoil_fault(const struct look *l)
+{
+    unsigned first = world[FAULT_TABLE], name = from_to(1, HIGHEST_NAME), fault = chance(55) ? FAULTS + 1 : 15;
+
+    (void)l;
+    if (first == 0 || first >= FAULT_TABLE_FULL)
+        return false;
+    poke(FAULT_TABLE + first, name * 16 + fault);
+    poke(FAULT_TABLE, first + 1);
     return true;
 }
 
@@ -320,6 +333,7 @@ const struct way spoils[] = {
     { REFUSE_TABLES, "page 9 out of range", spoil_page_9_range, WAIT_NONE },
     { REFUSE_TABLES, "word 0 of page 9 moved", spoil_page_9_first, WAIT_NONE },
     { REFUSE_TABLES, "an entry of page 9", spoil_entry, WAIT_NONE },
+    { REFUSE_TABLES, "a fault 14 or 15 in page 9", spoil_fault, WAIT_NONE },
     { REFUSE_TABLES, "an unused entry of page 9", spoil_unused_entry, WAIT_NONE },
     { REFUSE_RUNNING, "the clock line", spoil_line, WAIT_NONE },
     { REFUSE_RUNNING, "C0", spoil_c0, WAIT_NONE },

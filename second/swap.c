@@ -81,6 +81,17 @@ void start_from_settings(void)
     settings_at(address, &f);
 }
 
+/* A file that a script can go on from. */
+void start_with_crew(unsigned divider)
+{
+    unsigned address = place(FILE_AREA);
+    struct file f;
+
+    make_crew(&f, divider);
+    lay(address, &f);
+    settings_at(address, &f);
+}
+
 /* A file that is good or not, whatever the memory is. */
 void any_settings(void)
 {

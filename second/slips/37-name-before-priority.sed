@@ -1,3 +1,3 @@
 # file: operation.c
 # says: CRP of an existing name with priority 0 is 9
-s/    if (g->field == 0 || g->priority == 0)/    if (g->field == 0 || (g->priority == 0 \&\& find_processor(m, g->field) == 0))/
+s/    if (g->field == 0 || g->priority == 0)/    if (g->field == 0 || (g->priority == 0 \&\& find_processor(r->m, g->field) == 0))/

@@ -1,6 +1,6 @@
--- Document 02, 6/13: "A barrier program created a processor above the scale reader and starved it." The highest priority among those that live: no call makes it
--- higher, nor does the host, but a fresh start, from settings or not. Who lives keeps its priority; who is new has one no higher than who created it. So from
--- one beginning to the next nobody is ever above the highest that stood there then. Assumes nothing.
+-- Document 02, 6/13: "A barrier program created a processor above the scale reader and starved it." The highest priority among those that live: no call makes
+-- it higher, nor does the host, but a fresh start, from settings or not. Who lives keeps its priority; who is new has one no higher than who created it. So
+-- from one beginning to the next nobody is ever above the highest that stood there then. Assumes nothing.
 use mathlib.Core.Path.{_≡_, refl, ap}
 use mathlib.Core.Logic.{_≢_, _⊎_, inl, inr}
 use mathlib.Core.Bool.{Bool, true, false}
@@ -68,8 +68,8 @@ highest-least m (x ∷ ps) b h = go (ltb (highestOf m ps) (priority m x)) refl (
     go false e ih = rw (e, highestOf) ih
 
 -- ---- from m to m′, where those that live on keep their priorities and those that are new are not above the one that ran
-told-under : {m m′ : List ℕ} → ((p : ℕ) → Living m p → Living m′ p → priority m′ p ≡ priority m p) → ((p : ℕ) → count p (processors m) ≡ 0 → Living m′ p → Under m m′ p)
-    → highest m′ ≤ highest m
+told-under : {m m′ : List ℕ} → ((p : ℕ) → Living m p → Living m′ p → priority m′ p ≡ priority m p)
+    → ((p : ℕ) → count p (processors m) ≡ 0 → Living m′ p → Under m m′ p) → highest m′ ≤ highest m
 told-under {m} {m′} keeps born = highest-least m′ (processors m′) (highest m) (λ p i. go p i (zero-or (count p (processors m))))
   where
     go : (p : ℕ) → Living m′ p → (count p (processors m) ≡ 0) ⊎ (Living m p) → priority m′ p ≤ highest m

@@ -161,4 +161,5 @@ module _ {m : List ℕ} (w : WellFormed m) (d : running m ≢ 0) where
               cases (inr y) = absurd (omega (arith, hit-other p q y))
 
   pub crp-lawful : (n r v a len : ℕ) → n < 16 → r < 16 → Lawful m (memoryOf (Model.crp m n r v a len)) nothing
-  crp-lawful n r v a len hn hr = crp-each bad n r v a len (λ g. crp-page n r v a len (g .name) (omega arith) (g .priority) (omega arith) (g .under) (g .unnamed))
+  crp-lawful n r v a len hn hr =
+      crp-each bad n r v a len (λ g. crp-page n r v a len (g .name) (omega arith) (g .priority) (omega arith) (g .under) (g .unnamed))

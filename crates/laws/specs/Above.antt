@@ -1,22 +1,24 @@
--- Document 02, 6/13: "CRP with a priority higher than that of the processor running it is now fault 13. It stands after 12 and before 9." Of the whole call, direct
--- and by EXI: for whom the CRP asks that is run, and what it is answered, test by test. Assumes nothing.
+-- Document 02, 6/13: "CRP with a priority higher than that of the processor running it is now fault 13. It stands after 12 and before 9." Of the whole call,
+-- direct and by EXI: for whom the CRP asks that is run, and what it is answered, test by test. Assumes nothing.
 use mathlib.Core.Path.{_≡_, refl}
 use mathlib.Core.Logic.{_≢_, _⊎_, inl, inr}
 use mathlib.Core.Bool.{Bool, true, false, cond}
 use mathlib.Core.List.{List, [], _∷_}
-use Prim.Native.Nat.{ℕ, _≤_, _<_}
+use Prim.Native.Nat.{ℕ, _-_, _≤_, _<_}
 use native.Mathlib.Omega.{arith}
 use lib.Dec.{eqb}
 use borrow.Author.Tests.{eq-eqb, ne-eqb, lt-ltb, le-ltb}
 use Rattle.model.specs.declared.Arguments.{Arguments}
-use Rattle.model.specs.Instruction.{crpCode}
+use Rattle.model.specs.Address.{guarded, clear, wrapped}
+use Rattle.model.specs.Instruction.{builtIn, crpCode, exiCode, firstWord, lengthFor, shapeFor}
 use Rattle.model.specs.Operate as Operate
 use Rattle.model.specs.Answer as Answer
 use Rattle.model.specs.Answer.{answerOf, numbers, doneNumber, waitsNumber, badArgument, aboveItself, nameExists}
 use Rattle.model.specs.Fault as Faults
 use Rattle.model.specs.Call as Call
 use Rattle.model.specs.Bytes as Model
-use Rattle.model.specs.Bytes.{Step, crp, crpPage, fault, fetched, instruction, lr, name, pageOf, priority, running, takePage}
+use Rattle.model.specs.Bytes.{Step, at, codeAt, kind, direct, pointed, indexed, isForeign, argumentFault, crp, crpPage, fault, fetched, instruction}
+use Rattle.model.specs.Bytes.{lr, name, pageOf, priority, running, takePage}
 use Rattle.laws.specs.Words.{either}
 use Rattle.laws.specs.Ways.{taken, crp-page-each}
 use Rattle.laws.specs.Each.{fetchedTree, fetched-both}
@@ -32,6 +34,24 @@ asking c x = cond (eqb c crpCode) (one (x .field) (x .second)) nobody
 
 abbrev pub asked : List ℕ → Asked
 asked m = fetchedTree nobody asking m (lr m)
+
+-- so a CRP at LR asks for the one that its words say, where no test of the decoder applies
+pub record AtLr (m : List ℕ) (c : ℕ) : Type 0 where
+  pub first : guarded (lr m) ≡ false
+  pub word : at m (lr m) ≡ firstWord
+  pub second : guarded (wrapped (lr m) 1) ≡ false
+  pub code : codeAt m (lr m) ≡ c
+  pub kind : kind m c ≡ builtIn
+  pub rest : clear (lengthFor c - 2) (wrapped (lr m) 2) ≡ true
+
+pub crp-asks : (m : List ℕ) → AtLr m crpCode → asked m ≡ one (direct m (lr m) (shapeFor crpCode) .field) (direct m (lr m) (shapeFor crpCode) .second)
+crp-asks m t = rw (t .first, t .word, t .second, t .code, t .kind, t .rest)
+
+-- and so does an EXI of CRP, whose arguments are at a
+pub exi-asks : (m : List ℕ) → AtLr m exiCode → (a : ℕ) → direct m (lr m) (shapeFor exiCode) .field ≡ crpCode
+    → indexed m (direct m (lr m) (shapeFor exiCode) .second) (direct m (lr m) (shapeFor exiCode) .address) ≡ a → isForeign m crpCode ≡ false
+    → argumentFault m crpCode a ≡ 0 → asked m ≡ one (pointed m a (shapeFor crpCode) .field) (pointed m a (shapeFor crpCode) .second)
+exi-asks m t a c e f z = rw (t .first, t .word, t .second, t .code, t .kind, t .rest, c, e, f, z)
 
 -- ---- what it is answered: 12, 13, 9, else it is done or waits for a page
 abbrev pub Fails : List ℕ → Step → ℕ → Type 0

@@ -169,6 +169,7 @@ module _ (S : Store) where
   crpPage m n b w a len = withPage m (λ q m₁. created m₁ q n b w a) len
 
   -- document 02, 6/13: "CRP with a priority higher than that of the processor running it is now fault 13. It stands after 12 and before 9."
+  -- "A CRP that waited for a page is tested again when it runs anew, and keeps its grant if it faults": LR stayed on it, and a fault leaves page 10
   unfoldable pub crp : S .M → ℕ → ℕ → ℕ → ℕ → ℕ → Step S
   crp m n b w a len =
       cond (eqb n 0) (fault S m badArgument)

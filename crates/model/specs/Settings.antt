@@ -25,7 +25,7 @@ use Rattle.model.specs.Layout.{trailerBytes, versionOf, countOf, lineOf,
 
 -- ---- "A fresh start from settings equals fresh followed by creation of the entries in order, processor 1's LR staying"
 module _ (S : Store) where
-  -- what CRP does when it is done, but for its LR
+  -- what CRP does when it is done, but for its LR; of its tests, 6/13: "A fresh start from settings isn't bound by this rule"
   unfoldable pub made : S .M → Entry → S .M
   made m e = to (takePage S m (running S m))
     where

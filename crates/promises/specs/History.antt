@@ -181,7 +181,7 @@ pub who-is-new-is-not-above : (m : List ℕ) → Reached m → (a : Act) → res
     → Under m (after a m) p
 who-is-new-is-not-above m h = new-under (reached-sound m h)
 
--- so nobody is starved by one created later: who is highest at one point of a run has nobody above it at any later point, `Since`, until the next fresh start
+-- so one created later is never above who was highest: at any later point of the run, `Since`, until the next fresh start, nobody is
 pub nobody-comes-above : (m m₁ : List ℕ) → Reached m → Since m m₁ → (p : ℕ) → priority m p ≡ highest m → (q : ℕ) → Living m₁ q → priority m₁ q ≤ priority m p
 nobody-comes-above m m₁ = above-nobody
 

@@ -10,11 +10,13 @@ use Prim.Native.Nat.{ℕ, _+_, _≤_, _<_}
 use lib.ListN.{length}
 use Rattle.model.specs.declared.Registers.{Registers}
 use Rattle.model.specs.Map.{memorySize, firstControl, lastControl, grantFor, lastFault, lastName}
+use Rattle.model.specs.Instruction.{crpCode, exiCode, shapeFor}
 use Rattle.model.specs.Fresh.{startable}
 use Rattle.model.specs.declared.Answer.the-variants.{Done}
 use Rattle.model.specs.Answer.Outcome.{gives}
 use Rattle.model.specs.Answer.{answerOf, memoryOf, numbers, heldNumbers, verdictNumbers, doneNumber, handedOutNumber, wrongLength}
-use Rattle.model.specs.Bytes.{judged, fresh, fromSettings, instruction, interrupt, burst, setRegisters, readRegisters, judge, running, at}
+use Rattle.model.specs.Bytes.{judged, fresh, fromSettings, instruction, interrupt, burst, setRegisters, readRegisters, judge, running, at, lr, direct}
+use Rattle.model.specs.Bytes.{pointed, indexed, isForeign, argumentFault}
 use Rattle.laws.specs.Words.{Small}
 use Rattle.laws.specs.Calls.{Sound, Host, Reached, fresh-starts, fresh-sound, instruction-sound, interrupt-sound, burst-sound, set-sound, host-sound}
 use Rattle.laws.specs.Calls.{settings-sound, reached-sound}
@@ -23,7 +25,7 @@ use Rattle.laws.specs.Numbers.{told, toldHeld, toldVerdict, kind-numbers, Refus
 use Rattle.laws.specs.Kinds.{instruction-kind, fresh-kind, settings-kind, interrupt-kind, burst-kind, set-kind}
 use Rattle.laws.specs.Refusals.{firstRefusal, lastRefusal, kind-kept, kind-hands}
 use Rattle.laws.specs.Faulty.{Faulted, faulted, grants-stay}
-use Rattle.laws.specs.Above.{InOrder, asked, asked-in-order}
+use Rattle.laws.specs.Above.{InOrder, AtLr, asked, asked-in-order, crp-asks, exi-asks}
 use Rattle.laws.specs.Above.Asked.{one}
 use Rattle.laws.specs.Bursts.{Comes, comes, empty-done}
 use Rattle.laws.specs.UsedOnce.{asProcessor, asFree, asMessage, asGrant, used-once, used-never}
@@ -120,12 +122,21 @@ pub a-fault-leaves-the-grants : (m : List ℕ) (f n : ℕ) → numbers (answerOf
     → at (memoryOf (instruction m)) (grantFor k) ≡ at m (grantFor k)
 a-fault-leaves-the-grants = grants-stay
 
--- ---- "No creating above yourself" (document 02, 6/13). `asked m` is for whom a CRP asks that the instruction at LR is or that EXI runs there: `one n b`, of name
--- n and priority b. What it is answered is `InOrder` (laws/specs/Above.antt), test by test: 12 if n or b is 0; else 13 if b is above the priority of the one
--- that runs, whatever names and pages there are; else 9 if the name exists; else it is done or waits for a page, so that none is refused that asks for no more
--- than its own
+-- ---- "No creating above yourself" (document 02, 6/13). `asked m` is for whom the CRP asks that the instruction at LR is, or that EXI runs there: `one n b`, of
+-- name n and priority b (laws/specs/Above.antt). What it is answered is `InOrder`, test by test: 12 if n or b is 0; else 13 if b is above the priority of the
+-- one that runs, whatever names and pages there are; else 9 if the name exists; else it is done or waits for a page, so that none is refused that asks for no
+-- more than its own
 pub creating-in-order : {m : List ℕ} → Sound m → running m ≢ 0 → (n b : ℕ) → asked m ≡ one n b → InOrder m (instruction m) n b
 creating-in-order = asked-in-order
+
+-- the name and the priority are those in its words: of a CRP at LR that the decoder does not refuse, and of one that EXI runs, with its arguments at a
+pub what-crp-asks-for : (m : List ℕ) → AtLr m crpCode → asked m ≡ one (direct m (lr m) (shapeFor crpCode) .field) (direct m (lr m) (shapeFor crpCode) .second)
+what-crp-asks-for = crp-asks
+
+pub what-exi-asks-for : (m : List ℕ) → AtLr m exiCode → (a : ℕ) → direct m (lr m) (shapeFor exiCode) .field ≡ crpCode
+    → indexed m (direct m (lr m) (shapeFor exiCode) .second) (direct m (lr m) (shapeFor exiCode) .address) ≡ a → isForeign m crpCode ≡ false
+    → argumentFault m crpCode a ≡ 0 → asked m ≡ one (pointed m a (shapeFor crpCode) .field) (pointed m a (shapeFor crpCode) .second)
+what-exi-asks-for = exi-asks
 
 -- ---- "A burst from the line card", on every memory that the judge of document 01 accepts, of every list of numbers: one of three things comes of it, `Comes`
 -- (laws/specs/Bursts.antt), each with its answer. The list is longer than 64 or odd: 27. Or a pair would be refused as one interrupt, 24 or 25, and each

@@ -28,8 +28,9 @@ use Rattle.laws.specs.Files.{filed, Label, Sample, toldWriting}
 -- ---- "A fresh start from settings equals fresh followed by creation of the entries in order, processor 1's LR staying." On any memory of 8,192 words,
 -- whatever it holds, a good file is taken: `FromSettings` (laws/specs/Settle.antt) has the memory that the fresh start with the file's line and divider
 -- leaves, and the one that the call leaves. From the first to the second leads what CRP does behind its tests, once for each entry, in order, done each time,
--- with LR put back: `Created`. Each entry passes the tests too, but that of its own priority (`Unbound`). What stands there then is `Settled`: the processors are 1 and the entries in their order, on pages 236, 237, .., each entry stopped with its
--- own name, priority, W and address and all else zero, nothing in its queues; processor 1 runs
+-- with LR put back: `Created`. Each entry passes the tests too, but that of its own priority (`Unbound`). What stands there then is `Settled`: the processors
+-- are 1 and the entries in their order, on pages 236, 237, .., each entry stopped with its own name, priority, W and address and all else zero, nothing in its
+-- queues; processor 1 runs
 pub a-start-from-settings : (m : List ℕ) → length m ≡ memorySize → Small m → (f : List ℕ) → ofFile f ≡ Good → FromSettings m f
 a-start-from-settings = from-settings
 

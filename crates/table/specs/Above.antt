@@ -104,7 +104,9 @@ unfoldable pub before-the-wait : Script
 unfolding Script.mailed
 before-the-wait =
     begins (crp 2 2 0 3000)
-    (made (7 * 32 + 20) (0 ∷ 0 ∷ 0 ∷ []) ∷ made (236 * 32 + 6) (237 ∷ []) ∷ mailed 18 237 (judges ok ∷ step (13 ∷ 1 ∷ []) ∷ has (7 * 32 + 20) (0 ∷ 0 ∷ 0 ∷ []) ∷ []))
+    (made (7 * 32 + 20) (0 ∷ 0 ∷ 0 ∷ [])
+    ∷ made (236 * 32 + 6) (237 ∷ [])
+    ∷ mailed 18 237 (judges ok ∷ step (13 ∷ 1 ∷ []) ∷ has (7 * 32 + 20) (0 ∷ 0 ∷ 0 ∷ []) ∷ []))
 
 pub before-the-wait-holds : playsFromZero bytes before-the-wait ≡ true
 unfolding Script.playsFromZero before-the-wait
