@@ -163,11 +163,11 @@ fn own_priority(m: &[u8]) -> u8
     priority(m, r)
 }
 
-pub fn crp(m: &mut [u8], name: Name, priority: u8, w: u8, address: u16, length: u16) -> Answer
-    requires { ⌜ (List.length (now m) ≡ 8192) × (name .0 < 16) × (priority < 16) × (length < 8192) ⌝ }
-    ensures { λ r. ⌜ gives r (now (m .exit)) ≡ Model.crp (now (m .entry)) (name .0) priority w address length ⌝ }
+pub fn crp(m: &mut [u8], new: Name, priority: u8, w: u8, address: u16, length: u16) -> Answer
+    requires { ⌜ (List.length (now m) ≡ 8192) × (new .0 < 16) × (priority < 16) × (length < 8192) ⌝ }
+    ensures { λ r. ⌜ gives r (now (m .exit)) ≡ Model.crp (now (m .entry)) (new .0) priority w address length ⌝ }
 {
-    if name.0 == 0 {
+    if new.0 == 0 {
         return fault(m, faults::BAD_ARGUMENT);
     }
     if priority == 0 {
@@ -177,9 +177,9 @@ pub fn crp(m: &mut [u8], name: Name, priority: u8, w: u8, address: u16, length: 
     if own < priority {
         return fault(m, faults::ABOVE_ITSELF);
     }
-    let page = page_of(m, name);
-    if page.0 == 0 {
-        return crp_page(m, name, priority, w, address, length);
+    let namesake = page_of(m, new);
+    if namesake.0 == 0 {
+        return crp_page(m, new, priority, w, address, length);
     }
     fault(m, faults::NAME_EXISTS)
 }

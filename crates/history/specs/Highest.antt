@@ -42,7 +42,7 @@ highestOf m (p ∷ ps) = elim (ltb (highestOf m ps) (priority m p)) [ true ↦ p
 abbrev pub highest : List ℕ → ℕ
 highest m = highestOf m (processors m)
 
--- it is what its name says: none has a higher one, and one has it
+-- it is what its name says: none has a higher one, and it is the least of which that is true
 pub highest-most : (m : List ℕ) (ps : List ℕ) (p : ℕ) → 1 ≤ count p ps → priority m p ≤ highestOf m ps
 unfolding highestOf
 highest-most m [] p h = absurd (omega arith)

@@ -13,7 +13,7 @@ crp-spec = tie.close (tie.spec
     (λ c κs. search needs)
     (λ c. search needs)
     (λ c. search (needs, ways))
-    (λ c κs. search needs)
+    (λ c κs. search needs)  -- own priority
     (λ c κs. search needs)
     (λ c. search needs)
     (λ c. search (needs, ways))
