@@ -8,7 +8,7 @@ use Prim.Native.Nat.{ℕ, suc, _+_, _≤_, _<_}
 use native.Mathlib.Omega.{arith}
 use lib.ListN.{length, getD, set}
 use lib.Seq.{getD-set-same, set-getD, set-set, set-comm}
-use borrow.Author.Tests.{eq-eqb, ne-eqb}
+use borrow.Author.Tests.{ne-eqb}
 use Rattle.model.specs.Map as Map
 use Rattle.model.specs.Map.{ciIn, flagsKept, fourBits, freeList, guardedLast, high, highLr, joined, keeps, keptCount, lastAddress, listLink, low, lower}
 use Rattle.model.specs.Map.{lowLr, memorySize, oneBit, pageSize, pair, pIn, place, processorList, q1, q2, runningLabel, runningPage, stopIn, stopSet, upper}
