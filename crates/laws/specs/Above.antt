@@ -97,8 +97,7 @@ crp-in-order m n b w a len = record {
   above = λ i u. rw (ne-eqb n 0 (omega arith), ne-eqb b 0 (omega arith), lt-ltb (priority m (running m)) b u) (fails m aboveItself);
   known = λ i j u d.
       rw (ne-eqb n 0 (omega arith), ne-eqb b 0 (omega arith), le-ltb (priority m (running m)) b u, ne-eqb (pageOf m n) 0 d) (fails m nameExists);
-  allowed = λ i j u e.
-      rw (ne-eqb n 0 (omega arith), ne-eqb b 0 (omega arith), le-ltb (priority m (running m)) b u, eq-eqb (pageOf m n) 0 e) (page-answers m n b w a len);
+  allowed = λ i j u e. rw (crp-behind m n b w a len i j u e) (page-answers m n b w a len);
 }
 
 -- ---- whatever is executed, direct and by EXI
