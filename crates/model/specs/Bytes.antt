@@ -10,6 +10,11 @@ use Rattle.model.specs.declared.Finding.{Finding}
 use Rattle.model.specs.declared.Checked.{Checked}
 use Rattle.model.specs.declared.Entry.{Entry}
 use Rattle.model.specs.declared.Fit.{Fit}
+use Rattle.model.specs.declared.State.{State}
+use Rattle.model.specs.declared.Parts.{Parts}
+use Rattle.model.specs.declared.Said.{Said}
+use Rattle.model.specs.declared.Line.{Line}
+use Rattle.model.specs.declared.Side.{Side}
 use Rattle.model.specs.declared.Context.{Context}
 use Rattle.model.specs.Page.{Taken}
 use Rattle.model.specs.Mail.{Tested}
@@ -36,6 +41,7 @@ use Rattle.model.specs.Walks as Walks
 use Rattle.model.specs.Classes as Classes
 use Rattle.model.specs.Burst as Burst
 use Rattle.model.specs.Settings as Settings
+use Rattle.model.specs.Differ as Differ
 use Rattle.model.specs.Answer as Answer
 use Rattle.model.specs.Fault as Fault
 use Rattle.model.specs.Execute as Execute
@@ -615,6 +621,63 @@ heedsFile = Settings.heedsFile bytes
 
 abbrev pub fromSettings : Memory → List ℕ → Step
 fromSettings = Settings.fromSettings bytes
+
+abbrev pub differing : ℕ → Memory → Memory → ℕ → List ℕ
+differing = Differ.differing bytes
+
+abbrev pub wordLine : Memory → Memory → ℕ → Line
+wordLine = Differ.wordLine bytes
+
+abbrev pub wordLines : ℕ → Memory → Memory → ℕ → List Line
+wordLines = Differ.wordLines bytes
+
+abbrev pub queueOf : Memory → ℕ → ℕ
+queueOf = Differ.queueOf bytes
+
+abbrev pub stateOf : Memory → ℕ → State
+stateOf = Differ.stateOf bytes
+
+abbrev pub wordsFrom : ℕ → Memory → ℕ → List ℕ
+wordsFrom = Differ.wordsFrom bytes
+
+abbrev pub contentOf : Memory → ℕ → List ℕ
+contentOf = Differ.contentOf bytes
+
+abbrev pub messageOf : Memory → ℕ → List ℕ
+messageOf = Differ.messageOf bytes
+
+abbrev pub messages : Memory → ℕ → List (List ℕ)
+messages = Differ.messages bytes
+
+abbrev pub sameMail : Memory → ℕ → Memory → ℕ → Bool
+sameMail = Differ.sameMail bytes
+
+abbrev pub differences : Memory → ℕ → Memory → ℕ → Parts
+differences = Differ.differences bytes
+
+abbrev pub saidOf : Memory → ℕ → Memory → ℕ → Said
+saidOf = Differ.saidOf bytes
+
+abbrev pub said : Memory → Memory → ℕ → Said
+said = Differ.said bytes
+
+abbrev pub namesLines : ℕ → Memory → Memory → ℕ → List Line
+namesLines = Differ.namesLines bytes
+
+abbrev pub judgedLines : Memory → Memory → List Line
+judgedLines = Differ.judgedLines bytes
+
+abbrev pub isWhole : Memory → Bool
+isWhole = Differ.isWhole bytes
+
+abbrev pub sizeLines : Side → Memory → List Line
+sizeLines = Differ.sizeLines bytes
+
+abbrev pub wholeLines : Memory → Memory → List Line
+wholeLines = Differ.wholeLines bytes
+
+abbrev pub lines : Memory → Memory → List Line
+lines = Differ.lines bytes
 
 abbrev pub refused : Memory → ℕ → Step
 refused = Answer.refused bytes

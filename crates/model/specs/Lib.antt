@@ -29,6 +29,8 @@ pub mod Burst
 -- Settings that survive a box swap (document 02, 5/13)
 pub mod Layout
 pub mod Settings
+-- Which words differ (document 02, 7/13)
+pub mod Differ
 -- Refusals and faults
 pub mod Answer
 pub mod Fault

@@ -112,6 +112,45 @@ pub enum Writing {
     RefusedAt(u8, u16),
 }
 
+// Which words differ: which of two memories is meant.
+pub enum Side {
+    First,
+    Second,
+}
+
+// What is compared of a processor's state: the stopped and the waiting bit, whether it runs, the queue it waits in, its reason.
+pub struct State {
+    pub stopped: u8,
+    pub waiting: u8,
+    pub runs: u8,
+    pub queue: u16,
+    pub reason: u8,
+}
+
+// In what two processors of one name differ.
+pub struct Parts {
+    pub state: bool,
+    pub priority: bool,
+    pub q1: bool,
+    pub q2: bool,
+}
+
+// What is said of a name.
+pub enum Said {
+    Nothing,
+    OnlyIn(Side),
+    DiffersIn(Parts),
+}
+
+// A line of what is printed of two memories: an address with both words, a refusal of one of the two, what is said of a name, or that they are the same.
+pub enum Line {
+    Word(u16, u8, u8),
+    Refused(Side, u8),
+    RefusedAt(Side, u8, u16),
+    Processor(u8, Said),
+    Same,
+}
+
 impl ControlPage {
     // A word of the page, by its number.
     pub fn word(self, m: &[u8], number: u16) -> u8

@@ -8,3 +8,4 @@ pub mod Bursts
 pub mod Namesakes
 pub mod Settings
 pub mod Above
+pub mod Differ

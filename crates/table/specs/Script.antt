@@ -31,6 +31,7 @@ use Rattle.model.specs.Call as Call
 use Rattle.model.specs.Burst as Burst
 use Rattle.model.specs.Layout as Layout
 use Rattle.model.specs.Settings as Settings
+use Rattle.model.specs.Differ as Differ
 use Rattle.model.specs.declared.Registers.{Registers}
 use Rattle.model.specs.Store.{Store}
 use Rattle.model.specs.Address.{at, write}
@@ -72,8 +73,8 @@ module _ (S : Store) where
   looks m a [] = true
   looks m a (v ∷ vs) = elim (eqb (at S m a) v) [ true ↦ looks m (a + 1) vs | false ↦ false ]
 
-  -- whether a script runs as it says. To open it opens the whole machine
-  unfoldable pub plays : Script → S .M → Bool
+  -- whether a script runs as it says, and what it leaves passes a test. To open it opens the whole machine
+  unfoldable pub leads : Script → S .M → (S .M → Bool) → Bool
   unfolding
       Call.isOuter Call.isClass Call.finding Call.head Call.fresh Call.instructionJudged Call.instruction Call.interruptJudged Call.interrupt
       Call.readJudged Call.readRegisters Call.setJudged Call.setRegisters Call.judge Address.guarded Address.clear Address.copy Address.zeroed
@@ -106,34 +107,41 @@ module _ (S : Store) where
       Layout.entryAt Layout.entriesFrom Layout.isLetter Layout.isZeros Layout.isLabel Layout.isLaidOut Layout.isBlock Layout.isRanged Layout.isEntry
       Layout.areEntries Layout.bears Layout.namesDiffer Layout.inBounds Layout.ofBlock Layout.trailerIn Layout.begins Layout.pointsBack
       Layout.isTrailer Layout.ofFile Layout.isGood Settings.made Settings.allMade Settings.settled Settings.fromSettings Settings.trailerFor
-      Settings.written Settings.weight Settings.worse Settings.ofUsed Settings.writes Settings.writeSettings Answer.answerOf Answer.memoryOf
-      Answer.numbers Answer.heldNumbers Answer.verdictNumbers Answer.writingNumbers Answer.done Answer.jumps Answer.waits Fault.entered Fault.fault
-      Execute.run Execute.foreign Execute.isForeign Execute.argumentFault Execute.argued Execute.exi Execute.taken Execute.decoded Execute.coded
-      Execute.fetched Store.tget Store.tput Store.tzero Store.getT Store.putT Store.sizeT Store.trees Rule.all Rule.every Rule.holds sameWords
-      writes looks
-  plays [] m = true
-  plays (fresh-start l d ns ∷ cs) m =
-      let o = fresh S m l d in elim (sameWords (numbers (answerOf o)) ns) [ true ↦ plays cs (memoryOf o) | false ↦ false ]
-  plays (settles f ns ∷ cs) m =
-      let o = fromSettings S m f in elim (sameWords (numbers (answerOf o)) ns) [ true ↦ plays cs (memoryOf o) | false ↦ false ]
-  plays (stores l u b ns k ∷ cs) m =
+      Settings.written Settings.weight Settings.worse Settings.ofUsed Settings.writes Settings.writeSettings Differ.sameWords Differ.sameMessages
+      Differ.sameWait Differ.sameState Differ.queueAt Differ.differsIn Differ.findingLines Differ.nameLines Differ.orSame Differ.brokenOr
+      Differ.differing Differ.wordLines Differ.queueOf Differ.stateOf Differ.wordsFrom Differ.contentOf Differ.messageOf Differ.messages
+      Differ.sameMail Differ.differences Differ.saidOf Differ.said Differ.namesLines Differ.judgedLines Differ.isWhole Differ.sizeLines
+      Differ.wholeLines Differ.lines Answer.answerOf Answer.memoryOf Answer.numbers Answer.heldNumbers Answer.verdictNumbers Answer.writingNumbers
+      Answer.done Answer.jumps Answer.waits Fault.entered Fault.fault Execute.run Execute.foreign Execute.isForeign Execute.argumentFault
+      Execute.argued Execute.exi Execute.taken Execute.decoded Execute.coded Execute.fetched Store.tget Store.tput Store.tzero Store.getT Store.putT
+      Store.sizeT Store.trees Rule.all Rule.every Rule.holds sameWords writes looks
+  leads [] m g = g m
+  leads (fresh-start l d ns ∷ cs) m g =
+      let o = fresh S m l d in elim (sameWords (numbers (answerOf o)) ns) [ true ↦ leads cs (memoryOf o) g | false ↦ false ]
+  leads (settles f ns ∷ cs) m g =
+      let o = fromSettings S m f in elim (sameWords (numbers (answerOf o)) ns) [ true ↦ leads cs (memoryOf o) g | false ↦ false ]
+  leads (stores l u b ns k ∷ cs) m g =
       let o = writeSettings l u b in
-      elim (sameWords (writingNumbers (answerOf o)) ns) [ true ↦ elim (sameWords (memoryOf o) k) [ true ↦ plays cs m | false ↦ false ] | false ↦ false ]
-  plays (step ns ∷ cs) m =
-      let o = instruction S m in elim (sameWords (numbers (answerOf o)) ns) [ true ↦ plays cs (memoryOf o) | false ↦ false ]
-  plays (signal k c ns ∷ cs) m =
-      let o = interrupt S m k c in elim (sameWords (numbers (answerOf o)) ns) [ true ↦ plays cs (memoryOf o) | false ↦ false ]
-  plays (signals l ns ∷ cs) m =
-      let o = burst S m l in elim (sameWords (numbers (answerOf o)) ns) [ true ↦ plays cs (memoryOf o) | false ↦ false ]
-  plays (reads ns ∷ cs) m =
-      let o = readRegisters S m in elim (sameWords (heldNumbers (answerOf o)) ns) [ true ↦ plays cs (memoryOf o) | false ↦ false ]
-  plays (sets r ns ∷ cs) m =
-      let o = setRegisters S m r in elim (sameWords (numbers (answerOf o)) ns) [ true ↦ plays cs (memoryOf o) | false ↦ false ]
-  plays (judges ns ∷ cs) m =
-      let o = judge S m in elim (sameWords (verdictNumbers (answerOf o)) ns) [ true ↦ plays cs (memoryOf o) | false ↦ false ]
-  plays (host a vs ∷ cs) m = plays cs (writes m a vs)
-  plays (made a vs ∷ cs) m = plays cs (writes m a vs)
-  plays (has a vs ∷ cs) m = elim (looks m a vs) [ true ↦ plays cs m | false ↦ false ]
+      elim (sameWords (writingNumbers (answerOf o)) ns) [ true ↦ elim (sameWords (memoryOf o) k) [ true ↦ leads cs m g | false ↦ false ] | false ↦ false ]
+  leads (step ns ∷ cs) m g =
+      let o = instruction S m in elim (sameWords (numbers (answerOf o)) ns) [ true ↦ leads cs (memoryOf o) g | false ↦ false ]
+  leads (signal k c ns ∷ cs) m g =
+      let o = interrupt S m k c in elim (sameWords (numbers (answerOf o)) ns) [ true ↦ leads cs (memoryOf o) g | false ↦ false ]
+  leads (signals l ns ∷ cs) m g =
+      let o = burst S m l in elim (sameWords (numbers (answerOf o)) ns) [ true ↦ leads cs (memoryOf o) g | false ↦ false ]
+  leads (reads ns ∷ cs) m g =
+      let o = readRegisters S m in elim (sameWords (heldNumbers (answerOf o)) ns) [ true ↦ leads cs (memoryOf o) g | false ↦ false ]
+  leads (sets r ns ∷ cs) m g =
+      let o = setRegisters S m r in elim (sameWords (numbers (answerOf o)) ns) [ true ↦ leads cs (memoryOf o) g | false ↦ false ]
+  leads (judges ns ∷ cs) m g =
+      let o = judge S m in elim (sameWords (verdictNumbers (answerOf o)) ns) [ true ↦ leads cs (memoryOf o) g | false ↦ false ]
+  leads (host a vs ∷ cs) m g = leads cs (writes m a vs) g
+  leads (made a vs ∷ cs) m g = leads cs (writes m a vs) g
+  leads (has a vs ∷ cs) m g = elim (looks m a vs) [ true ↦ leads cs m g | false ↦ false ]
+
+  unfoldable pub plays : Script → S .M → Bool
+  unfolding leads
+  plays r m = leads r m (λ k. true)
 
   -- a row starts on a memory of zeros
   unfoldable pub playsFromZero : Script → Bool
