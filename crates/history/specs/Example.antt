@@ -35,6 +35,7 @@ use Rattle.model.specs.Call as Call
 use Rattle.model.specs.Burst as Burst
 use Rattle.model.specs.Layout as Layout
 use Rattle.model.specs.Settings as Settings
+use Rattle.model.specs.Differ as Differ
 use Rattle.model.specs.Answer as Answer
 use Rattle.model.specs.Answer.{memoryOf}
 use Rattle.model.specs.Rule.{all}
@@ -171,10 +172,14 @@ unfolding
     Layout.entryAt Layout.entriesFrom Layout.isLetter Layout.isZeros Layout.isLabel Layout.isLaidOut Layout.isBlock Layout.isRanged Layout.isEntry
     Layout.areEntries Layout.bears Layout.namesDiffer Layout.inBounds Layout.ofBlock Layout.trailerIn Layout.begins Layout.pointsBack
     Layout.isTrailer Layout.ofFile Layout.isGood Settings.made Settings.allMade Settings.settled Settings.fromSettings Settings.trailerFor
-    Settings.written Settings.weight Settings.worse Settings.ofUsed Settings.writes Settings.writeSettings Answer.answerOf Answer.memoryOf
-    Answer.numbers Answer.heldNumbers Answer.verdictNumbers Answer.writingNumbers Answer.done Answer.jumps Answer.waits Fault.entered Fault.fault
-    Execute.run Execute.foreign Execute.isForeign Execute.argumentFault Execute.argued Execute.exi Execute.taken Execute.decoded Execute.coded
-    Execute.fetched Store.tget Store.tput Store.tzero Store.getT Store.putT Store.sizeT Store.trees Rule.all Rule.every Rule.holds writes
+    Settings.written Settings.weight Settings.worse Settings.ofUsed Settings.writes Settings.writeSettings Differ.sameWords Differ.sameMessages
+    Differ.sameWait Differ.sameState Differ.queueAt Differ.differsIn Differ.findingLines Differ.nameLines Differ.orSame Differ.brokenOr
+    Differ.differing Differ.wordLines Differ.queueOf Differ.stateOf Differ.wordsFrom Differ.contentOf Differ.messageOf Differ.messages
+    Differ.sameMail Differ.differences Differ.saidOf Differ.said Differ.namesLines Differ.judgedLines Differ.isWhole Differ.sizeLines
+    Differ.wholeLines Differ.lines Answer.answerOf Answer.memoryOf Answer.numbers Answer.heldNumbers Answer.verdictNumbers Answer.writingNumbers
+    Answer.done Answer.jumps Answer.waits Fault.entered Fault.fault Execute.run Execute.foreign Execute.isForeign Execute.argumentFault
+    Execute.argued Execute.exi Execute.taken Execute.decoded Execute.coded Execute.fetched Store.tget Store.tput Store.tzero Store.getT Store.putT
+    Store.sizeT Store.trees Rule.all Rule.every Rule.holds writes
 at-trees = record {
   living2 = refl;
   living3 = refl;

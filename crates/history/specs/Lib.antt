@@ -41,3 +41,4 @@ pub mod Senders
 pub mod Said
 pub mod Highest
 pub mod Example
+pub mod Compared

@@ -28,12 +28,12 @@ abbrev pub walk : ℕ → List ℕ → ℕ → ℕ → List ℕ
 walk = Queue.walk bytes
 
 -- ---- walk and Chain
-walk-end : (n : ℕ) (m : List ℕ) (k a : ℕ) → getD m a 0 ≡ 0 → walk n m k a ≡ []
+pub walk-end : (n : ℕ) (m : List ℕ) (k a : ℕ) → getD m a 0 ≡ 0 → walk n m k a ≡ []
 unfolding Queue.walk
 walk-end zero m k a e = refl
 walk-end (suc n) m k a e = rw (eq-eqb (getD m a 0) 0 e, Queue.walk)
 
-walk-step : (n : ℕ) (m : List ℕ) (k a : ℕ) → getD m a 0 ≢ 0 → walk (suc n) m k a ≡ getD m a 0 ∷ walk n m k (place (getD m a 0) k)
+pub walk-step : (n : ℕ) (m : List ℕ) (k a : ℕ) → getD m a 0 ≢ 0 → walk (suc n) m k a ≡ getD m a 0 ∷ walk n m k (place (getD m a 0) k)
 unfolding Queue.walk
 walk-step n m k a h = rw (ne-eqb (getD m a 0) 0 h, Queue.walk)
 

@@ -75,3 +75,8 @@ pub mod Turns
 pub mod UsedOnce
 pub mod ListSteps
 pub mod Witness
+-- Which words differ, of two memories
+pub mod Differing
+pub mod Swapped
+pub mod Renaming
+pub mod Renamings
