@@ -1,0 +1,3 @@
+-- The lines of two memories, told one by one.
+pub mod Cursors
+pub mod Telling
