@@ -11,7 +11,8 @@ ghost use mathlib.Core.Path.{_≡_};
 ghost use Prim.Native.Nat.{_<_, _≤_, _+_};
 ghost use lib.ListN.{length};
 ghost use Rattle.screen.specs.Sizes.{lineRoom};
-ghost use Rattle.console.specs.Sizes.{bufferWords, aheadBytes, outputBytes};
+ghost use Rattle.lending.specs.Sizes.{bufferWords};
+ghost use Rattle.console.specs.Sizes.{aheadBytes, outputBytes};
 
 // Where the reading is: what was read and not yet run are the bytes ahead from start to end; whether the line that they belong to has lost its
 // beginning, being too long; whether to go on; the line's number; how many words a call is lent; how many bytes of the output are kept.
@@ -40,7 +41,7 @@ fn run_line(
 {
     let mut given = [0u16; script::sizes::MOST_NUMBERS];
     let order = script::parse(line, &mut given);
-    obey(m, old, output, &given, order, place, line_number)
+    obey(m, old, output, line, &given, order, place, line_number)
 }
 
 // The place of the first line feed from `at` on, or the end; `left` bytes are left.

@@ -1,18 +1,19 @@
 // The script program: runs a script, from standard input or from a file, on one memory and prints what came of it.
-mod files;
+mod copies;
 mod input;
 mod memory;
 mod orders;
 mod sizes;
 
 use input::run;
+use lending::sizes::BUFFER_WORDS;
 use libc::STDERR_FILENO;
 use libc::STDIN_FILENO;
 
 // Runs the script that the descriptor `input` reads.
 fn run_script(input: i32) {
-    let mut m = [0u8; sizes::BUFFER_WORDS];
-    let mut old = [0u8; sizes::BUFFER_WORDS];
+    let mut m = [0u8; BUFFER_WORDS];
+    let mut old = [0u8; BUFFER_WORDS];
     let mut output = io::buffer();
     let mut ahead = io::buffer();
     run(input, &mut m, &mut old, &mut output, &mut ahead);

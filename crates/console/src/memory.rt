@@ -1,6 +1,8 @@
 // What a script does to the program's 8,200 words between calls: the host's store, looks, what has changed, and how much is lent. What is printed
 // is kept at the start of the output, or written at once behind what is kept.
 use crate::sizes;
+use lending::sizes::BUFFER_WORDS;
+use lending::store_word;
 use model::map;
 use screen::kept::write;
 use screen::lines::not_allowed;
@@ -11,10 +13,10 @@ use words::guarded;
 use words::low;
 ghost use mathlib.Core.Path.{_≡_};
 ghost use Prim.Native.Nat.{_<_, _≤_, _+_};
-ghost use lib.ListN.{length, set};
+ghost use lib.ListN.{length};
 ghost use Rattle.script.specs.Sizes.{mostNumbers};
 ghost use Rattle.screen.specs.Sizes.{lineRoom};
-ghost use Rattle.console.specs.Sizes.{bufferWords};
+ghost use Rattle.lending.specs.Sizes.{bufferWords};
 
 // What a line leaves: how many words a call is lent from then on, and how many bytes of the output are kept, to be written.
 pub struct After {
@@ -61,13 +63,6 @@ fn all_words(given: &[u16], count: usize) -> bool
     true
 }
 
-pub fn store_word(m: &mut [u8], at: usize, value: u8)
-    requires { ⌜ at < length (now m) ⌝ }
-    ensures { λ _. ⌜ now (m .exit) ≡ set (now (m .entry)) at value ⌝ }
-{
-    m[at] = value;
-}
-
 // The values given[1] to given[count] go to a place and the ones behind it.
 fn store(m: &mut [u8], at: usize, given: &[u16], count: usize)
     requires { ⌜ (at + count ≤ length (now m)) × (count < length (now given)) ⌝ }
@@ -96,7 +91,7 @@ pub fn put_anywhere(
     if script::sizes::MOST_VALUES < count {
         return not_allowed(output, kept);
     }
-    if sizes::BUFFER_WORDS < at + count {
+    if BUFFER_WORDS < at + count {
         return not_allowed(output, kept);
     }
     if all_words(given, count) {
@@ -121,7 +116,7 @@ pub fn put(
     if script::sizes::MOST_VALUES < count {
         return not_allowed(output, kept);
     }
-    if sizes::BUFFER_WORDS < (address as usize) + count {
+    if BUFFER_WORDS < (address as usize) + count {
         return not_allowed(output, kept);
     }
     if all_open(address, count as u16) {
@@ -164,7 +159,7 @@ pub fn look(m: &[u8], output: &mut [u8], kept: usize, address: u16, count: u16) 
     if sizes::MOST_LOOKED_AT < left {
         return not_allowed(output, kept);
     }
-    if sizes::BUFFER_WORDS < at + left {
+    if BUFFER_WORDS < at + left {
         return not_allowed(output, kept);
     }
     let none = write(output, kept);
@@ -200,7 +195,7 @@ pub fn changes(m: &[u8], old: &mut [u8], output: &[u8], kept: usize) -> usize
     let none = write(output, kept);
     let mut at = 0;
     let mut changed = 0;
-    while at < sizes::BUFFER_WORDS {
+    while at < BUFFER_WORDS {
         changed += change(m, old, at);
         at += 1;
     }
@@ -216,7 +211,7 @@ pub fn lend(output: &mut [u8], kept: usize, lent: usize, wanted: u16) -> After
     ensures { λ r. ⌜ (r .lent ≤ bufferWords) × (r .kept ≤ length (now (output .entry))) ⌝ }
 {
     let count = wanted as usize;
-    if sizes::BUFFER_WORDS < count {
+    if BUFFER_WORDS < count {
         return After {
             lent,
             kept: not_allowed(output, kept),

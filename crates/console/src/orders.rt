@@ -1,19 +1,21 @@
 // The orders of a script, each on the program's 8,200 words m, of which a call is lent the first `lent`. What an order prints goes to the output,
 // behind the bytes that are kept there.
-use crate::files::settings;
-use crate::files::write_settings;
+use crate::copies::settings;
+use crate::copies::write_settings;
 use crate::memory::After;
 use crate::memory::changes;
 use crate::memory::lend;
 use crate::memory::look;
 use crate::memory::put;
 use crate::memory::put_anywhere;
-use crate::memory::store_word;
+use files::replace;
 use kernel::judge;
+use lending::gather;
 use model::Answer;
 use model::Held;
 use model::Registers;
 use model::Verdict;
+use model::Writing;
 use model::map;
 use screen::broken::broken;
 use screen::kept::write;
@@ -22,19 +24,19 @@ use screen::lines::held;
 use screen::lines::not_allowed;
 use screen::lines::not_understood;
 use screen::lines::verdict;
+use screen::lines::writing;
 use screen::pieces::text;
 use screen::pieces::word;
 use screen::state;
 use script::Order;
 use script::Seven;
-use words::low;
 ghost use mathlib.Core.Path.{_≡_};
 ghost use Prim.Native.Nat.{_≤_, _+_};
 ghost use lib.ListN.{length};
 ghost use Rattle.script.specs.Sizes.{mostNumbers};
+ghost use Rattle.files.specs.Files.{nameRoom};
 ghost use Rattle.screen.specs.Sizes.{lineRoom};
-ghost use Rattle.console.specs.Sizes.{bufferWords};
-ghost use Rattle.console.specs.Lists as Lists;
+ghost use Rattle.lending.specs.Sizes.{bufferWords};
 
 fn fresh(m: &mut [u8], lent: usize, line: u16, divider: u16) -> Answer
     requires { ⌜ lent ≤ length (now m) ⌝ }
@@ -52,28 +54,6 @@ fn interrupt(m: &mut [u8], lent: usize, number: u16, class: u16) -> Answer
     requires { ⌜ lent ≤ length (now m) ⌝ }
 {
     kernel::interrupt(&mut m[0..lent], number, class)
-}
-
-// A number in a byte; one that is no byte as 255, which is as bad.
-fn in_byte(given: u16) -> u8
-    ensures { λ r. ⌜ r ≡ Lists.inByte given ⌝ }
-{
-    if map::A_WORD_WIDE < given {
-        return map::A_WORD;
-    }
-    low(given)
-}
-
-// The first `count` numbers given become the first bytes of the list.
-fn gather(list: &mut [u8], given: &[u16], count: usize)
-    requires { ⌜ (count ≤ length (now list)) × (count ≤ length (now given)) ⌝ }
-    ensures { λ _. ⌜ now (list .exit) ≡ Lists.gathered count (now (given .entry)) (now (list .entry)) ⌝ }
-{
-    let mut left = count;
-    while 0 < left {
-        left -= 1;
-        store_word(list, left, in_byte(given[left]));
-    }
 }
 
 fn burst(
@@ -148,11 +128,49 @@ fn show(m: &[u8], lent: usize, output: &[u8], kept: usize) -> usize
     none
 }
 
+// The lent words go to the file with a name. Where the system refuses, it has said so on standard error, behind what was kept.
+fn save_as(name: &[u8], m: &[u8], lent: usize, output: &mut [u8], kept: usize) -> usize
+    requires { ⌜ (length (now name) ≤ nameRoom) × (lent ≤ length (now m)) × (kept + lineRoom ≤ length (now output)) ⌝ }
+    ensures { λ r. ⌜ r ≤ length (now (output .entry)) ⌝ }
+{
+    let none = write(output, kept);
+    if replace(name, &m[0..lent]) {
+        return writing(output, none, Writing::Written(lent));
+    }
+    none
+}
+
+// `save FILE`: the name stands in the line, between two places; that they lie there is tested, though `parse` gives no others.
+fn save(
+    m: &[u8],
+    lent: usize,
+    output: &mut [u8],
+    kept: usize,
+    line: &[u8],
+    begin: usize,
+    end: usize,
+) -> usize
+    requires { ⌜ (lent ≤ length (now m)) × (kept + lineRoom ≤ length (now output)) ⌝ }
+    ensures { λ r. ⌜ r ≤ length (now (output .entry)) ⌝ }
+{
+    if end < begin {
+        return not_allowed(output, kept);
+    }
+    if line.len() < end {
+        return not_allowed(output, kept);
+    }
+    if script::sizes::LONGEST_LINE < end {
+        return not_allowed(output, kept);
+    }
+    save_as(&line[begin..end], m, lent, output, kept)
+}
+
 // Carries out the order of a line, with the numbers given there. There is room in the output for a line.
 pub fn obey(
     m: &mut [u8],
     old: &mut [u8],
     output: &mut [u8],
+    line: &[u8],
     given: &[u16],
     order: Order,
     place: After,
@@ -167,7 +185,7 @@ pub fn obey(
     let then = match order {
         Order::Nothing => kept,
         Order::NotUnderstood => not_understood(output, kept, line_number),
-        Order::Fresh(line, divider) => answer(output, kept, fresh(m, lent, line, divider)),
+        Order::Fresh(clock, divider) => answer(output, kept, fresh(m, lent, clock, divider)),
         Order::Step => answer(output, kept, step(m, lent)),
         Order::Interrupt(number, class) => answer(output, kept, interrupt(m, lent, number, class)),
         Order::Burst(count) => burst(m, lent, output, kept, given, count),
@@ -179,6 +197,7 @@ pub fn obey(
         Order::Length(wanted) => return lend(output, kept, lent, wanted),
         Order::Settings(address, long) => settings(m, lent, output, kept, address, long),
         Order::Write(wanted) => write_settings(m, output, kept, wanted),
+        Order::Save(begin, end) => save(m, lent, output, kept, line, begin, end),
         Order::Words(address, count) => look(m, output, kept, address, count),
         Order::Changes => changes(m, old, output, kept),
         Order::Show => show(m, lent, output, kept),

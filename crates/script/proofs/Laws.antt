@@ -11,9 +11,9 @@ use native.Mathlib.Omega.{arith}
 use Rattle.script.specs.Sizes.{longestLine, largestNumber, noNumber, mostNumbers, wrongNumbers, space}
 use Rattle.script.specs.declared.reading.Figures.{Figures}
 use Rattle.script.specs.declared.Order.{Order}
-use Rattle.script.specs.declared.Order.the-variants.{Nothing, NotUnderstood}
+use Rattle.script.specs.declared.Order.the-variants.{Nothing, NotUnderstood, Save}
 use Rattle.script.specs.Script.{skip, parts, wordEnd, ends, ended, isDigit, more, digits, number, keep, numbers, same, isWord}
-use Rattle.script.specs.Script.{counted, values, valued, callOrder, ordered, parse}
+use Rattle.script.specs.Script.{counted, values, valued, save, callOrder, ordered, parse}
 use Rattle.script.specs.Script.{Read}
 use Rattle.script.specs.Script.Read.{read}
 use Rattle.script.specs.Script.Parsed.{parsed}
@@ -133,6 +133,21 @@ module _ (s : List ℕ) where
     unfolding isWord
     isWord-not e h = rw (ne-eqb (e - a) (length w) h)
 
+  -- the name of a file, from b to z
+  module _ (e b z : ℕ) (eb : b ≡ skip (length s - e) s e) (ez : z ≡ wordEnd (length s - b) s b) where
+    pub save-none : z ≡ b → NotUnderstood ≡ save s e
+    unfolding save
+    save-none h = rw (← eb, ← ez, eq-eqb z b h)
+
+    module _ (x : Bool) (h : z ≡ b → ⊥) (ex : x ≡ ended s z) where
+      pub save-one : x ≡ true → Save b z ≡ save s e
+      unfolding save
+      save-one t = rw (← eb, ← ez, ne-eqb z b h, ← ex, t)
+
+      pub save-more : x ≡ false → NotUnderstood ≡ save s e
+      unfolding save
+      save-more t = rw (← eb, ← ez, ne-eqb z b h, ← ex, t)
+
   pub ordered-is : (a e n : ℕ) (v w : List ℕ) (o : Order) → e ≡ wordEnd (length s - a) s a → read n w ≡ numbers mostNumbers s e v → o ≡ callOrder s a e w n
       → parsed o w ≡ ordered s a v
   unfolding ordered
@@ -203,6 +218,9 @@ pub ruleset orders = (
   order-later,
   counted-parts,
   valued-parts,
+  save-none,
+  save-one,
+  save-more,
   ordered-is,
   parse-long,
   parse-nothing,

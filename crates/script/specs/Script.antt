@@ -1,4 +1,4 @@
--- A line of a script: a word and the numbers behind it. s is the line, as its characters; a is a place in it; v are the numbers read so far.
+-- A line of a script: a word, and the numbers or the file's name behind it. s is the line, as its characters; a is a place in it; v are the numbers so far.
 use Prim.Native.Nat.{ℕ, zero, suc, _+_, _-_, _*_, _%_}
 use mathlib.Core.Bool.{Bool, true, false, cond}
 use mathlib.Core.List.{List, [], _∷_}
@@ -10,7 +10,7 @@ use Rattle.script.specs.declared.Five.{Five}
 use Rattle.script.specs.declared.reading.Figures.{Figures}
 use Rattle.script.specs.declared.Order.{Order}
 use Rattle.script.specs.declared.Order.the-variants.{Nothing, NotUnderstood, Fresh, Step, Interrupt, Burst, Registers, Set, Judge}
-use Rattle.script.specs.declared.Order.the-variants.{Put, Break, Length, Settings, Write, Words, Changes, Show}
+use Rattle.script.specs.declared.Order.the-variants.{Put, Break, Length, Settings, Write, Save, Words, Changes, Show}
 
 -- "Words in a line are parted by spaces": the place after those from a on, with n characters left
 unfoldable pub skip : ℕ → List ℕ → ℕ → ℕ
@@ -121,6 +121,16 @@ values n = cond (ltb n 2) 0 (cond (ltb mostStored n) 0 (n - 1))
 unfoldable pub valued : Order → ℕ → Order
 valued o k = cond (eqb k 0) NotUnderstood o
 
+-- "`save FILE`": one word behind the place e, and nothing behind it; where it begins and ends
+unfoldable pub save : List ℕ → ℕ → Order
+save s e = from (skip (length s - e) s e)
+  where
+    named : ℕ → ℕ → Order
+    named b z = cond (eqb z b) NotUnderstood (cond (ended s z) (Save b z) NotUnderstood)
+
+    from : ℕ → Order
+    from b = named b (wordEnd (length s - b) s b)
+
 -- ---- the words of the orders, each in its letters' numbers
 -- "fresh"
 abbrev pub is-fresh : List ℕ → ℕ → ℕ → Bool
@@ -170,6 +180,10 @@ is-settings s a e = isWord s a e (115 ∷ 101 ∷ 116 ∷ 116 ∷ 105 ∷ 110 �
 abbrev pub is-write : List ℕ → ℕ → ℕ → Bool
 is-write s a e = isWord s a e (119 ∷ 114 ∷ 105 ∷ 116 ∷ 101 ∷ [])
 
+-- "save"
+abbrev pub is-save : List ℕ → ℕ → ℕ → Bool
+is-save s a e = isWord s a e (115 ∷ 97 ∷ 118 ∷ 101 ∷ [])
+
 -- "words"
 abbrev pub is-words : List ℕ → ℕ → ℕ → Bool
 is-words s a e = isWord s a e (119 ∷ 111 ∷ 114 ∷ 100 ∷ 115 ∷ [])
@@ -188,10 +202,13 @@ hostOrder s a e v n =
     cond (is-words s a e) (counted (Words (getD v 0 0) (getD v 1 0)) n 2)
     (cond (is-changes s a e) (counted Changes n 0) (cond (is-show s a e) (counted Show n 0) NotUnderstood))
 
+unfoldable pub saveOrder : List ℕ → ℕ → ℕ → List ℕ → ℕ → Order
+saveOrder s a e v n = cond (is-save s a e) (save s e) (hostOrder s a e v n)
+
 unfoldable pub fileOrder : List ℕ → ℕ → ℕ → List ℕ → ℕ → Order
 fileOrder s a e v n =
     cond (is-settings s a e) (counted (Settings (getD v 0 0) (getD v 1 0)) n 2)
-    (cond (is-write s a e) (counted (Write (partsWritten v)) n 5) (hostOrder s a e v n))
+    (cond (is-write s a e) (counted (Write (partsWritten v)) n 5) (saveOrder s a e v n))
 
 unfoldable pub storeOrder : List ℕ → ℕ → ℕ → List ℕ → ℕ → Order
 storeOrder s a e v n =

@@ -1,7 +1,8 @@
-// A line of a script: a word and the numbers behind it. What each function answers is said in specs/Script.antt.
+// A line of a script: a word, and the numbers or the file's name behind it. What each function answers is said in specs/Script.antt.
 pub mod reading;
 pub mod sizes;
 
+use reading::ended;
 use reading::ends;
 use reading::is_word;
 use reading::numbers;
@@ -34,7 +35,8 @@ pub struct Five {
     pub length: u16,
 }
 
-// What a line asks for. The values of Put and Break, as many as their second number says, and those of Burst stand beside it.
+// What a line asks for. The values of Put and Break, as many as their second number says, and those of Burst stand beside it. The name of Save stands in the
+// line, between two places.
 pub enum Order {
     Nothing,
     NotUnderstood,
@@ -50,6 +52,7 @@ pub enum Order {
     Length(u16),
     Settings(u16, u16),
     Write(Five),
+    Save(usize, usize),
     Words(u16, u16),
     Changes,
     Show,
@@ -137,6 +140,22 @@ fn parts_written(given: &[u16]) -> Five
     }
 }
 
+// A file's name is one word behind the order's own, which ends at a place.
+fn save(line: &[u8], end: usize) -> Order
+    requires { ⌜ end ≤ length (now line) ⌝ }
+    ensures { λ r. ⌜ r ≡ Script.save (now (line .entry)) end ⌝ }
+{
+    let begin = skip(line, end, line.len() - end);
+    let behind = word_end(line, begin, line.len() - begin);
+    if behind == begin {
+        return Order::NotUnderstood;
+    }
+    if ended(line, behind) {
+        return Order::Save(begin, behind);
+    }
+    Order::NotUnderstood
+}
+
 // The orders by their words; the line has one between two places, `given` has the numbers behind it, so many.
 fn host_order(line: &[u8], at: usize, end: usize, given: &[u16], count: usize) -> Order
     requires { ⌜ (at ≤ end) × (end ≤ length (now line)) × (length (now given) ≡ mostNumbers) ⌝ }
@@ -154,6 +173,16 @@ fn host_order(line: &[u8], at: usize, end: usize, given: &[u16], count: usize) -
     Order::NotUnderstood
 }
 
+fn save_order(line: &[u8], at: usize, end: usize, given: &[u16], count: usize) -> Order
+    requires { ⌜ (at ≤ end) × (end ≤ length (now line)) × (length (now given) ≡ mostNumbers) ⌝ }
+    ensures { λ r. ⌜ r ≡ Script.saveOrder (now (line .entry)) at end (now (given .entry)) count ⌝ }
+{
+    if is_word(line, at, end, b"save") {
+        return save(line, end);
+    }
+    host_order(line, at, end, given, count)
+}
+
 fn file_order(line: &[u8], at: usize, end: usize, given: &[u16], count: usize) -> Order
     requires { ⌜ (at ≤ end) × (end ≤ length (now line)) × (length (now given) ≡ mostNumbers) ⌝ }
     ensures { λ r. ⌜ r ≡ Script.fileOrder (now (line .entry)) at end (now (given .entry)) count ⌝ }
@@ -168,7 +197,7 @@ fn file_order(line: &[u8], at: usize, end: usize, given: &[u16], count: usize) -
             sizes::WRITE_NUMBERS,
         );
     }
-    host_order(line, at, end, given, count)
+    save_order(line, at, end, given, count)
 }
 
 fn store_order(line: &[u8], at: usize, end: usize, given: &[u16], count: usize) -> Order

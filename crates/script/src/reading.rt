@@ -71,7 +71,7 @@ pub fn ends(line: &[u8], at: usize) -> bool
 }
 
 // Whether only blanks, and a comment perhaps, stand from a place on.
-fn ended(line: &[u8], at: usize) -> bool
+pub fn ended(line: &[u8], at: usize) -> bool
     requires { ⌜ at ≤ length (now line) ⌝ }
     ensures { λ r. ⌜ r ≡ Script.ended (now (line .entry)) at ⌝ }
 {

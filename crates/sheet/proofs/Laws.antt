@@ -6,7 +6,7 @@ use mathlib.Core.Bool.{Bool, true, false, cond}
 use mathlib.Core.List.{List, [], _∷_, _++_, append-assoc}
 use lib.Dec.{eqb, ltb, leb}
 use lib.ListN.{length, getD, set, take, drop, replicate, length-set, length-append, length-replicate}
-use lib.Seq.{length-take-le, take-append-seam, take-at, take-length, take-suc-set, take-set-lt, getD-take}
+use lib.Seq.{length-take-le, take-at, take-length, take-suc-set, take-set-lt, getD-take}
 use borrow.Author.Tests.{eqb-true, eq-eqb, ne-eqb, ltb-true, ltb-false, lt-ltb, le-ltb, leb-false, le-leb, lt-leb}
 use native.Mathlib.Numerals.{add-one, unary-clauses}
 use native.Mathlib.Omega.{arith}
@@ -22,16 +22,12 @@ use Rattle.model.specs.Layout.{entryBytes, labelBytes, versionOf, headBytes, of
 use Rattle.model.specs.Settings as Settings
 use Rattle.model.specs.Settings.{newLength, worse, ofUsed, heedsBoth, writeSettings}
 use Rattle.laws.specs.Fits.{head-range}
-use Rattle.settings.proofs.Writes.{lay-is}
+use Rattle.files.proofs.Laws.{reading}
 use Rattle.script.specs.Sizes.{largestNumber, noNumber}
 use Rattle.script.specs.Script.{digits}
 use Rattle.script.specs.declared.reading.Figures.{Figures}
 use Rattle.sheet.specs.declared.building.Due.{Due}
 use Rattle.sheet.specs.declared.building.Due.the-variants.{Version, Byte, Label, Address, Nothing}
-use Rattle.sheet.specs.declared.files.Got.{Got}
-use Rattle.sheet.specs.declared.files.Got.the-variants.{Has}
-use Rattle.sheet.specs.Files as Files
-use Rattle.sheet.specs.Files.{newBytes, newName, gotBytes}
 use Rattle.sheet.specs.Words as Words
 use Rattle.sheet.specs.Words.{mostGroups, mostBehind, blockRoom, noBlock, numberOf, headOf, dueBehind, dueInHead, dueAt, dash, letters, labelled}
 use Rattle.sheet.specs.Words.{byteTaken, versionTaken, addressTaken, labelTaken, taken, next, counted, ended, finished, stands}
@@ -121,28 +117,6 @@ module _ (l l₁ l₂ w : List ℕ) (n r s x : ℕ) (long : length l ≡ blockRo
 pub ruleset bytes = (byte-wrong, version-wrong, address-wrong, byte-more, version-more, address-more)
 
 -- ---- bytes laid into a buffer
-pub new-name : (f l l₁ l₂ : List ℕ) → l₁ ≡ take 0 l ++ f ++ drop (0 + length f) l
-    → l₂ ≡ take (length f) l₁ ++ (46 ∷ 110 ∷ 101 ∷ 119 ∷ []) ++ drop (length f + newBytes) l₁ → take (length f + newBytes) l₂ ≡ newName f
-unfolding Files.newName
-new-name f l l₁ l₂ e₁ e₂ =
-    let four : List ℕ = 46 ∷ 110 ∷ 101 ∷ 119 ∷ [] in
-    let a : take (length f) l₁ ≡ f = rw e₁ (take-append-seam f (drop (0 + length f) l)) in
-    rw (e₂, a) (take-at (f ++ four) (drop (length f + newBytes) l₁) (length f + newBytes) (length-append f four))
-
-pub new-long : (f l l₁ l₂ : List ℕ) → l₁ ≡ take 0 l ++ f ++ drop (0 + length f) l
-    → l₂ ≡ take (length f) l₁ ++ (46 ∷ 110 ∷ 101 ∷ 119 ∷ []) ++ drop (length f + newBytes) l₁ → length f + newBytes ≡ length (take (length f + newBytes) l₂)
-unfolding Files.newName
-new-long f l l₁ l₂ e₁ e₂ = sym (ap length (new-name f l l₁ l₂ e₁ e₂) ∙ length-append f (46 ∷ 110 ∷ 101 ∷ 119 ∷ []))
-
-pub counts-is : (l : List ℕ) (n : ℕ) → n ≤ length l → n ≡ length (take n l)
-counts-is l n h = sym (length-take-le n l h)
-
-pub counts-below : (l : List ℕ) (n k : ℕ) → n ≤ k → length l ≡ k → n ≡ length (take n l)
-counts-below l n k h e = counts-is l n (omega arith)
-
-pub prefix-most : (l : List ℕ) (n k : ℕ) → n ≤ length l → length l ≡ k → length (take n l) ≤ k
-prefix-most l n k h e = omega (arith, counts-is l n h)
-
 drop-zeros : (k n : ℕ) → drop {A = ℕ} k (replicate n 0) ≡ replicate (n - k) 0
 drop-zeros zero n = simp unary-clauses
 drop-zeros (suc k) zero = let z : 0 - suc k ≡ 0 = omega arith in rw z
@@ -194,12 +168,9 @@ module _ (l l₁ w : List ℕ) (n : ℕ) where
       length-append (take n l) p ∙ ap (λ (k : ℕ). k + length p) (length-take-le n l (omega arith)) ∙ ap (λ (k : ℕ). n + k) t in
       rw (le-ltb labelBytes (length w) h, stands-in l₁ (n + labelBytes) o, e, take-at (take n l ++ p) (drop (n + length p) l) (n + labelBytes) a, ep)
 
-pub ruleset laying = (lay-is, label-is, label-wrong, label-more)
+pub ruleset laying = (label-is, label-wrong, label-more)
 
--- ---- what was read and written stands in the buffer
-pub read-fits : (r : Got) (n k : ℕ) → gotBytes r ≤ k → r ≡ Has n → n ≤ k
-read-fits r n k h e = rw e at h
-
+-- ---- what was written stands in the buffer
 pub written-fits : (l l₁ b : List ℕ) (u n : ℕ) (r : Writing) → gives r l₁ ≡ writeSettings l u b → r ≡ Writing.Written n → length l₁ ≡ length l → n ≤ length l₁
 unfolding Settings.writeSettings Settings.writes
 written-fits l l₁ b u n r e z long = go (ltb (length l) u) (worse (ofUsed (take u l)) (ofBlock b)) (ltb (length l) (newLength u b)) refl (rw z at e)
@@ -219,7 +190,7 @@ pub file-good : (f : List ℕ) (o : Fit) → o ≡ ofFile f → o ≡ Good → i
 unfolding Layout.isGood
 file-good f o e h = rw (← e, h)
 
-pub ruleset files = (read-fits, written-fits, counts-is, counts-below, prefix-most, file-good)
+pub ruleset files = (reading, written-fits, file-good)
 
 -- ---- the next word: v is the buffer's first byte, d what the word is
 head-of-most : (v : ℕ) → headOf v ≤ 17

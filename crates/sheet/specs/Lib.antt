@@ -1,6 +1,5 @@
--- What the words of a command line build, with examples; what is read of a file; and what is shown of a block.
+-- What the words of a command line build, with examples; and what is shown of a block.
 pub mod Words
 pub mod Reading
 pub mod Examples
-pub mod Files
 pub mod Rows

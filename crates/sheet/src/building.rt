@@ -1,9 +1,9 @@
 // A block from the words of a command line, one word after the other: `VERSION LINE DIVIDER [SITE [LABEL]] NAME PRIORITY W ADDRESS ..`. The first `at` bytes
 // of the block are there already, and say what the next word is; WRONG stands for words that build none. What each function answers is said in
 // specs/Words.antt.
-use crate::laying::lay;
 use crate::sizes;
 use bytes::copy;
+use files::laying::lay;
 use model::layout;
 use script::reading::digits;
 use settings::block::head_bytes;

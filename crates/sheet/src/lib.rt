@@ -1,13 +1,12 @@
 // The technician's program: shows the newest settings in a file, or writes a block into it from the words of the command line.
 mod building;
-mod files;
-mod laying;
 mod rows;
 mod sizes;
 
 use building::finish;
 use building::take_word;
 use files::Got;
+use files::name_of;
 use files::read_file;
 use files::replace;
 use libc::STDERR_FILENO;
@@ -24,7 +23,7 @@ use settings::write::write_settings;
 ghost use mathlib.Core.Path.{_≡_};
 ghost use Prim.Native.Nat.{_≤_};
 ghost use lib.ListN.{length};
-ghost use Rattle.sheet.specs.Files.{nameRoom};
+ghost use Rattle.files.specs.Files.{nameRoom};
 ghost use Rattle.sheet.specs.Words as Words;
 
 fn usage() {
@@ -131,17 +130,6 @@ fn write_words(name: &[u8], count: usize)
     write_file(name, &block[..end]);
 }
 
-// The file's name, the first word behind the program's own. Of one that is longer than the buffer as much as that holds, which the system takes for no name.
-fn file_name(name: &mut [u8]) -> usize
-    ensures { λ r. ⌜ r ≤ length (now (name .exit)) ⌝ }
-{
-    let end = os::arg(1, name);
-    if os::errno() == 0 {
-        return end;
-    }
-    name.len()
-}
-
 // Shows the file, or writes into it where more words stand behind its name; the program's own name counts as a word.
 pub fn start() {
     let count = os::arg_count();
@@ -149,7 +137,7 @@ pub fn start() {
         return usage();
     }
     let mut name = io::buffer();
-    let end = file_name(&mut name);
+    let end = name_of(1, &mut name);
     if count == 2 {
         return show_file(&name[..end]);
     }

@@ -22,8 +22,3 @@ pub const FILE_ROOM: usize = 8192;
 
 // The first word of a block, behind the program's own name and the file's.
 pub const FIRST_WORD: usize = 2;
-
-// `.new`, and room for it behind a file's name, which has 4,096 bytes at most.
-pub const NEW_BYTES: usize = 4;
-
-pub const NEW_NAME_ROOM: usize = 4100;

@@ -2,7 +2,8 @@ use mathlib.Core.Path.{_≡_}
 use Prim.Native.Nat.{_≤_}
 use lib.ListN.{length}
 use borrow.Author.Needs.{needs}
-use Rattle.console.specs.Sizes.{bufferWords, aheadBytes, outputBytes}
+use Rattle.lending.specs.Sizes.{bufferWords}
+use Rattle.console.specs.Sizes.{aheadBytes, outputBytes}
 use Rattle.console.proofs.input.take_turns.Statement.{statement}
 use Rattle.console.proofs.input.take_turns.Tie as tie
 

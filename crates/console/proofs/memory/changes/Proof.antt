@@ -2,7 +2,7 @@ use mathlib.Core.Path.{_≡_}
 use Prim.Native.Nat.{_≤_, _-_}
 use lib.ListN.{length}
 use borrow.Author.Needs.{needs}
-use Rattle.console.specs.Sizes.{bufferWords}
+use Rattle.lending.specs.Sizes.{bufferWords}
 use Rattle.console.proofs.memory.changes.Statement.{statement}
 use Rattle.console.proofs.memory.changes.Tie as tie
 
