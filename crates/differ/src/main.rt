@@ -1,0 +1,4 @@
+// The program that compares two memories.
+fn main() {
+    report::start();
+}
