@@ -23,6 +23,7 @@ static const char *const odd[] = {
     "write 1000 100 13 2000 5 6", "write 65536 0 0 0 0", "write 0 65536 0 0 0", "write 0 0 65536 0 0",
     "write 0 0 0 65536 0", "write 0 0 0 0 65536", "write 1000 100 13 2000 5x", "writes 1000 100 13 2000 5",
     "WRITE 1000 100 13 2000 5", "write 1000 100 13 2000 #5", "write 1000,100 13 2000 5", "write 1 2 3", "write 1",
+    "save", "save a b", "save #a", "save# a b", "save 1 2 # 3", "SAVE a", "saves a", "save\ta", "savea", "save a b c",
     "interrupt #16", "put 400 #1", "set 1 2 3 4 5 6# 7", "fresh 16 #1", "words 400 #", "length #5"
 };
 

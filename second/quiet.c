@@ -9,6 +9,7 @@ uint8_t world[BUFFER];
 size_t lent = WORDS;
 struct answer last;
 bool late;
+void (*beside)(const struct order *order);
 
 static struct {
     uint16_t address;
@@ -35,17 +36,19 @@ void undo_stores(void)
     kept = false;
 }
 
-/* What cannot be kept is not stored. */
-static void store_words(unsigned address, const uint8_t *values, unsigned count)
+/* What cannot be kept is not stored; only the generator's copy is kept. */
+static void store_words(uint8_t *m, unsigned address, const uint8_t *values, unsigned count)
 {
+    bool keep = kept && m == world;
+
     for (unsigned i = 0; i < count; i++, address++) {
-        if (kept && stored == MOST_STORES)
+        if (keep && stored == MOST_STORES)
             return;
-        if (kept) {
+        if (keep) {
             stores[stored].address = (uint16_t)address;
-            stores[stored++].old = world[address];
+            stores[stored++].old = m[address];
         }
-        world[address] = values[i];
+        m[address] = values[i];
     }
 }
 
@@ -59,19 +62,74 @@ bool near_end(void)
     return late;
 }
 
+static struct answer carry_out_settings(uint8_t *m, const unsigned *n)
+{
+    uint8_t file[BUFFER];
+
+    if (n[0] + n[1] > BUFFER)
+        return last;
+    memcpy(file, m + n[0], n[1]);
+    return kernel_fresh_from_settings(m, lent, file, n[1]);
+}
+
+static struct answer carry_out_write(uint8_t *m, const struct writing *w)
+{
+    uint8_t file[BUFFER], block[BUFFER];
+    struct answer answer;
+
+    if (w->file + w->room > BUFFER || w->block + w->length > BUFFER)
+        return last;
+    memcpy(file, m + w->file, w->room);
+    memcpy(block, m + w->block, w->length);
+    answer = kernel_write_settings(file, w->room, w->used, block, w->length);
+    store_words(m, w->file, file, w->room);
+    return answer;
+}
+
+static struct answer carry_out_set(uint8_t *m, const unsigned *n)
+{
+    struct registers r = { n[0], n[1], n[2], n[3], n[4], n[5], n[6] };
+
+    return kernel_set_registers(m, lent, &r);
+}
+
+struct answer carry_out(uint8_t *m, const struct order *o)
+{
+    const unsigned *n = o->number;
+
+    switch (o->what) {
+    case FRESH: return kernel_fresh(m, lent, n[0], n[1]);
+    case STEP: return kernel_instruction(m, lent);
+    case INTERRUPT: return kernel_interrupt(m, lent, n[0], n[1]);
+    case BURST: return kernel_burst(m, lent, o->value, o->count);
+    case SETTINGS: return carry_out_settings(m, n);
+    case WRITE: return carry_out_write(m, &(struct writing){ n[0], n[1], n[2], n[3], n[4] });
+    case SET: return carry_out_set(m, n);
+    case STORE: store_words(m, n[0], o->value, o->count); break;
+    }
+    return last;
+}
+
+static void play(const struct order *o)
+{
+    last = carry_out(world, o);
+    if (beside != NULL)
+        beside(o);
+}
+
 void order_fresh(unsigned line, unsigned divider)
 {
-    last = kernel_fresh(world, lent, line, divider);
+    play(&(struct order){ .what = FRESH, .number = { line, divider } });
 }
 
 void order_step(void)
 {
-    last = kernel_instruction(world, lent);
+    play(&(struct order){ .what = STEP });
 }
 
 void order_interrupt(unsigned number, unsigned class_number)
 {
-    last = kernel_interrupt(world, lent, number, class_number);
+    play(&(struct order){ .what = INTERRUPT, .number = { number, class_number } });
 }
 
 unsigned burst_text(const struct list *list, char text[LONGEST_LINE + 1])
@@ -82,11 +140,11 @@ unsigned burst_text(const struct list *list, char text[LONGEST_LINE + 1])
 
 void order_burst(const struct list *list)
 {
-    uint8_t bytes[LONGEST_LIST] = { 0 };
+    struct order o = { .what = BURST, .count = list->count };
 
     for (unsigned i = 0; i < list->count; i++)
-        bytes[i] = (uint8_t)(list->number[i] > 255 ? 255 : list->number[i]);
-    last = kernel_burst(world, lent, bytes, list->count);
+        o.value[i] = (uint8_t)(list->number[i] > 255 ? 255 : list->number[i]);
+    play(&o);
 }
 
 void order_burst_as(const char *line, const struct list *list)
@@ -97,41 +155,17 @@ void order_burst_as(const char *line, const struct list *list)
 
 void order_settings(unsigned address, unsigned length)
 {
-    uint8_t file[BUFFER];
-
-    if (address + length > BUFFER)
-        return;
-    memcpy(file, world + address, length);
-    last = kernel_fresh_from_settings(world, lent, file, length);
+    play(&(struct order){ .what = SETTINGS, .number = { address, length } });
 }
 
 void order_write(const struct writing *w)
 {
-    uint8_t file[BUFFER], block[BUFFER];
-
-    if (w->file + w->room > BUFFER || w->block + w->length > BUFFER)
-        return;
-    memcpy(file, world + w->file, w->room);
-    memcpy(block, world + w->block, w->length);
-    last = kernel_write_settings(file, w->room, w->used, block, w->length);
-    store_words(w->file, file, w->room);
+    play(&(struct order){ .what = WRITE, .number = { w->file, w->room, w->used, w->block, w->length } });
 }
 
-void order_registers(void)
+void order_set(const struct registers *r)
 {
-    struct registers ignored;
-
-    last = kernel_read_registers(world, lent, &ignored);
-}
-
-void order_set(const struct registers *registers)
-{
-    last = kernel_set_registers(world, lent, registers);
-}
-
-void order_judge(void)
-{
-    last = kernel_judge(world, lent);
+    play(&(struct order){ .what = SET, .number = { r->a, r->s, r->p, r->z, r->ci, r->lr, r->w } });
 }
 
 static bool host_may(unsigned address)
@@ -146,7 +180,8 @@ void put_allowed(unsigned address, const uint8_t *values, unsigned count)
 
     while (allowed < count && host_may(address + allowed))
         allowed++;
-    store_words(address, values, allowed);
+    if (allowed > 0)
+        order_break(address, values, allowed);
 }
 
 void order_put(unsigned address, const uint8_t *values, unsigned count)
@@ -156,8 +191,12 @@ void order_put(unsigned address, const uint8_t *values, unsigned count)
 
 void order_break(unsigned address, const uint8_t *values, unsigned count)
 {
-    if (address + count <= BUFFER)
-        store_words(address, values, count);
+    struct order o = { .what = STORE, .number = { address }, .count = count };
+
+    if (address + count > BUFFER || count > sizeof o.value)
+        return;
+    memcpy(o.value, values, count);
+    play(&o);
 }
 
 void order_length(unsigned length)
@@ -166,7 +205,19 @@ void order_length(unsigned length)
         lent = length;
 }
 
-/* What only prints. */
+/* What only answers or prints. */
+
+void order_registers(void)
+{
+    struct registers ignored;
+
+    last = kernel_read_registers(world, lent, &ignored);
+}
+
+void order_judge(void)
+{
+    last = kernel_judge(world, lent);
+}
 
 void order_words(unsigned address, unsigned count)
 {

@@ -2,11 +2,13 @@
  * The script program: reads orders, one a line, calls the kernel and prints the answers.
  * Standard input, or the file named by its one argument.
  */
+#include <errno.h>
 #include <stdbool.h>
 #include <stdio.h>
 #include <stdlib.h>
 #include <string.h>
 
+#include "disk.h"
 #include "kernel.h"
 #include "machine.h"
 #include "show.h"
@@ -301,6 +303,38 @@ static bool read_numbers(const char *text, const char *end, uint32_t *numbers, u
     }
 }
 
+static bool is_word(struct word word, const char *text)
+{
+    return strlen(text) == word.length && memcmp(text, word.start, word.length) == 0;
+}
+
+/* The lent words to a file.  No file has a name with a zero byte in it, so the system is not asked for one. */
+static void save(struct word file)
+{
+    char name[LONGEST_LINE + 1];
+
+    memcpy(name, file.start, file.length);
+    name[file.length] = '\0';
+    fflush(stdout);
+    if (strlen(name) < file.length) {
+        errno = EINVAL;
+        perror(name);
+    } else if (replace_file(name, memory, lent)) {
+        printf("written %zu\n", lent);
+    }
+}
+
+/* The one order with a word that is no number: exactly one. */
+static bool understand_save(const char *text, const char *end)
+{
+    struct word file = next_word(&text, end);
+
+    if (file.length == 0 || next_word(&text, end).length != 0)
+        return false;
+    save(file);
+    return true;
+}
+
 /* Carries out one line; false if it is not understood. */
 static bool understand(const char *text, size_t length)
 {
@@ -312,10 +346,12 @@ static bool understand(const char *text, size_t length)
 
     if (name.length == 0)
         return true;
+    if (is_word(name, "save"))
+        return understand_save(text, end);
     if (!read_numbers(text, end, numbers, &count))
         return false;
     for (size_t i = 0; i < sizeof orders / sizeof orders[0]; i++) {
-        if (strlen(orders[i].name) != name.length || memcmp(orders[i].name, name.start, name.length) != 0)
+        if (!is_word(name, orders[i].name))
             continue;
         if (count < orders[i].fewest || count > orders[i].most)
             return false;

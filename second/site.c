@@ -8,17 +8,11 @@
 #include <stdlib.h>
 #include <string.h>
 
+#include "disk.h"
 #include "machine.h"
 #include "settings.h"
 
-enum { ROOM = 8192, GROUP = 4, MOST_GROUPS = 255, HIGHEST_ADDRESS = 65535 };
-
-/* A file read whole: its bytes in use, or that it is longer than the buffer. */
-struct contents {
-    uint8_t bytes[ROOM];
-    size_t used;
-    bool too_long;
-};
+enum { GROUP = 4, MOST_GROUPS = 255, HIGHEST_ADDRESS = 65535 };
 
 /* A block as the words of the command say it, good or not. */
 struct block {
@@ -40,34 +34,6 @@ static int complain(const char *name)
 {
     perror(name);
     return EXIT_FAILURE;
-}
-
-/* False, with the system's reason, if it cannot be opened or read. */
-static bool read_file(const char *name, struct contents *contents)
-{
-    FILE *in = fopen(name, "rb");
-    bool well;
-
-    if (in == NULL)
-        return false;
-    contents->used = fread(contents->bytes, 1, ROOM, in);
-    contents->too_long = contents->used == ROOM && getc(in) != EOF;
-    well = !ferror(in);
-    fclose(in);
-    return well;
-}
-
-/* "New contents go to `FILE.new`, which is then renamed to FILE" */
-static bool replace_file(const char *name, const char *new_name, const uint8_t *bytes, size_t count)
-{
-    FILE *out = fopen(new_name, "wb");
-    bool well;
-
-    if (out == NULL)
-        return false;
-    well = fwrite(bytes, 1, count, out) == count;
-    well = fclose(out) == 0 && well;
-    return well && rename(new_name, name) == 0;
 }
 
 static void print_label(const uint8_t *label)
@@ -125,22 +91,13 @@ static int write_to(const char *name, const struct block *block)
 {
     static struct contents contents;
     struct answer answer = { .kind = ANSWER_REFUSED, .number = REFUSE_ROOM };
-    char *new_name;
 
     if (!read_file(name, &contents) && errno != ENOENT)
         return complain(name);
     if (!contents.too_long)
         answer = kernel_write_settings(contents.bytes, ROOM, contents.used, block->bytes, block->length);
-    if (answer.kind == ANSWER_WRITTEN) {
-        new_name = malloc(strlen(name) + sizeof ".new");
-        if (new_name == NULL)
-            return complain(name);
-        strcpy(new_name, name);
-        strcat(new_name, ".new");
-        if (!replace_file(name, new_name, contents.bytes, answer.written))
-            return complain(new_name);
-        free(new_name);
-    }
+    if (answer.kind == ANSWER_WRITTEN && !replace_file(name, contents.bytes, answer.written))
+        return EXIT_FAILURE;
     print_answer(&answer);
     return EXIT_SUCCESS;
 }

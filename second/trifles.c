@@ -14,7 +14,7 @@ static void scatter(unsigned address, unsigned end)
     }
 }
 
-static bool trifle_registers(const struct look *l)
+bool trifle_registers(const struct look *l)
 {
     unsigned page = some_one(l)->page;
 
@@ -25,7 +25,7 @@ static bool trifle_registers(const struct look *l)
     return true;
 }
 
-static bool trifle_free_page(const struct look *l)
+bool trifle_free_page(const struct look *l)
 {
     unsigned page = world[FREE_LIST];
 
@@ -38,7 +38,7 @@ static bool trifle_free_page(const struct look *l)
     return true;
 }
 
-static bool trifle_granted_page(const struct look *l)
+bool trifle_granted_page(const struct look *l)
 {
     unsigned page = world[GRANTS + from_to(1, HIGHEST_NAME)];
 
@@ -49,7 +49,7 @@ static bool trifle_granted_page(const struct look *l)
     return true;
 }
 
-static bool trifle_link(const struct look *l)
+bool trifle_link(const struct look *l)
 {
     const struct one *one = some_one(l);
 
@@ -59,7 +59,7 @@ static bool trifle_link(const struct look *l)
     return true;
 }
 
-static bool trifle_not_judged(const struct look *l)
+bool trifle_not_judged(const struct look *l)
 {
     (void)l;
     switch (below(3)) {
@@ -70,7 +70,7 @@ static bool trifle_not_judged(const struct look *l)
     return true;
 }
 
-static bool trifle_w(const struct look *l)
+bool trifle_w(const struct look *l)
 {
     unsigned word = at(some_one(l)->page, STATE);
 
@@ -116,7 +116,7 @@ static bool trifle_letter(const struct look *l)
 }
 
 /* The first on the processor list goes to its end. */
-static bool trifle_turn(const struct look *l)
+bool trifle_turn(const struct look *l)
 {
     struct queue q = queue_read(world, PROCESSOR_LIST, LIST_LINK);
 
@@ -130,7 +130,7 @@ static bool trifle_turn(const struct look *l)
 }
 
 /* Another name, with the grant. */
-static bool trifle_name(const struct look *l)
+bool trifle_name(const struct look *l)
 {
     unsigned page = some_one(l)->page, name = name_of(world, page), other = from_to(1, HIGHEST_NAME);
 
@@ -144,7 +144,7 @@ static bool trifle_name(const struct look *l)
     return true;
 }
 
-static bool trifle_code(const struct look *l)
+bool trifle_code(const struct look *l)
 {
     unsigned code = below(CODES), code_is = code < 2 ? KIND_BUILT_IN : code == 15 ? 2 * below(2) : below(3);
 
@@ -155,7 +155,7 @@ static bool trifle_code(const struct look *l)
 }
 
 /* Entries come or go at the end of page 9, up to none and to all. */
-static bool trifle_page_9(const struct look *l)
+bool trifle_page_9(const struct look *l)
 {
     unsigned unused = world[FAULT_TABLE], wanted = chance(30) ? FAULT_TABLE_FULL : from_to(1, FAULT_TABLE_FULL);
 
@@ -171,7 +171,7 @@ static bool trifle_page_9(const struct look *l)
     return true;
 }
 
-static bool trifle_clock(const struct look *l)
+bool trifle_clock(const struct look *l)
 {
     unsigned divider = chance(30) ? 1 : from_to(1, 255);
 

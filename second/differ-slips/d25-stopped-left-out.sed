@@ -1,0 +1,3 @@
+# file: differing.c
+# says: the stopped bit is left out
+s/ & (STOPPED | WAITING);/ \& WAITING;/

@@ -1,0 +1,3 @@
+# file: differing.c
+# says: who runs is left out
+s/ && runs(one) == runs(other)//

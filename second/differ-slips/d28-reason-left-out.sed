@@ -1,0 +1,3 @@
+# file: differing.c
+# says: the reason is left out
+s/ && reason(one) == reason(other)//

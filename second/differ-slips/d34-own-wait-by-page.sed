@@ -1,0 +1,3 @@
+# file: differing.c
+# says: a wait for a message is compared by its page
+s/        return FOR_A_MESSAGE;/        return header;/

@@ -1,0 +1,3 @@
+# file: differ.c
+# says: `same` is not printed
+/puts("same");/s/.*/        fputs("", stdout);/
