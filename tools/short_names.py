@@ -11,7 +11,8 @@ CASES = {'crates/table/specs/Script.antt': 'sameWords writes looks', 'crates/his
 FILES = [line.split()[-1] for line in open(SPECS + 'Lib.antt') if line.startswith('pub mod')]
 TYPES = {
     'Registers': 'declared.Registers', 'Arguments': 'declared.Arguments', 'Held': 'declared.Held', 'Verdict': 'declared.Verdict', 'Finding': 'declared.Finding',
-    'Checked': 'declared.Checked', 'Entry': 'declared.Entry', 'Fit': 'declared.Fit', 'Context': 'declared.Context', 'Taken': 'Page', 'Tested': 'Mail', 'Lists': 'Lists', 'Outcome': 'Answer', 'Rule': 'Rule',
+    'Checked': 'declared.Checked', 'Entry': 'declared.Entry', 'Fit': 'declared.Fit', 'State': 'declared.State', 'Parts': 'declared.Parts', 'Said': 'declared.Said',
+    'Line': 'declared.Line', 'Side': 'declared.Side', 'Context': 'declared.Context', 'Taken': 'Page', 'Tested': 'Mail', 'Lists': 'Lists', 'Outcome': 'Answer', 'Rule': 'Rule',
 }
 
 
