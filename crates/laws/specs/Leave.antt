@@ -45,6 +45,24 @@ first-is p (x ∷ xs) h = go (eqb p x) refl (first-is p xs)
     go true e ih = rw (e, Queue.first) (sym (eqb-true p x e))
     go false e ih = rw (e, Queue.first) (ih (omega (arith, hit-other p x (eqb-false p x e))))
 
+-- ---- where a page waits, by whether each queue in its turn holds it
+module _ (m : List ℕ) (p : ℕ) where
+  pub seat-hit : (n : ℕ) → queued m (semaphoreAfter n) p ≡ true → seat (suc n) m p ≡ semaphoreAfter n
+  unfolding Wait.seat
+  seat-hit n e = rw (e, Wait.seat)
+
+  pub seat-miss : (n : ℕ) → queued m (semaphoreAfter n) p ≡ false → seat (suc n) m p ≡ seat n m p
+  unfolding Wait.seat
+  seat-miss n e = rw (e, Wait.seat)
+
+  pub seat-page : queued m freeSemaphore p ≡ true → seat 0 m p ≡ freeSemaphore
+  unfolding Wait.seat
+  seat-page e = rw (e, Wait.seat)
+
+  pub seat-own : queued m freeSemaphore p ≡ false → seat 0 m p ≡ place p ownSemaphore
+  unfolding Wait.seat
+  seat-own e = rw (e, Wait.seat)
+
 module _ {m : List ℕ} {ps : List ℕ} {L : Lists} {W : View} {hs : List ℕ} {g : ℕ} (b : Base m ps L W hs g) (p : ℕ) (hp : 1 ≤ count p ps) where
   s : Sep ps L
   s = b .facts .sep
@@ -52,7 +70,7 @@ module _ {m : List ℕ} {ps : List ℕ} {L : Lists} {W : View} {hs : List ℕ} {
   pg : Page p
   pg = proc-page s p hp
 
-  queue-is : (a : ℕ) → 1 ≤ count (a + 1) (queues ps) → queue m (a + 1) ≡ L (a + 1)
+  pub queue-is : (a : ℕ) → 1 ≤ count (a + 1) (queues ps) → queue m (a + 1) ≡ L (a + 1)
   queue-is a h =
       walk-chain controlPages m link (a + 1) (L (a + 1)) (chain0 s (b .mem) (a + 1) (seat-head s a h) (λ d. not-procs s a h (sym d)))
       (list-short s (a + 1) (in-queues ps (a + 1) h))
@@ -76,22 +94,6 @@ module _ {m : List ℕ} {ps : List ℕ} {L : Lists} {W : View} {hs : List ℕ} {
           absurd (eqb-false (first (eqb p) (L (a + 1))) p (rw q at e) (first-is p (L (a + 1)) i))
 
   -- ---- where it waits
-  seat-hit : (n : ℕ) → queued m (semaphoreAfter n) p ≡ true → seat (suc n) m p ≡ semaphoreAfter n
-  unfolding Wait.seat
-  seat-hit n e = rw (e, Wait.seat)
-
-  seat-miss : (n : ℕ) → queued m (semaphoreAfter n) p ≡ false → seat (suc n) m p ≡ seat n m p
-  unfolding Wait.seat
-  seat-miss n e = rw (e, Wait.seat)
-
-  seat-page : queued m freeSemaphore p ≡ true → seat 0 m p ≡ freeSemaphore
-  unfolding Wait.seat
-  seat-page e = rw (e, Wait.seat)
-
-  seat-own : queued m freeSemaphore p ≡ false → seat 0 m p ≡ place p ownSemaphore
-  unfolding Wait.seat
-  seat-own e = rw (e, Wait.seat)
-
   record Found (n t : ℕ) : Type 0 where
     is : 1 ≤ count (t + 1) (queues ps)
     line : queued m t p ≡ false → (k : ℕ) → k < n → count p (L (headerAfter k)) ≡ 0
@@ -105,7 +107,7 @@ module _ {m : List ℕ} {ps : List ℕ} {L : Lists} {W : View} {hs : List ℕ} {
   found zero l = go (queued m freeSemaphore p) refl
     where
       go : (c : Bool) → queued m freeSemaphore p ≡ c → Found 0 (seat 0 m p)
-      go true e = rw (seat-page e) (record {
+      go true e = rw (seat-page m p e) (record {
         is = page-sem ps;
         line = λ f k h. no freeSemaphore freeSemaphore refl e f;
         asking = λ f. no freeSemaphore freeSemaphore refl e f;
@@ -113,7 +115,7 @@ module _ {m : List ℕ} {ps : List ℕ} {L : Lists} {W : View} {hs : List ℕ} {
       })
       go false e =
           let d : place p ownSemaphore + 1 ≡ place p ownQueue = omega arith in
-          rw (seat-own e) (record {
+          rw (seat-own m p e) (record {
             is = own-sem s p hp;
             line = λ f k h. absurd (omega arith);
             asking = λ f. queued-out freeSemaphore (page-sem ps) e;
@@ -128,13 +130,13 @@ module _ {m : List ℕ} {ps : List ℕ} {L : Lists} {W : View} {hs : List ℕ} {
       seat-n = int-sem ps n (omega arith)
 
       go : (c : Bool) → queued m (semaphoreAfter n) p ≡ c → Found n (seat n m p) → Found (suc n) (seat (suc n) m p)
-      go true e ih = rw (seat-hit n e) (record {
+      go true e ih = rw (seat-hit m p n e) (record {
         is = seat-n;
         line = λ f k h. no (semaphoreAfter n) (semaphoreAfter n) refl e f;
         asking = λ f. no (semaphoreAfter n) (semaphoreAfter n) refl e f;
         own = λ f. no (semaphoreAfter n) (semaphoreAfter n) refl e f;
       })
-      go false e ih = rw (seat-miss n e) (record {
+      go false e ih = rw (seat-miss m p n e) (record {
         is = ih .is;
         line = λ f k h. lines f k h (hit-or k n);
         asking = ih .asking;

@@ -79,4 +79,5 @@ pub mod Witness
 pub mod Differing
 pub mod Swapped
 pub mod Renaming
+pub mod Seated
 pub mod Renamings

@@ -36,6 +36,7 @@ use Rattle.laws.specs.Exactly.{judged-nothing}
 use Rattle.laws.specs.Who.{listed}
 use Rattle.laws.specs.Simple.{first-in}
 use Rattle.laws.specs.Mails.{mail-queue}
+use Rattle.laws.specs.Leave.{seat-hit, seat-miss, seat-page, seat-own}
 use Rattle.laws.specs.Differing.{Alike, said-nothing}
 use Rattle.laws.specs.Swapped.{lines-good, no-names}
 
@@ -205,23 +206,7 @@ module _ {m : List ℕ} (w : WellFormed m) where
   mail-ends p v x h a b i = base .facts .mail p v (in-list p h) a b x (rw (mail-queue base p v (in-list p h) a b) at i) .long
 
 -- ---- where p waits: in the queue at s in m, at t in k
-seat-page : (m : List ℕ) (p : ℕ) → queued m freeSemaphore p ≡ true → seat 0 m p ≡ freeSemaphore
-unfolding Wait.seat
-seat-page m p e = rw (e, Wait.seat)
-
-seat-own : (m : List ℕ) (p : ℕ) → queued m freeSemaphore p ≡ false → seat 0 m p ≡ place p ownSemaphore
-unfolding Wait.seat
-seat-own m p e = rw (e, Wait.seat)
-
-seat-line : (j : ℕ) (m : List ℕ) (p : ℕ) → queued m (semaphoreAfter j) p ≡ true → seat (suc j) m p ≡ semaphoreAfter j
-unfolding Wait.seat
-seat-line j m p e = rw (e, Wait.seat)
-
-seat-next : (j : ℕ) (m : List ℕ) (p : ℕ) → queued m (semaphoreAfter j) p ≡ false → seat (suc j) m p ≡ seat j m p
-unfolding Wait.seat
-seat-next j m p e = rw (e, Wait.seat)
-
-queue-own : (p : ℕ) → freeSemaphore < place p ownSemaphore → queueAt (place p ownSemaphore) ≡ forMessage
+pub queue-own : (p : ℕ) → freeSemaphore < place p ownSemaphore → queueAt (place p ownSemaphore) ≡ forMessage
 unfolding Differ.queueAt
 queue-own p h = rw (lt-leb (place p ownSemaphore) freeSemaphore h)
 
@@ -289,8 +274,8 @@ module _ (r : ℕ → ℕ) (n : Renames r) (m k : List ℕ) (w : WellFormed m) (
           q = queued-renamed r n m k (semaphoreAfter j) (semaphoreAfter j) p (line-renamed j (omega arith))
 
           go : (b : Bool) → queued m (semaphoreAfter j) p ≡ b → Seated (seat j m p) (seat j k (r p)) → Seated (seat (suc j) m p) (seat (suc j) k (r p))
-          go true e ih = rw (seat-line j m p e, seat-line j k (r p) (q ∙ e)) (record { held = q; place = refl })
-          go false e ih = rw (seat-next j m p e, seat-next j k (r p) (q ∙ e)) ih
+          go true e ih = rw (seat-hit m p j e, seat-hit k (r p) j (q ∙ e)) (record { held = q; place = refl })
+          go false e ih = rw (seat-miss m p j e, seat-miss k (r p) j (q ∙ e)) ih
 
       queueOf-renamed : queueOf m p ≡ queueOf k (r p)
       unfolding Differ.queueOf

@@ -16,11 +16,12 @@ use Rattle.model.specs.declared.State.{State}
 use Rattle.model.specs.declared.Parts.{Parts}
 use Rattle.model.specs.declared.Said.the-variants.{Nothing, OnlyIn, DiffersIn}
 use Rattle.model.specs.declared.Line.the-variants.{Word, Refused, RefusedAt, Same}
-use Rattle.model.specs.Map.{memorySize, place, firstName, lastName, q1, q2}
+use Rattle.model.specs.Map.{memorySize, place, firstName, lastName, q1, q2, stopIn, state, reason, interrupts, semaphoreAfter, headerAfter, freeSemaphore}
+use Rattle.model.specs.Map.{pageQueue, ownQueue}
 use Rattle.model.specs.Lists.{count}
 use Rattle.model.specs.Differ.{sameWords, sameMessages, sameState, findingLines, orSame}
 use Rattle.model.specs.Bytes.{at, pageOf, priority, judged, toldOf, differing, wordLines, stateOf, messages, differences, said, namesLines, sizeLines, lines}
-use Rattle.model.specs.Bytes.{queue}
+use Rattle.model.specs.Bytes.{queue, queueOf, word, running, waiting, processors}
 use Rattle.history.specs.Letter.{mailOf}
 use Rattle.history.specs.Compared.{same-letters}
 use Rattle.laws.specs.Chain.{Page}
@@ -32,6 +33,7 @@ use Rattle.laws.specs.Swapped.{swapSide, swapSaid, swapLine}
 use Rattle.laws.specs.Renaming as Renaming
 use Rattle.laws.specs.Renaming.{Renames, Renamed}
 use Rattle.laws.specs.Renamings as Renamings
+use Rattle.laws.specs.Seated as Seated
 
 -- ---- 1. "The list of differing addresses that the library gives, as a whole list, equals the addresses 0 to 8191 at which the two words differ, in rising
 -- order (so: no more, no fewer, none twice)." An address stands in it exactly if it is one of those; none stands twice; each is below the one behind it
@@ -85,6 +87,25 @@ the-tests-are-equality = (
   Differing.states-are,
   Differing.states-are-not,
 )
+
+-- what a state is, of any two memories: the stopped bit, the waiting bit, whether it is the one that runs, the queue that it waits in, its reason; "no
+-- registers, W, LR or saved words", and no page number
+pub what-a-state-is : (m : List ℕ) (p : ℕ) (k : List ℕ) (q : ℕ) → (stateOf m p ≡ stateOf k q)
+    ↔ ((stopIn (word m p state) ≡ stopIn (word k q state)) × (waiting m p ≡ waiting k q) × ((running m ≡ p) ↔ (running k ≡ q))
+    × (queueOf m p ≡ queueOf k q) × (word m p reason ≡ word k q reason))
+what-a-state-is = Seated.state-is-five
+
+-- "the queue it waits in (interrupt 1-54, for a page, for a message, none)": on well-formed memory, of page p of a processor, that of interrupt i + 1 is told by
+-- the address of its semaphore, the page queue by its own, the processor's own message wait by 1, none by 0: each exactly if p stands there; none exactly if
+-- the waiting bit is not set
+pub where-one-waits : (m : List ℕ) → length m ≡ memorySize → judged m ≡ true → (p : ℕ) → 1 ≤ count p (processors m)
+    → ((i : ℕ) → i < interrupts → (queueOf m p ≡ semaphoreAfter i) ↔ (1 ≤ count p (queue m (headerAfter i))))
+    × ((queueOf m p ≡ freeSemaphore) ↔ (1 ≤ count p (queue m pageQueue)))
+    × ((queueOf m p ≡ 1) ↔ (1 ≤ count p (queue m (place p ownQueue))))
+    × ((queueOf m p ≡ 0) ↔ (waiting m p ≡ 0))
+where-one-waits m l j p h =
+    let w : WellFormed m = record { size = l; accepted = j } in
+    (Seated.waits-line w p h, Seated.waits-page w p h, Seated.waits-mail w p h, Seated.waits-not w p h)
 
 -- what is compared of a message has in it all that a reader gets: where two queues, with the headers h and g, hold the same messages, the same letters wait in
 -- them, in the same order (`mailOf`: notice or mail, sender, flag, length and text, as the page History has them)
