@@ -5,7 +5,8 @@ whole=''
 # have_proved CRATE..: these are proved as they are, and what that left of each is kept for the copies. ./test has just proved them from nothing.
 have_proved() {
     lock_all -x
-    run env RT_JOBS="$lanes" rt check "$@" >"$work/proved" 2>&1 || { grep '^rt: ' "$work/proved" | tail -n 5; give_up "without any edit this is not proved: $*"; }
+    run env RT_JOBS="$lanes" rt check "$@" >"$work/proved" 2>&1 ||
+        { grep '^rt: ' "$work/proved" | tail -n 5 && give_up "without any edit this is not proved: $*"; }
     [ -z "$whole" ] || return 0
     # rattle looks in a folder with a name of its own, which shows when it makes one
     mkdir -p "$work/none/src" "$work/kept"

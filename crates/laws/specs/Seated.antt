@@ -8,7 +8,8 @@ use native.Mathlib.Omega.{arith}
 use lib.Dec.{eqb}
 use borrow.Author.Tests.{eq-eqb, ne-eqb, le-leb}
 use Rattle.model.specs.declared.State.{State}
-use Rattle.model.specs.Map.{place, stopIn, state, reason, processorList, pageQueue, freeSemaphore, interrupts, headerAfter, semaphoreAfter, ownQueue, ownSemaphore}
+use Rattle.model.specs.Map.{place, stopIn, state, reason, processorList, pageQueue, freeSemaphore, interrupts, headerAfter, semaphoreAfter, ownQueue}
+use Rattle.model.specs.Map.{ownSemaphore}
 use Rattle.model.specs.Lists.{hit, count, sum, queues}
 use Rattle.model.specs.Differ as Differ
 use Rattle.model.specs.Differ.{queueAt, noQueue, forMessage}
@@ -50,8 +51,7 @@ module _ (m : List ℕ) (p : ℕ) (k : List ℕ) (q : ℕ) where
   five : stateOf m p ≡ stateOf k q → Five
   unfolding Differ.stateOf
   five e =
-      let r : hit (eqb (running m) p) ≡ hit (eqb (running k) q) = ap (λ (s : State). s .runs) e in
-      (
+      let r : hit (eqb (running m) p) ≡ hit (eqb (running k) q) = ap (λ (s : State). s .runs) e in (
         ap (λ (s : State). s .stopped) e,
         ap (λ (s : State). s .waiting) e,
         (
@@ -141,67 +141,49 @@ module _ {m : List ℕ} (w : WellFormed m) (p : ℕ) (hp : 1 ≤ count p (proces
           }
       go false e = absurd (d (queue-none m p e))
 
-  -- each queue has a number of its own
-  own-number : (y : ℕ) → 1 ≤ count y (lists m processorList) → queueAt (place y ownSemaphore) ≡ forMessage
-  own-number y h = let g = proc-page sep y h in queue-own y (omega arith)
+  -- a queue outside the control pages is told by its semaphore's address, each processor's own by one number
+  data Told (s : ℕ) : Type 0 where
+    low : semaphoreAfter 0 ≤ s → queueAt s ≡ s → Told s
+    mail : (y : ℕ) → 1 ≤ count y (lists m processorList) → s ≡ place y ownSemaphore → queueAt s ≡ forMessage → Told s
+
+  told : (s : ℕ) → Seat (lists m processorList) s → Told s
+  told s (line k u e) = low (omega arith) (queue-low s (omega arith))
+  told s (page e) = low (omega arith) (queue-low s (omega arith))
+  told s (own y u e) = let g = proc-page sep y u in mail y u e (ap queueAt e ∙ queue-own y (omega arith))
+
+  waits-low : (s : ℕ) → semaphoreAfter 0 ≤ s → s ≤ freeSemaphore → 1 ≤ count (s + 1) (queues (lists m processorList))
+      → (queueOf m p ≡ s) ↔ (1 ≤ count p (queue m (s + 1)))
+  waits-low s l u h = (λ e. let r = held (λ z. omega (arith, e, z)) in back e r (told (seat interrupts m p) (r .seated)), λ i. found s h i ∙ queue-low s u)
+    where
+      back : queueOf m p ≡ s → Held → Told (seat interrupts m p) → 1 ≤ count p (queue m (s + 1))
+      back e r (low i n) = let a : seat interrupts m p ≡ s = sym n ∙ sym (r .named) ∙ e in rw a at (r .held)
+      back e r (mail y i f n) = absurd (omega (arith, e, r .named, n))
 
   pub waits-line : (i : ℕ) → i < interrupts → (queueOf m p ≡ semaphoreAfter i) ↔ (1 ≤ count p (queue m (headerAfter i)))
-  waits-line i l = (back, forth)
-    where
-      at1 : semaphoreAfter i + 1 ≡ headerAfter i
-      at1 = omega arith
-
-      forth : 1 ≤ count p (queue m (headerAfter i)) → queueOf m p ≡ semaphoreAfter i
-      forth h = found (semaphoreAfter i) (int-sem (lists m processorList) i l) (rw at1 h) ∙ queue-low (semaphoreAfter i) (omega arith)
-
-      back : queueOf m p ≡ semaphoreAfter i → 1 ≤ count p (queue m (headerAfter i))
-      back e = let r = held (λ z. omega (arith, e, z)) in go (r .seated) (r .held) (r .named)
-        where
-          go : Seat (lists m processorList) (seat interrupts m p) → 1 ≤ count p (queue m (seat interrupts m p + 1))
-              → queueOf m p ≡ queueAt (seat interrupts m p) → 1 ≤ count p (queue m (headerAfter i))
-          go (line k u f) h n =
-              let z = ap queueAt f ∙ queue-low (semaphoreAfter k) (omega arith) in
-              let a : seat interrupts m p + 1 ≡ headerAfter i = omega (arith, e, n, z, f) in
-              rw a at h
-          go (page f) h n = let z = ap queueAt f ∙ queue-low freeSemaphore (omega arith) in absurd (omega (arith, e, n, z))
-          go (own y u f) h n = let z = ap queueAt f ∙ own-number y u in absurd (omega (arith, e, n, z))
+  waits-line i l =
+      let a : semaphoreAfter i + 1 ≡ headerAfter i = omega arith in
+      rw a at (waits-low (semaphoreAfter i) (omega arith) (omega arith) (int-sem (lists m processorList) i l))
 
   pub waits-page : (queueOf m p ≡ freeSemaphore) ↔ (1 ≤ count p (queue m pageQueue))
-  waits-page = (back, forth)
-    where
-      forth : 1 ≤ count p (queue m pageQueue) → queueOf m p ≡ freeSemaphore
-      forth h = found freeSemaphore (page-sem (lists m processorList)) h ∙ queue-low freeSemaphore (omega arith)
-
-      back : queueOf m p ≡ freeSemaphore → 1 ≤ count p (queue m pageQueue)
-      back e = let r = held (λ z. omega (arith, e, z)) in go (r .seated) (r .held) (r .named)
-        where
-          go : Seat (lists m processorList) (seat interrupts m p) → 1 ≤ count p (queue m (seat interrupts m p + 1))
-              → queueOf m p ≡ queueAt (seat interrupts m p) → 1 ≤ count p (queue m pageQueue)
-          go (line k u f) h n = let z = ap queueAt f ∙ queue-low (semaphoreAfter k) (omega arith) in absurd (omega (arith, e, n, z, u))
-          go (page f) h n = let a : seat interrupts m p + 1 ≡ pageQueue = omega (arith, f) in rw a at h
-          go (own y u f) h n = let z = ap queueAt f ∙ own-number y u in absurd (omega (arith, e, n, z))
+  waits-page = waits-low freeSemaphore (omega arith) (omega arith) (page-sem (lists m processorList))
 
   pub waits-mail : (queueOf m p ≡ forMessage) ↔ (1 ≤ count p (queue m (place p ownQueue)))
-  waits-mail = (back, forth)
+  waits-mail = (λ e. let r = held (λ z. omega (arith, e, z)) in back e r (told (seat interrupts m p) (r .seated)), forth)
     where
-      at1 : place p ownSemaphore + 1 ≡ place p ownQueue
-      at1 = omega arith
-
       forth : 1 ≤ count p (queue m (place p ownQueue)) → queueOf m p ≡ forMessage
-      forth h = found (place p ownSemaphore) (own-sem sep p in-list) (rw at1 h) ∙ own-number p in-list
+      forth h =
+          let a : place p ownSemaphore + 1 ≡ place p ownQueue = omega arith in
+          let g = proc-page sep p in-list in
+          found (place p ownSemaphore) (own-sem sep p in-list) (rw a h) ∙ queue-own p (omega arith)
 
-      back : queueOf m p ≡ forMessage → 1 ≤ count p (queue m (place p ownQueue))
-      back e = let r = held (λ z. omega (arith, e, z)) in go (r .seated) (r .held) (r .named)
-        where
-          go : Seat (lists m processorList) (seat interrupts m p) → 1 ≤ count p (queue m (seat interrupts m p + 1))
-              → queueOf m p ≡ queueAt (seat interrupts m p) → 1 ≤ count p (queue m (place p ownQueue))
-          go (line k u f) h n = let z = ap queueAt f ∙ queue-low (semaphoreAfter k) (omega arith) in absurd (omega (arith, e, n, z))
-          go (page f) h n = let z = ap queueAt f ∙ queue-low freeSemaphore (omega arith) in absurd (omega (arith, e, n, z))
-          go (own y u f) h n =
-              let a : seat interrupts m p + 1 ≡ place y ownQueue = omega (arith, f) in
-              let q : queue m (seat interrupts m p + 1) ≡ lists m (seat interrupts m p + 1) = queue-is base p in-list (seat interrupts m p) (seat-is base p in-list) in
-              let o = base .facts .own y u p (rw a at (rw q at h)) .owner in
-              rw (sym o) at (rw a at h)
+      -- who stands in a message wait is its owner
+      back : queueOf m p ≡ forMessage → Held → Told (seat interrupts m p) → 1 ≤ count p (queue m (place p ownQueue))
+      back e r (low i n) = absurd (omega (arith, e, r .named, n))
+      back e r (mail y i f n) =
+          let a : seat interrupts m p + 1 ≡ place y ownQueue = omega (arith, f) in
+          let h : 1 ≤ count p (queue m (place y ownQueue)) = rw a at (r .held) in
+          let q : queue m (place y ownQueue) ≡ lists m (place y ownQueue) = rw a at (queue-is base p in-list (seat interrupts m p) (seat-is base p in-list)) in
+          rw (sym (base .facts .own y i p (rw q at h) .owner)) at h
 
   -- none, exactly if the waiting bit is not set
   pub waits-not : (queueOf m p ≡ noQueue) ↔ (waiting m p ≡ 0)
@@ -213,16 +195,14 @@ module _ {m : List ℕ} (w : WellFormed m) (p : ℕ) (hp : 1 ≤ count p (proces
       back : queueOf m p ≡ noQueue → waiting m p ≡ 0
       back e = go (queued m (seat interrupts m p) p) refl
         where
+          some : Told (seat interrupts m p) → queueAt (seat interrupts m p) ≢ noQueue
+          some (low i n) z = omega (arith, z, n)
+          some (mail y i f n) z = omega (arith, z, n)
+
           go : (c : Bool) → queued m (seat interrupts m p) p ≡ c → waiting m p ≡ 0
           go true f =
-              let s = seat-is base p in-list in
-              let n : queueAt (seat interrupts m p) ≡ 0 = sym (queue-held m p f) ∙ e in
-              absurd (some (seat-of (lists m processorList) (seat interrupts m p) s) n)
-            where
-              some : Seat (lists m processorList) (seat interrupts m p) → queueAt (seat interrupts m p) ≢ 0
-              some (line k u d) z = omega (arith, z, ap queueAt d, queue-low (semaphoreAfter k) (omega arith))
-              some (page d) z = omega (arith, z, ap queueAt d, queue-low freeSemaphore (omega arith))
-              some (own y u d) z = omega (arith, z, ap queueAt d, own-number y u)
+              let s = seat-of (lists m processorList) (seat interrupts m p) (seat-is base p in-list) in
+              absurd (some (told (seat interrupts m p) s) (sym (queue-held m p f) ∙ e))
           go false f = sym bit ∙ seat-none base p in-list f
 
       forth : waiting m p ≡ 0 → queueOf m p ≡ noQueue

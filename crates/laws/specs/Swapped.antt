@@ -25,7 +25,8 @@ use Rattle.model.specs.Differ.{sameMessages, sameState, findingLines, nameLines
 use Rattle.model.specs.Bytes.{at, pageOf, priority, toldOf, differing, wordLine, wordLines, stateOf, messages, differences, saidOf, said}
 use Rattle.model.specs.Bytes.{namesLines, judgedLines, isWhole, sizeLines, wholeLines, lines}
 use Rattle.laws.specs.Count.{hit-or}
-use Rattle.laws.specs.Differing.{Alike, any, differing-all, differing-here, differing-none, differing-skip, messages-are, numbers-are, said-absent, said-both, said-first, said-nothing, said-second, states-are, test-same}
+use Rattle.laws.specs.Differing.{Alike, any, differing-all, differing-here, differing-none, differing-skip, messages-are, numbers-are, said-absent}
+use Rattle.laws.specs.Differing.{said-both, said-first, said-nothing, said-second, states-are, test-same}
 
 -- ---- "a memory differs from itself in nothing"
 module _ (m : List ℕ) where

@@ -1,5 +1,5 @@
-// What the orders of a script lend to the calls, out of the program's 8,200 words and of the numbers of a line: a file or a buffer of settings, which is copied out
-// for the call, and copied back where the call writes; and the list of a burst, in bytes.
+// What the orders of a script lend to the calls, out of the program's 8,200 words and of the numbers of a line: a file or a buffer of settings, which is copied
+// out for the call, and copied back where the call writes; and the list of a burst, in bytes.
 pub mod sizes;
 
 use bytes::copy;

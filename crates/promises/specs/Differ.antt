@@ -1,7 +1,7 @@
 -- What is promised of comparing two memories, on one page (document 02, 7/13). m is the first memory, k the second: any lists of numbers where nothing else is
 -- said. `differing`, `said`, `lines` and what they are made of are the definitions (model/specs/Differ.antt). `count x xs` is how often x stands in xs. A name
--- that is defined in the laws is said in words where it stands first (laws/specs/Differing, Swapped, Renaming). Each statement is followed by its proof in the laws. Assumes
--- nothing.
+-- that is defined in the laws is said in words where it stands first (laws/specs/Differing, Swapped, Renaming). Each statement is followed by its proof in
+-- the laws. Assumes nothing.
 use mathlib.Core.Path.{_≡_}
 use mathlib.Core.Logic.{_≢_, _↔_, _⊎_}
 use mathlib.Core.Bool.{true, false}
@@ -95,9 +95,9 @@ pub what-a-state-is : (m : List ℕ) (p : ℕ) (k : List ℕ) (q : ℕ) → (sta
     × (queueOf m p ≡ queueOf k q) × (word m p reason ≡ word k q reason))
 what-a-state-is = Seated.state-is-five
 
--- "the queue it waits in (interrupt 1-54, for a page, for a message, none)": on well-formed memory, of page p of a processor, that of interrupt i + 1 is told by
--- the address of its semaphore, the page queue by its own, the processor's own message wait by 1, none by 0: each exactly if p stands there; none exactly if
--- the waiting bit is not set
+-- "the queue it waits in (interrupt 1-54, for a page, for a message, none)": on well-formed memory, of page p of a processor, that of interrupt i + 1 is told
+-- by the address of its semaphore, the page queue by that of its own, the processor's own message wait by 1, none by 0: each exactly if p stands there; none
+-- exactly if the waiting bit is not set
 pub where-one-waits : (m : List ℕ) → length m ≡ memorySize → judged m ≡ true → (p : ℕ) → 1 ≤ count p (processors m)
     → ((i : ℕ) → i < interrupts → (queueOf m p ≡ semaphoreAfter i) ↔ (1 ≤ count p (queue m (headerAfter i))))
     × ((queueOf m p ≡ freeSemaphore) ↔ (1 ≤ count p (queue m pageQueue)))
