@@ -31,7 +31,14 @@ Same B X e = (g : X → ℕ → ℕ) (p : X → ℕ → ℕ → X) (s : X → �
 
 same : (B : Store) {X : Type 0} (e : X ≃ B .M) → Same B X e
 unfolding idEquiv
-same B e = equivJ (Same B) (λ g p s z h. λ i. record { M = B .M; get = λ x a. h .0 x a i; put = λ x a v. h .1 x a v i; size = λ x. h .2 x i; zeros = h .3 i }) e
+same B e =
+    equivJ (Same B) (λ g p s z h. λ i. record {
+      M = B .M;
+      get = λ x a. h .0 x a i;
+      put = λ x a v. h .1 x a v i;
+      size = λ x. h .2 x i;
+      zeros = h .3 i;
+    }) e
 
 -- ---- a tree and its words
 flat : (n : ℕ) → Tree n → List ℕ
@@ -84,7 +91,8 @@ tget-is zero x zero = refl
 tget-is zero x (suc a) = refl
 tget-is (suc n) t a = go (ltb a (2 ^ n)) refl (tget-is n (t .0) a) (tget-is n (t .1) (a - 2 ^ n))
   where
-    go : (b : Bool) → ltb a (2 ^ n) ≡ b → tget n (t .0) a ≡ getD (flat n (t .0)) a 0 → tget n (t .1) (a - 2 ^ n) ≡ getD (flat n (t .1)) (a - 2 ^ n) 0
+    go : (b : Bool) → ltb a (2 ^ n) ≡ b → tget n (t .0) a ≡ getD (flat n (t .0)) a 0
+        → tget n (t .1) (a - 2 ^ n) ≡ getD (flat n (t .1)) (a - 2 ^ n) 0
         → tget (suc n) t a ≡ getD (flat n (t .0) ++ flat n (t .1)) a 0
     go true e l r = rw (e, tget, List·getD-append (flat n (t .0)) (flat n (t .1)) 0 a (omega (arith, ltb-true, length-flat n (t .0)))) l
     go false e l r = rw (e, tget, getD-past (flat n (t .0)) (flat n (t .1)) (2 ^ n) a (length-flat n (t .0)) (ltb-false _ _ e)) r

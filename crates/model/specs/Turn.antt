@@ -18,7 +18,9 @@ fold g t (x ∷ xs) = fold g (g t x) xs
 
 -- nineteen words
 abbrev pub nineteen : (ℕ → ℕ) → List ℕ
-nineteen f = f 0 ∷ f 1 ∷ f 2 ∷ f 3 ∷ f 4 ∷ f 5 ∷ f 6 ∷ f 7 ∷ f 8 ∷ f 9 ∷ f 10 ∷ f 11 ∷ f 12 ∷ f 13 ∷ f 14 ∷ f 15 ∷ f 16 ∷ f 17 ∷ f 18 ∷ []
+nineteen f =
+    f 0 ∷ f 1 ∷ f 2 ∷ f 3 ∷ f 4 ∷ f 5 ∷ f 6 ∷ f 7 ∷ f 8 ∷ f 9
+    ∷ f 10 ∷ f 11 ∷ f 12 ∷ f 13 ∷ f 14 ∷ f 15 ∷ f 16 ∷ f 17 ∷ f 18 ∷ []
 
 module _ (S : Store) where
   -- "the running one stays if ready"; 0: nobody
