@@ -1,4 +1,6 @@
 // Refusals and faults, and page 9: how an instruction ends, done, by a jump, put to wait or with a fault; then who runs.
+#![tactic(auto)]
+
 ghost use Rattle.std.specs.Prelude.{◌≡◌, ◌<◌};
 ghost use Rattle.std.proofs.Math.ListN as List;
 ghost use Rattle.model.specs.Map as Map;

@@ -1,4 +1,6 @@
 // Instructions: the table of lengths and argument counts, and the arguments of each code, direct and for EXI.
+#![tactic(auto)]
+
 ghost use Rattle.std.specs.Prelude.{◌≡◌, ◌<◌, ◌≤◌, length};
 ghost use Rattle.model.specs.Address.{wrapped};
 ghost use Rattle.model.specs.Instruction as Instruction;
@@ -8,7 +10,7 @@ use model::{Arguments, instructions, map, wide};
 use words::{address_at, at, wrapped};
 
 // What the table says of an instruction: its length, how many argument words it has for EXI, and their shape.
-#[derive(Drop)]
+#[derive(Clone, Copy)]
 struct Row {
     length: u8,
     count: u8,

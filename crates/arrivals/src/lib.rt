@@ -1,4 +1,6 @@
 // What comes from outside: whether an interrupt is one, its arrival, and a burst of them from the line card.
+#![tactic(auto)]
+
 ghost use Rattle.std.specs.Prelude.{◌≡◌, true, ◌≤◌, ◌<◌, ◌+◌, ◌%◌, length};
 ghost use Rattle.model.specs.Map as Map;
 ghost use Rattle.model.specs.Call as Call;

@@ -1,4 +1,6 @@
 // Instructions: CVI, DVI, GIN, WIN and code 13; page 8. The length is what LR grows by.
+#![tactic(auto)]
+
 ghost use Rattle.std.specs.Prelude.{◌≡◌, ◌<◌};
 ghost use Rattle.std.proofs.Math.ListN as List;
 ghost use Rattle.model.specs.Answer.Outcome.{gives};

@@ -1,5 +1,7 @@
 // Compares two lent memories: what is printed of them, line by line. A cursor says how far the lines were told; each call gives the next line and the cursor
 // behind it, until the end. Any two lists of bytes and any cursor get an answer.
+#![tactic(auto)]
+
 mod addresses;
 mod letters;
 mod names;
@@ -18,7 +20,7 @@ use telling::finding;
 
 // How far the lines are told: not begun; the words before an address, and whether there was a line yet; what was against the first; the names before one, and
 // whether there was a line yet; all.
-#[derive(Drop)]
+#[derive(Clone, Copy)]
 pub enum Cursor {
     Start,
     Words(usize, bool),
@@ -28,7 +30,7 @@ pub enum Cursor {
 }
 
 // The next line and the cursor behind it, or that there is none.
-#[derive(Drop)]
+#[derive(Clone, Copy)]
 pub enum Step {
     Tells(Line, Cursor),
     End,

@@ -14,7 +14,7 @@ use screen::lines::not_understood;
 
 // Where the reading is: what was read and not yet run are the bytes ahead from start to end; whether the line that they belong to has lost its
 // beginning, being too long; whether to go on; the line's number; how many words a call is lent; how many bytes of the output are kept.
-#[derive(Drop)]
+#[derive(Clone, Copy)]
 struct Place {
     start: usize,
     end: usize,

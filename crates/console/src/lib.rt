@@ -1,4 +1,6 @@
 // The script program: runs a script, from standard input or from a file, on one memory and prints what came of it.
+#![tactic(auto)]
+
 mod copies;
 mod input;
 mod memory;

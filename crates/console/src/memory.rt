@@ -15,7 +15,7 @@ use screen::pieces::{number, text, word};
 use words::{guarded, low};
 
 // What a line leaves: how many words a call is lent from then on, and how many bytes of the output are kept, to be written.
-#[derive(Drop)]
+#[derive(Clone, Copy)]
 pub struct After {
     pub lent: usize,
     pub kept: usize,

@@ -1,4 +1,6 @@
 // Instructions: ST1, STP, ST2, CRP and DEP. The length is what LR grows by.
+#![tactic(auto)]
+
 ghost use Rattle.std.specs.Prelude.{◌≡◌, ◌<◌};
 ghost use Rattle.std.proofs.Math.ListN as List;
 ghost use Rattle.model.specs.Processor as Processor;

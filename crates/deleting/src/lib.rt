@@ -1,5 +1,7 @@
 // Deleting: "In order: leave any wait queue (not woken); leave the processor list; Q2 then Q1 from the front: .."; between the two, document 02's
 // 3/13: what it sent and nobody has read is marked.
+#![tactic(auto)]
+
 ghost use Rattle.std.specs.Prelude.{◌≡◌, ◌<◌, length, eqb};
 ghost use Rattle.model.specs.Bytes as Model;
 

@@ -1,4 +1,6 @@
 // The program that compares two memories.
+#![tactic(auto)]
+
 fn main() {
     report::start();
 }

@@ -1,4 +1,6 @@
 // One virtual instruction, from the word at LR on: the order of faults, the decoder, and EXI by a depth that falls from 1 to 0.
+#![tactic(auto)]
+
 ghost use Rattle.std.specs.Prelude.{◌≡◌, ◌<◌, ◌≤◌};
 ghost use Rattle.std.proofs.Math.ListN as List;
 ghost use Rattle.model.specs.Answer.Outcome.{gives};

@@ -1,5 +1,7 @@
 // The files of the programs: a word of the command line names one; it is read whole, and new contents take its place at once. What the system says of a file
 // that cannot be read or written goes to standard error.
+#![tactic(auto)]
+
 pub mod laying;
 mod sizes;
 
@@ -9,7 +11,7 @@ ghost use Rattle.files.specs.Files.{name_room, got_bytes};
 use laying::lay_new_name;
 
 // What came of reading a file: so many bytes; it has more than the buffer; there is none; or it cannot be read, which is told already.
-#[derive(Drop)]
+#[derive(Clone, Copy)]
 pub enum Got {
     Has(usize),
     TooLong,

@@ -1,4 +1,6 @@
 // Fresh start: "Fresh takes clock line and divider, clears .., then: ..".
+#![tactic(auto)]
+
 ghost use Rattle.std.specs.Prelude.{◌≡◌, ◌≤◌, ◌+◌, length};
 ghost use Rattle.model.specs.Fresh as Fresh;
 ghost use Rattle.model.specs.Bytes as Model;

@@ -1,4 +1,6 @@
 // The public calls for hosts in C: each takes the memory as a pointer with a length, and answers with one number (specs/Encoded.antt, include/wik.h).
+#![tactic(auto)]
+
 ghost use Rattle.std.specs.Prelude.{◌≡◌, ◌<◌};
 ghost use Rattle.model.specs.Answer.{answer_of, memory_of};
 ghost use Rattle.model.specs.Bytes as Model;

@@ -1,4 +1,6 @@
 // Interrupts: each waiter served front to back, and the clock.
+#![tactic(auto)]
+
 ghost use Rattle.std.specs.Prelude.{◌≡◌, cond, ◌<◌, ◌≤◌, length};
 ghost use Rattle.model.specs.Bytes as Model;
 

@@ -1,4 +1,6 @@
 // Fresh start and well-formed memory: the judge, a function for each rule, equal to the rules on every memory of 8,192 words.
+#![tactic(auto)]
+
 pub mod records;
 pub mod running;
 pub mod tables;

@@ -1,5 +1,7 @@
 // The public calls. Any memory, of any length, and any numbers get an answer; each contract gives answer and whole memory for every input, and says the same
 // by the paper's numbers of the answer.
+#![tactic(auto)]
+
 ghost use Rattle.std.specs.Prelude.{◌≡◌, length};
 ghost use Rattle.model.specs.Answer.{numbers, held_numbers, verdict_numbers, writing_numbers};
 ghost use Rattle.model.specs.Answer.Outcome.{gives};

@@ -1,1 +1,2 @@
 // What follows from the model: no code.
+#![tactic(auto)]

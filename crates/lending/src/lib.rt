@@ -1,5 +1,7 @@
 // What the orders of a script lend to the calls, out of the program's 8,200 words and of the numbers of a line: a file or a buffer of settings, which is copied
 // out for the call, and copied back where the call writes; and the list of a burst, in bytes.
+#![tactic(auto)]
+
 pub mod sizes;
 
 ghost use Rattle.std.specs.Prelude.{◌≡◌, ◌++◌, ◌<◌, ◌≤◌, ◌+◌, length, drop, set};

@@ -1,5 +1,7 @@
 // The lists of the judge: how long they are, how often a page or a name stands in the processor list; which pages they hold (seen), and
 // whether names differ (names).
+#![tactic(auto)]
+
 pub mod names;
 pub mod page;
 pub mod seen;

@@ -1,4 +1,6 @@
 // Sending: "A match on NI or flag 0 means any", what is written and read of a message, and the moves of mail.
+#![tactic(auto)]
+
 ghost use Rattle.std.specs.Prelude.{◌≡◌, ◌<◌, length};
 ghost use Rattle.model.specs.Map as Map;
 ghost use Rattle.model.specs.Queue as Queue;

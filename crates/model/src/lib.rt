@@ -1,4 +1,6 @@
 // The kernel's types, and the methods of the register record. What they mean is in specs/.
+#![tactic(auto)]
+
 pub mod faults;
 pub mod instructions;
 pub mod layout;
@@ -10,14 +12,14 @@ ghost use Rattle.model.specs.Processor as Processor;
 ghost use Rattle.model.specs.Bytes as Model;
 
 // A control page's number, and a processor's name: both small, never mixed.
-#[derive(Drop)]
+#[derive(Clone, Copy)]
 pub struct ControlPage(pub u8);
 
-#[derive(Drop)]
+#[derive(Clone, Copy)]
 pub struct Name(pub u8);
 
 // A processor's registers by value. A host may name any of the first seven out of range, so they are wide.
-#[derive(Drop)]
+#[derive(Clone, Copy)]
 pub struct Registers {
     pub a: u16,
     pub s: u16,
@@ -30,7 +32,7 @@ pub struct Registers {
 }
 
 // What a processor has while another runs: its registers, and words 4-6 and 16-31 of page 0.
-#[derive(Drop)]
+#[derive(Clone, Copy)]
 pub struct Context {
     pub registers: Registers,
     pub words: [u8; map::KEPT_WORDS],
@@ -38,7 +40,7 @@ pub struct Context {
 
 // What an instruction is given, directly or by EXI: its field (a code, NI or I X XN), the number behind it (flag, priority, CODE1, or EXI's
 // X XN), W, and an address; WIN's IK and count. What an instruction does not have is 0.
-#[derive(Drop)]
+#[derive(Clone, Copy)]
 pub struct Arguments {
     pub field: u8,
     pub second: u8,
@@ -50,7 +52,7 @@ pub struct Arguments {
 
 // What a call answers. Handed out: the program's address, and that of n+1 or of the arguments. Fault: its number, and the name. Refused: its
 // number, and with 30-34 the address, with 24 and 25 of a burst the place of the bad pair, with 29 of settings the version.
-#[derive(Drop)]
+#[derive(Clone, Copy)]
 pub enum Answer {
     Done,
     Waits,
@@ -61,7 +63,7 @@ pub enum Answer {
 }
 
 // What reading the registers answers.
-#[derive(Drop)]
+#[derive(Clone, Copy)]
 pub enum Held {
     Has(Registers),
     Refused(u8),
@@ -69,7 +71,7 @@ pub enum Held {
 }
 
 // What the judge answers.
-#[derive(Drop)]
+#[derive(Clone, Copy)]
 pub enum Verdict {
     WellFormed,
     Refused(u8),
@@ -77,7 +79,7 @@ pub enum Verdict {
 }
 
 // What is found of a memory before a call goes on: nothing against it, a wrong length, or what is broken by its class and the lowest address.
-#[derive(Drop)]
+#[derive(Clone, Copy)]
 pub enum Finding {
     Nothing,
     WrongLength,
@@ -85,14 +87,14 @@ pub enum Finding {
 }
 
 // What comes of testing the pairs of a burst: all are good, or the number that refuses the first bad one, and its place.
-#[derive(Drop)]
+#[derive(Clone, Copy)]
 pub enum Checked {
     Good,
     Bad(u8, u16),
 }
 
 // Settings: a further processor, as an entry of a block names it.
-#[derive(Drop)]
+#[derive(Clone, Copy)]
 pub struct Entry {
     pub name: u8,
     pub priority: u8,
@@ -101,7 +103,7 @@ pub struct Entry {
 }
 
 // What a trailer says: how far back the newest block begins, its version, and how many entries it has.
-#[derive(Drop)]
+#[derive(Clone, Copy)]
 pub struct Trailer {
     pub distance: u16,
     pub version: u8,
@@ -109,7 +111,7 @@ pub struct Trailer {
 }
 
 // The verdict of a block or of a file: it is good, or the number that refuses it, and with 29 the version.
-#[derive(Drop)]
+#[derive(Clone, Copy)]
 pub enum Fit {
     Good,
     Refused(u8),
@@ -117,7 +119,7 @@ pub enum Fit {
 }
 
 // What writing settings answers: the new length of the file, or the number that refuses it, and with 29 the version.
-#[derive(Drop)]
+#[derive(Clone, Copy)]
 pub enum Writing {
     Written(usize),
     Refused(u8),
@@ -125,14 +127,14 @@ pub enum Writing {
 }
 
 // Which words differ: which of two memories is meant.
-#[derive(Drop)]
+#[derive(Clone, Copy)]
 pub enum Side {
     First,
     Second,
 }
 
 // What is compared of a processor's state: the stopped and the waiting bit, whether it runs, the queue it waits in, its reason.
-#[derive(Drop)]
+#[derive(Clone, Copy)]
 pub struct State {
     pub stopped: u8,
     pub waiting: u8,
@@ -142,7 +144,7 @@ pub struct State {
 }
 
 // In what two processors of one name differ.
-#[derive(Drop)]
+#[derive(Clone, Copy)]
 pub struct Parts {
     pub state: bool,
     pub priority: bool,
@@ -151,7 +153,7 @@ pub struct Parts {
 }
 
 // What is said of a name.
-#[derive(Drop)]
+#[derive(Clone, Copy)]
 pub enum Said {
     Nothing,
     OnlyIn(Side),
@@ -159,7 +161,7 @@ pub enum Said {
 }
 
 // A line of what is printed of two memories: an address with both words, a refusal of one of the two, what is said of a name, or that they are the same.
-#[derive(Drop)]
+#[derive(Clone, Copy)]
 pub enum Line {
     Word(u16, u8, u8),
     Refused(Side, u8),

@@ -1,4 +1,6 @@
 // Pages: a page taken, "SME and CRP use the page granted to them, else the first free one", and given back.
+#![tactic(auto)]
+
 ghost use Rattle.std.specs.Prelude.{◌≡◌, length};
 ghost use Rattle.model.specs.Page.Taken.{took};
 ghost use Rattle.model.specs.Bytes as Model;

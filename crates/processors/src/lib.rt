@@ -1,5 +1,7 @@
 // Memory map: "Processor page": names, state bits, LR, waiting and waking. A wait queue is known by the address of its semaphore; its header is
 // the next word.
+#![tactic(auto)]
+
 ghost use Rattle.std.specs.Prelude.{◌≡◌, ◌<◌, ◌≤◌};
 ghost use Rattle.std.proofs.Math.ListN as List;
 ghost use Rattle.model.specs.Queue as Queue;

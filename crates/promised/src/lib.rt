@@ -1,5 +1,7 @@
 // The promises as contracts of the code's own calls: each public call of the kernel takes a run of the memory at entry, with its past, to a run of the memory
 // at exit. So what crates/promises says of every run holds of whatever hosts do with these calls.
+#![tactic(auto)]
+
 ghost use Rattle.std.specs.Prelude.{◌≡◌, true, ◌<◌, length};
 ghost use Rattle.model.specs.Map.{memory_size};
 ghost use Rattle.model.specs.declared.Fit.TheVariants.{Good};

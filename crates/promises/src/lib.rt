@@ -1,1 +1,2 @@
 // The demands, as statements about the model: no code.
+#![tactic(auto)]

@@ -1,5 +1,7 @@
 // Memory map: "A header holds the first page, a link the next, 0 ends." A cell is the address of a word that points to a page, a header or a
 // link alike; a walk goes by recursion along links, with at most twenty pages left.
+#![tactic(auto)]
+
 ghost use Rattle.std.specs.Prelude.{◌≡◌, ◌<◌, eqb, length};
 ghost use Rattle.model.specs.Map as Map;
 ghost use Rattle.model.specs.Queue as Queue;

@@ -1,4 +1,6 @@
 // What is printed of two files, each a memory as it was saved, and the start of the program that compares them.
+#![tactic(auto)]
+
 mod lines;
 
 ghost use Rattle.std.specs.Prelude.{◌≡◌, ◌≤◌, length};

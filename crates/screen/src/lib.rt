@@ -1,5 +1,7 @@
 // What the script program prints: pieces of a line, written at once or kept, the lines of the answers, the state of a well-formed memory for a person
 // to read, and what is broken of any other.
+#![tactic(auto)]
+
 pub mod broken;
 pub mod kept;
 pub mod lines;

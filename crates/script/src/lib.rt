@@ -1,4 +1,6 @@
 // A line of a script: a word, and the numbers or the file's name behind it. What each function answers is said in specs/Script.antt.
+#![tactic(auto)]
+
 pub mod reading;
 pub mod sizes;
 
@@ -10,7 +12,7 @@ ghost use Rattle.script.specs.Script.Parsed.{parsed};
 use reading::{ended, ends, is_word, numbers, skip, word_end};
 
 // The seven numbers of `set`.
-#[derive(Drop)]
+#[derive(Clone, Copy)]
 pub struct Seven {
     pub a: u16,
     pub s: u16,
@@ -22,7 +24,7 @@ pub struct Seven {
 }
 
 // The five numbers of `write`.
-#[derive(Drop)]
+#[derive(Clone, Copy)]
 pub struct Five {
     pub file: u16,
     pub room: u16,
@@ -33,7 +35,7 @@ pub struct Five {
 
 // What a line asks for. The values of Put and Break, as many as their second number says, and those of Burst stand beside it. The name of Save stands in the
 // line, between two places.
-#[derive(Drop)]
+#[derive(Clone, Copy)]
 pub enum Order {
     Nothing,
     NotUnderstood,

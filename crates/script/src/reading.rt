@@ -7,7 +7,7 @@ ghost use Rattle.script.specs.Script.Read.{read};
 use crate::sizes;
 
 // A number, 65536 where there is none or it is larger, and the place behind it.
-#[derive(Drop)]
+#[derive(Clone, Copy)]
 pub struct Figures {
     pub value: u32,
     pub next: usize,

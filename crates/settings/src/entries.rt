@@ -6,13 +6,13 @@ ghost use Rattle.settings.specs.Cursors as Cursors;
 use model::{Entry, layout, map, refusals, wide};
 
 // Where the next entry of a block begins.
-#[derive(Drop)]
+#[derive(Clone, Copy)]
 pub struct Cursor {
     pub at: usize,
 }
 
 // An entry, and where the next one begins; or the number that refuses it: the block has no five bytes more.
-#[derive(Drop)]
+#[derive(Clone, Copy)]
 pub enum Read {
     Has(Entry, Cursor),
     Refused(u8),

@@ -1,4 +1,6 @@
 // A fresh start from settings: "fresh followed by creation of the entries in order, processor 1's LR staying".
+#![tactic(auto)]
+
 ghost use Rattle.std.specs.Prelude.{◌≡◌, true, ◌<◌, ◌≤◌, ◌+◌, ◌*◌, length};
 ghost use Rattle.model.specs.Layout as Layout;
 ghost use Rattle.model.specs.Bytes as Model;

@@ -13,7 +13,7 @@ use script::reading::digits;
 use settings::block::head_bytes;
 
 // What the next word is: the version, a byte, the label, an address; or there is room for none.
-#[derive(Drop)]
+#[derive(Clone, Copy)]
 pub enum Due {
     Version,
     Byte,

@@ -1,4 +1,6 @@
 // The technician's program: shows the newest settings in a file, or writes a block into it from the words of the command line.
+#![tactic(auto)]
+
 mod building;
 mod rows;
 mod sizes;

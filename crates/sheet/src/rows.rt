@@ -11,7 +11,7 @@ use settings::entries::{Cursor, Read, entry_at};
 use settings::file::newest;
 
 // A row, or that there is none.
-#[derive(Drop)]
+#[derive(Clone, Copy)]
 pub enum Row {
     Version(u8),
     Line(u8),

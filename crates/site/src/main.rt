@@ -1,4 +1,6 @@
 // The technician's program.
+#![tactic(auto)]
+
 fn main() {
     sheet::start();
 }

@@ -1,1 +1,2 @@
 // The table of worked sums: no code.
+#![tactic(auto)]

@@ -1,4 +1,6 @@
 // Say what is broken: the class and the lowest address that it tells. Asked class by class only where the judge refuses.
+#![tactic(auto)]
+
 mod cells;
 mod counters;
 mod lowest;

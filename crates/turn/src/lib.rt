@@ -1,4 +1,6 @@
 // Who runs, and the saved context: registers and nineteen words, taken from and put back to page 0 by value.
+#![tactic(auto)]
+
 ghost use Rattle.std.specs.Prelude.{◌≡◌, cond, ◌<◌, ◌≤◌, eqb, length, set};
 ghost use Rattle.model.specs.Map as Map;
 ghost use Rattle.model.specs.Turn as Turn;

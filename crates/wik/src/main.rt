@@ -1,4 +1,6 @@
 // The script program.
+#![tactic(auto)]
+
 fn main() {
     console::start();
 }

@@ -1,4 +1,6 @@
 // Memory map: words read and written, 13-bit addresses, protected words.
+#![tactic(auto)]
+
 ghost use Rattle.std.specs.Prelude.{◌≡◌, ◌<◌, ◌≤◌, ◌+◌, length};
 ghost use Rattle.model.specs.Map as Map;
 ghost use Rattle.model.specs.Address as Address;

@@ -7,8 +7,8 @@ returns : tie.Need-returns
 unfolding Answer.done
 returns c = cc
 
-pub done-spec : {M : Type 1} → statement M
-done-spec = tie.close (tie.spec
+pub done_spec : {M : Type 1} → statement M
+done_spec = tie.close (tie.spec
     (λ c κs. search rules)
     (λ c κs. search rules)
     (λ c. search rules)

@@ -3,8 +3,8 @@ use Rattle.answers.proofs.Laws.{answers}
 use Rattle.answers.proofs.fault.Statement.{statement}
 use Rattle.answers.proofs.fault.Tie as tie
 
-pub fault-spec : {M : Type 1} → statement M
-fault-spec = tie.close (tie.spec
+pub fault_spec : {M : Type 1} → statement M
+fault_spec = tie.close (tie.spec
     (λ c κs. search rules)
     (λ c κs. search rules)
     (λ c. search rules)

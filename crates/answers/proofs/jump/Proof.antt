@@ -7,8 +7,8 @@ returns : tie.Need-returns
 unfolding Answer.jumps
 returns c = cc
 
-pub jump-spec : {M : Type 1} → statement M
-jump-spec = tie.close (tie.spec
+pub jump_spec : {M : Type 1} → statement M
+jump_spec = tie.close (tie.spec
     (λ c κs. search rules)
     (λ c κs. search rules)
     (λ c κs. search rules)

@@ -5,8 +5,8 @@ use Rattle.answers.proofs.stop_runner.Tie as tie
 returns : tie.Need-returns
 returns c = (cc, cc)
 
-pub stop-runner-spec : {M : Type 1} → statement M
-stop-runner-spec = tie.close (tie.spec
+pub stop_runner_spec : {M : Type 1} → statement M
+stop_runner_spec = tie.close (tie.spec
     (λ c κs. search rules)
     (λ c κs. search rules)
     (λ c κs. search rules)

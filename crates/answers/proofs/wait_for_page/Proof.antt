@@ -7,8 +7,8 @@ returns : tie.Need-returns
 unfolding Operate.waits_for_page
 returns c = cc
 
-pub wait-for-page-spec : {M : Type 1} → statement M
-wait-for-page-spec = tie.close (tie.spec
+pub wait_for_page_spec : {M : Type 1} → statement M
+wait_for_page_spec = tie.close (tie.spec
     (λ c κs. search rules)
     (λ c. search rules)
     returns)

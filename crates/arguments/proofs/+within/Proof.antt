@@ -15,8 +15,8 @@ use Rattle.arguments.proofs.+within.Tie.{close}
 abbrev μ : Measures 1 kinds.ps ℕ
 μ κs a = a.1.1.1.0
 
-pub +within-spec : {M : Type 1} → statement M
-+within-spec = close μ λ t. lts.spec (
+pub +within_spec : {M : Type 1} → statement M
++within_spec = close μ λ t. lts.spec (
   wide-reads.Asked,
   wide-reads.Learnt,
   argument-reads.Asked,

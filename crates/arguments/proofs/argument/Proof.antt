@@ -5,8 +5,8 @@ use Rattle.arguments.proofs.argument.Tie as tie
 returns : tie.Need-returns
 returns c = cc
 
-pub argument-spec : {M : Type 1} → statement M
-argument-spec = tie.close (tie.spec
+pub argument_spec : {M : Type 1} → statement M
+argument_spec = tie.close (tie.spec
     (λ c κs. search rules)
     (λ c κs. search rules)
     returns)

@@ -4,9 +4,9 @@ use Rattle.arguments.proofs.Laws.{arguing}
 use Rattle.arguments.proofs.direct.Statement.{statement}
 use Rattle.arguments.proofs.direct.Tie as tie
 
-pub direct-spec : {M : Type 1} → statement M
+pub direct_spec : {M : Type 1} → statement M
 unfolding Instruction.direct
-direct-spec = tie.close (tie.spec
+direct_spec = tie.close (tie.spec
     (λ c κs. search rules)
     (λ c κs. search rules)
     (λ c κs. search rules)

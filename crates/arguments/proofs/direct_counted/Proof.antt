@@ -7,8 +7,8 @@ returns : tie.Need-returns
 unfolding Instruction.direct_counted
 returns c = (cc, search rules, search rules, search rules, search rules)
 
-pub direct-counted-spec : {M : Type 1} → statement M
-direct-counted-spec = tie.close (tie.spec
+pub direct_counted_spec : {M : Type 1} → statement M
+direct_counted_spec = tie.close (tie.spec
     (λ c κs. search rules)
     (λ c κs. search rules)
     (λ c κs. search rules)

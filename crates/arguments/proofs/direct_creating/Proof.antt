@@ -7,8 +7,8 @@ returns : tie.Need-returns
 unfolding Instruction.direct_creating
 returns c = (cc, search rules, search rules, search rules, search rules)
 
-pub direct-creating-spec : {M : Type 1} → statement M
-direct-creating-spec = tie.close (tie.spec
+pub direct_creating_spec : {M : Type 1} → statement M
+direct_creating_spec = tie.close (tie.spec
     (λ c κs. search rules)
     (λ c κs. search rules)
     (λ c κs. search rules)

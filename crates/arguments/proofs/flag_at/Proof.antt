@@ -5,7 +5,7 @@ use Rattle.arguments.proofs.flag_at.Tie as tie
 returns : tie.Need-returns
 returns c = (cc, search rules)
 
-pub flag-at-spec : {M : Type 1} → statement M
-flag-at-spec = tie.close (tie.spec
+pub flag_at_spec : {M : Type 1} → statement M
+flag_at_spec = tie.close (tie.spec
     (λ c κs. search rules)
     returns)

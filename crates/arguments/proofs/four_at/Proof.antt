@@ -5,7 +5,7 @@ use Rattle.arguments.proofs.four_at.Tie as tie
 returns : tie.Need-returns
 returns c = (cc, search rules)
 
-pub four-at-spec : {M : Type 1} → statement M
-four-at-spec = tie.close (tie.spec
+pub four_at_spec : {M : Type 1} → statement M
+four_at_spec = tie.close (tie.spec
     (λ c κs. search rules)
     returns)

@@ -4,9 +4,9 @@ use Rattle.arguments.proofs.Laws.{arguing}
 use Rattle.arguments.proofs.pointed.Statement.{statement}
 use Rattle.arguments.proofs.pointed.Tie as tie
 
-pub pointed-spec : {M : Type 1} → statement M
+pub pointed_spec : {M : Type 1} → statement M
 unfolding Instruction.pointed
-pointed-spec = tie.close (tie.spec
+pointed_spec = tie.close (tie.spec
     (λ c κs. search rules)
     (λ c κs. search rules)
     (λ c κs. search rules)

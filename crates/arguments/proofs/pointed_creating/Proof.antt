@@ -7,8 +7,8 @@ returns : tie.Need-returns
 unfolding Instruction.pointed_creating
 returns c = (cc, search rules, search rules, search rules, search rules)
 
-pub pointed-creating-spec : {M : Type 1} → statement M
-pointed-creating-spec = tie.close (tie.spec
+pub pointed_creating_spec : {M : Type 1} → statement M
+pointed_creating_spec = tie.close (tie.spec
     (λ c κs. search rules)
     (λ c κs. search rules)
     (λ c κs. search rules)

@@ -7,8 +7,8 @@ returns : tie.Need-returns
 returns c =
     (search (rules, rows), search (rules, rows), search (rules, rows), search (rules, rows), search (rules, rows), search (rules, rows), search (rules, rows))
 
-pub row-for-spec : {M : Type 1} → statement M
-row-for-spec = tie.close (tie.spec
+pub row_for_spec : {M : Type 1} → statement M
+row_for_spec = tie.close (tie.spec
     (λ c. search rules)
     (λ c. search rules)
     returns

@@ -15,8 +15,8 @@ use Rattle.arrivals.proofs.+arrive_all.Tie.{close}
 abbrev μ : Measures 2 kinds.ps ℕ
 μ κs a = length a.1.0.now
 
-pub +arrive-all-spec : {M : Type 1} → statement M
-+arrive-all-spec = close μ λ t. lts.spec (
+pub +arrive_all_spec : {M : Type 1} → statement M
++arrive_all_spec = close μ λ t. lts.spec (
   wide-reads.Asked,
   wide-reads.Learnt,
   arrive-reads.Asked,

@@ -16,8 +16,8 @@ use Rattle.arrivals.proofs.+test.Tie.{close}
 abbrev μ : Measures 1 kinds.ps ℕ
 μ κs a = length a.0.now
 
-pub +test-spec : {M : Type 1} → statement M
-+test-spec = close μ λ t. lts.spec (
+pub +test_spec : {M : Type 1} → statement M
++test_spec = close μ λ t. lts.spec (
   wide-reads.Asked,
   wide-reads.Learnt,
   is-outer-reads.Asked,

@@ -5,9 +5,9 @@ use Rattle.arrivals.proofs.Laws.{lists}
 use Rattle.arrivals.proofs.burst_judged.Statement.{statement}
 use Rattle.arrivals.proofs.burst_judged.Tie as tie
 
-pub burst-judged-spec : {M : Type 1} → statement M
+pub burst_judged_spec : {M : Type 1} → statement M
 unfolding Burst.burst_judged
-burst-judged-spec = tie.close (tie.spec
+burst_judged_spec = tie.close (tie.spec
     (λ c κs. search rules)
     (λ c κs. search (rules, lists))
     (λ c. search rules)

@@ -5,9 +5,9 @@ use Rattle.arrivals.proofs.Laws.{passed}
 use Rattle.arrivals.proofs.interrupt_judged.Statement.{statement}
 use Rattle.arrivals.proofs.interrupt_judged.Tie as tie
 
-pub interrupt-judged-spec : {M : Type 1} → statement M
+pub interrupt_judged_spec : {M : Type 1} → statement M
 unfolding Call.interrupt_judged
-interrupt-judged-spec = tie.close (tie.spec
+interrupt_judged_spec = tie.close (tie.spec
     (λ c κs. search rules)
     (λ c κs. search rules)
     (λ c κs. search (rules, passed))

@@ -4,9 +4,9 @@ use Rattle.model.proofs.Tests.{tests}
 use Rattle.arrivals.proofs.is_outer.Statement.{statement}
 use Rattle.arrivals.proofs.is_outer.Tie as tie
 
-pub is-outer-spec : {M : Type 1} → statement M
+pub is_outer_spec : {M : Type 1} → statement M
 unfolding Call.is_outer
-is-outer-spec = tie.close (tie.spec
+is_outer_spec = tie.close (tie.spec
     (λ c. search (rules, tests))
     (λ c. search (rules, tests))
     (λ c. search (rules, tests)))

@@ -7,8 +7,8 @@ returns : tie.Need-returns
 unfolding Operate.ands
 returns c = cc
 
-pub and-spec : {M : Type 1} → statement M
-and-spec = tie.close (tie.spec
+pub and_spec : {M : Type 1} → statement M
+and_spec = tie.close (tie.spec
     (λ c κs. search rules)
     (λ c κs. search rules)
     (λ c κs. search rules)

@@ -5,9 +5,9 @@ use Rattle.answers.proofs.Laws.{done_of}
 use Rattle.codes.proofs.cvi.Statement.{statement}
 use Rattle.codes.proofs.cvi.Tie as tie
 
-pub cvi-spec : {M : Type 1} → statement M
+pub cvi_spec : {M : Type 1} → statement M
 unfolding Operate.cvi
-cvi-spec = tie.close (tie.spec
+cvi_spec = tie.close (tie.spec
     (λ c κs. search rules)
     (λ c κs. search rules)
     (λ c κs. search rules)

@@ -5,9 +5,9 @@ use Rattle.answers.proofs.Laws.{done_of}
 use Rattle.codes.proofs.dvi.Statement.{statement}
 use Rattle.codes.proofs.dvi.Tie as tie
 
-pub dvi-spec : {M : Type 1} → statement M
+pub dvi_spec : {M : Type 1} → statement M
 unfolding Operate.dvi
-dvi-spec = tie.close (tie.spec
+dvi_spec = tie.close (tie.spec
     (λ c κs. search rules)
     (λ c. search rules)
     (λ c. search (rules, ways))

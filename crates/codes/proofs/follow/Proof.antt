@@ -5,9 +5,9 @@ use Rattle.codes.proofs.Laws.{codes}
 use Rattle.codes.proofs.follow.Statement.{statement}
 use Rattle.codes.proofs.follow.Tie as tie
 
-pub follow-spec : {M : Type 1} → statement M
+pub follow_spec : {M : Type 1} → statement M
 unfolding Operate.follows
-follow-spec = tie.close (tie.spec
+follow_spec = tie.close (tie.spec
     (λ c κs. search rules)
     (λ c. search rules)
     (λ c. search (rules, ways, codes))

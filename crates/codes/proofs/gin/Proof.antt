@@ -7,8 +7,8 @@ returns : tie.Need-returns
 unfolding Operate.gin
 returns c = cc
 
-pub gin-spec : {M : Type 1} → statement M
-gin-spec = tie.close (tie.spec
+pub gin_spec : {M : Type 1} → statement M
+gin_spec = tie.close (tie.spec
     (λ c κs. search rules)
     (λ c κs. search rules)
     (λ c κs. search rules)

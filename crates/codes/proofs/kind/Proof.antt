@@ -5,8 +5,8 @@ use Rattle.codes.proofs.kind.Tie as tie
 returns : tie.Need-returns
 returns c = cc
 
-pub kind-spec : {M : Type 1} → statement M
-kind-spec = tie.close (tie.spec
+pub kind_spec : {M : Type 1} → statement M
+kind_spec = tie.close (tie.spec
     (λ c κs. search rules)
     (λ c. search rules)
     (λ c. search rules)

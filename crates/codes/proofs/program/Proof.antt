@@ -5,8 +5,8 @@ use Rattle.codes.proofs.program.Tie as tie
 returns : tie.Need-returns
 returns c = cc
 
-pub program-spec : {M : Type 1} → statement M
-program-spec = tie.close (tie.spec
+pub program_spec : {M : Type 1} → statement M
+program_spec = tie.close (tie.spec
     (λ c κs. search rules)
     (λ c. search rules)
     (λ c. search rules)

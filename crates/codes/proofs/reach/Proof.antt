@@ -6,9 +6,9 @@ use Rattle.codes.proofs.Laws.{codes}
 use Rattle.codes.proofs.reach.Statement.{statement}
 use Rattle.codes.proofs.reach.Tie as tie
 
-pub reach-spec : {M : Type 1} → statement M
+pub reach_spec : {M : Type 1} → statement M
 unfolding Operate.reaches
-reach-spec = tie.close (tie.spec
+reach_spec = tie.close (tie.spec
     (λ c κs. search rules)
     (λ c κs. search rules)
     (λ c κs. search rules)

@@ -7,8 +7,8 @@ returns : tie.Need-returns
 unfolding Operate.return_to
 returns c = cc
 
-pub return-to-spec : {M : Type 1} → statement M
-return-to-spec = tie.close (tie.spec
+pub return_to_spec : {M : Type 1} → statement M
+return_to_spec = tie.close (tie.spec
     (λ c κs. search rules)
     (λ c κs. search rules)
     (λ c κs. search rules)

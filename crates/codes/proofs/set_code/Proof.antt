@@ -7,8 +7,8 @@ returns : tie.Need-returns
 unfolding Instruction.set_code
 returns c = cc
 
-pub set-code-spec : {M : Type 1} → statement M
-set-code-spec = tie.close (tie.spec
+pub set_code_spec : {M : Type 1} → statement M
+set_code_spec = tie.close (tie.spec
     (λ c κs. search rules)
     (λ c. search rules)
     (λ c. search rules)

@@ -7,8 +7,8 @@ returns : tie.Need-returns
 unfolding Operate.stores_a
 returns c = cc
 
-pub store-a-spec : {M : Type 1} → statement M
-store-a-spec = tie.close (tie.spec
+pub store_a_spec : {M : Type 1} → statement M
+store_a_spec = tie.close (tie.spec
     (λ c κs. search rules)
     (λ c κs. search rules)
     (λ c κs. search rules)

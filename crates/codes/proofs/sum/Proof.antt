@@ -3,8 +3,8 @@ use Rattle.codes.proofs.Laws.{sum_is}
 use Rattle.codes.proofs.sum.Statement.{statement}
 use Rattle.codes.proofs.sum.Tie as tie
 
-pub sum-spec : {M : Type 1} → statement M
-sum-spec = tie.close (tie.spec
+pub sum_spec : {M : Type 1} → statement M
+sum_spec = tie.close (tie.spec
     (λ c κs. search rules)
     (λ c κs. search rules)
     (λ c κs. search rules)

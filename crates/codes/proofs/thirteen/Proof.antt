@@ -5,9 +5,9 @@ use Rattle.codes.proofs.Laws.{codes}
 use Rattle.codes.proofs.thirteen.Statement.{statement}
 use Rattle.codes.proofs.thirteen.Tie as tie
 
-pub thirteen-spec : {M : Type 1} → statement M
+pub thirteen_spec : {M : Type 1} → statement M
 unfolding Operate.thirteen
-thirteen-spec = tie.close (tie.spec
+thirteen_spec = tie.close (tie.spec
     (λ c κs. search rules)
     (λ c. search rules)
     (λ c. search (rules, ways, codes))

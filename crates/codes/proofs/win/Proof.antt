@@ -5,9 +5,9 @@ use Rattle.codes.proofs.Laws.{codes}
 use Rattle.codes.proofs.win.Statement.{statement}
 use Rattle.codes.proofs.win.Tie as tie
 
-pub win-spec : {M : Type 1} → statement M
+pub win_spec : {M : Type 1} → statement M
 unfolding Operate.win
-win-spec = tie.close (tie.spec
+win_spec = tie.close (tie.spec
     (λ c κs. search rules)
     (λ c. search rules)
     (λ c. search (rules, ways, codes))

@@ -4,9 +4,9 @@ use Rattle.codes.proofs.Laws.{work_at, work_none}
 use Rattle.codes.proofs.work.Statement.{statement}
 use Rattle.codes.proofs.work.Tie as tie
 
-pub work-spec : {M : Type 1} → statement M
+pub work_spec : {M : Type 1} → statement M
 unfolding Operate.worked
-work-spec = tie.close (tie.spec
+work_spec = tie.close (tie.spec
     (λ c κs. search rules)
     (λ c κs. search rules)
     (λ c κs. search rules)

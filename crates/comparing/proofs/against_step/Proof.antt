@@ -3,8 +3,8 @@ use Rattle.comparing.proofs.Laws.{steps}
 use Rattle.comparing.proofs.against_step.Statement.{statement}
 use Rattle.comparing.proofs.against_step.Tie as tie
 
-pub against-step-spec : {M : Type 1} → statement M
-against-step-spec = tie.close (tie.spec
+pub against_step_spec : {M : Type 1} → statement M
+against_step_spec = tie.close (tie.spec
     (λ c κs. search rules)
     (λ c. search rules)
     (λ c. search rules)

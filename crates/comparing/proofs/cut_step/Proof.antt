@@ -3,8 +3,8 @@ use Rattle.comparing.proofs.Laws.{cursors}
 use Rattle.comparing.proofs.cut_step.Statement.{statement}
 use Rattle.comparing.proofs.cut_step.Tie as tie
 
-pub cut-step-spec : {M : Type 1} → statement M
-cut-step-spec = tie.close (tie.spec
+pub cut_step_spec : {M : Type 1} → statement M
+cut_step_spec = tie.close (tie.spec
     (λ c. search rules)
     (λ c κs. search rules)
     (λ c. search rules)

@@ -4,8 +4,8 @@ use Rattle.comparing.proofs.ended.Statement.{statement}
 use Rattle.processors.proofs.Ways.{ways}
 use Rattle.comparing.proofs.ended.Tie as tie
 
-pub ended-spec : {M : Type 1} → statement M
+pub ended_spec : {M : Type 1} → statement M
 unfolding Cursors.ended
-ended-spec = tie.close (tie.spec
+ended_spec = tie.close (tie.spec
     (λ c. search (rules, ways))
     (λ c. search (rules, ways)))

@@ -4,7 +4,7 @@ use Rattle.comparing.proofs.is_whole.Statement.{statement}
 use Rattle.processors.proofs.Ways.{ways}
 use Rattle.comparing.proofs.is_whole.Tie as tie
 
-pub is-whole-spec : {M : Type 1} → statement M
+pub is_whole_spec : {M : Type 1} → statement M
 unfolding Differ.is_whole
-is-whole-spec = tie.close (tie.spec
+is_whole_spec = tie.close (tie.spec
     (λ c. search (rules, ways)))

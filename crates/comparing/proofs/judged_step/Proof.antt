@@ -3,8 +3,8 @@ use Rattle.comparing.proofs.Laws.{steps}
 use Rattle.comparing.proofs.judged_step.Statement.{statement}
 use Rattle.comparing.proofs.judged_step.Tie as tie
 
-pub judged-step-spec : {M : Type 1} → statement M
-judged-step-spec = tie.close (tie.spec
+pub judged_step_spec : {M : Type 1} → statement M
+judged_step_spec = tie.close (tie.spec
     (λ c κs. search rules)
     (λ c. search rules)
     (λ c κs. search rules)

@@ -3,8 +3,8 @@ use Rattle.comparing.proofs.Laws.{steps}
 use Rattle.comparing.proofs.name_step.Statement.{statement}
 use Rattle.comparing.proofs.name_step.Tie as tie
 
-pub name-step-spec : {M : Type 1} → statement M
-name-step-spec = tie.close (tie.spec
+pub name_step_spec : {M : Type 1} → statement M
+name_step_spec = tie.close (tie.spec
     (λ c κs. search rules)
     (λ c. search rules)
     (λ c. search (rules, steps))

@@ -14,8 +14,8 @@ invariant-loop first second from count name₀ left₀ name left =
 abbrev decreases-loop : tie.decreases-loop
 decreases-loop first second from count name₀ left₀ name left = left
 
-pub next-named-spec : {M : Type 1} → statement M
-next-named-spec = tie.close (tie.spec invariant-loop decreases-loop
+pub next_named_spec : {M : Type 1} → statement M
+next_named_spec = tie.close (tie.spec invariant-loop decreases-loop
     (λ c. search rules)
     (λ c κs. search rules)
     (λ c κs. search rules)

@@ -3,8 +3,8 @@ use Rattle.comparing.proofs.Laws.{steps}
 use Rattle.comparing.proofs.second_step.Statement.{statement}
 use Rattle.comparing.proofs.second_step.Tie as tie
 
-pub second-step-spec : {M : Type 1} → statement M
-second-step-spec = tie.close (tie.spec
+pub second_step_spec : {M : Type 1} → statement M
+second_step_spec = tie.close (tie.spec
     (λ c κs. search rules)
     (λ c. search rules)
     (λ c κs. search rules)

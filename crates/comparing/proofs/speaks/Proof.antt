@@ -4,9 +4,9 @@ use Rattle.comparing.specs.Cursors as Cursors
 use Rattle.comparing.proofs.speaks.Statement.{statement}
 use Rattle.comparing.proofs.speaks.Tie as tie
 
-pub speaks-spec : {M : Type 1} → statement M
+pub speaks_spec : {M : Type 1} → statement M
 unfolding Cursors.speaks
-speaks-spec = tie.close (tie.spec
+speaks_spec = tie.close (tie.spec
     (λ c. search rules)
     (λ c. search rules)
     (λ c. search rules)

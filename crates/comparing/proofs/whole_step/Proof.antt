@@ -3,8 +3,8 @@ use Rattle.comparing.proofs.Laws.{cursors}
 use Rattle.comparing.proofs.whole_step.Statement.{statement}
 use Rattle.comparing.proofs.whole_step.Tie as tie
 
-pub whole-step-spec : {M : Type 1} → statement M
-whole-step-spec = tie.close (tie.spec
+pub whole_step_spec : {M : Type 1} → statement M
+whole_step_spec = tie.close (tie.spec
     (λ c. search rules)
     (λ c κs. search rules)
     (λ c. search rules)

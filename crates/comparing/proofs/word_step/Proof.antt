@@ -3,8 +3,8 @@ use Rattle.comparing.proofs.Laws.{steps}
 use Rattle.comparing.proofs.word_step.Statement.{statement}
 use Rattle.comparing.proofs.word_step.Tie as tie
 
-pub word-step-spec : {M : Type 1} → statement M
-word-step-spec = tie.close (tie.spec
+pub word_step_spec : {M : Type 1} → statement M
+word_step_spec = tie.close (tie.spec
     (λ c. search rules)
     (λ c. search rules)
     (λ c. search rules)

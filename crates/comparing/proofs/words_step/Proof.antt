@@ -3,8 +3,8 @@ use Rattle.comparing.proofs.Laws.{steps}
 use Rattle.comparing.proofs.words_step.Statement.{statement}
 use Rattle.comparing.proofs.words_step.Tie as tie
 
-pub words-step-spec : {M : Type 1} → statement M
-words-step-spec = tie.close (tie.spec
+pub words_step_spec : {M : Type 1} → statement M
+words_step_spec = tie.close (tie.spec
     (λ c. search rules)
     (λ c κs. search rules)
     (λ c κs. search rules)

@@ -4,9 +4,9 @@ use Rattle.processors.proofs.Ways.{ways}
 use Rattle.creating.proofs.crp.Statement.{statement}
 use Rattle.creating.proofs.crp.Tie as tie
 
-pub crp-spec : {M : Type 1} → statement M
+pub crp_spec : {M : Type 1} → statement M
 unfolding Operate.crp
-crp-spec = tie.close (tie.spec
+crp_spec = tie.close (tie.spec
     (λ c κs. search rules)
     (λ c. search rules)
     (λ c. search (rules, ways))

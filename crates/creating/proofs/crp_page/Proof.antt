@@ -4,9 +4,9 @@ use Rattle.answers.proofs.Laws.{pages}
 use Rattle.creating.proofs.crp_page.Statement.{statement}
 use Rattle.creating.proofs.crp_page.Tie as tie
 
-pub crp-page-spec : {M : Type 1} → statement M
+pub crp_page_spec : {M : Type 1} → statement M
 unfolding Operate.crp_page
-crp-page-spec = tie.close (tie.spec
+crp_page_spec = tie.close (tie.spec
     (λ c κs. search rules)
     (λ c κs. search rules)
     (λ c κs. search rules)

@@ -5,9 +5,9 @@ use Rattle.answers.proofs.Laws.{done_of}
 use Rattle.creating.proofs.dep.Statement.{statement}
 use Rattle.creating.proofs.dep.Tie as tie
 
-pub dep-spec : {M : Type 1} → statement M
+pub dep_spec : {M : Type 1} → statement M
 unfolding Operate.dep
-dep-spec = tie.close (tie.spec
+dep_spec = tie.close (tie.spec
     (λ c κs. search rules)
     (λ c κs. search rules)
     (λ c κs. search rules)

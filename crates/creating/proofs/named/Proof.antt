@@ -5,9 +5,9 @@ use Rattle.creating.proofs.Laws.{creates}
 use Rattle.creating.proofs.named.Statement.{statement}
 use Rattle.creating.proofs.named.Tie as tie
 
-pub named-spec : {M : Type 1} → statement M
+pub named_spec : {M : Type 1} → statement M
 unfolding Operate.named
-named-spec = tie.close (tie.spec
+named_spec = tie.close (tie.spec
     (λ c κs. search rules)
     (λ c. search rules)
     (λ c. search (rules, ways, creates))

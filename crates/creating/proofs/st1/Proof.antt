@@ -7,8 +7,8 @@ returns : tie.Need-returns
 unfolding Operate.st1
 returns c = cc
 
-pub st1-spec : {M : Type 1} → statement M
-st1-spec = tie.close (tie.spec
+pub st1_spec : {M : Type 1} → statement M
+st1_spec = tie.close (tie.spec
     (λ c κs. search rules)
     (λ c κs. search rules)
     (λ c. search rules)

@@ -5,9 +5,9 @@ use Rattle.creating.proofs.Laws.{creates}
 use Rattle.creating.proofs.st2.Statement.{statement}
 use Rattle.creating.proofs.st2.Tie as tie
 
-pub st2-spec : {M : Type 1} → statement M
+pub st2_spec : {M : Type 1} → statement M
 unfolding Operate.st2
-st2-spec = tie.close (tie.spec
+st2_spec = tie.close (tie.spec
     (λ c κs. search rules)
     (λ c. search rules)
     (λ c. search (rules, ways, creates))

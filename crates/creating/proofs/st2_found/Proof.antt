@@ -5,9 +5,9 @@ use Rattle.creating.proofs.Laws.{creates}
 use Rattle.creating.proofs.st2_found.Statement.{statement}
 use Rattle.creating.proofs.st2_found.Tie as tie
 
-pub st2-found-spec : {M : Type 1} → statement M
+pub st2_found_spec : {M : Type 1} → statement M
 unfolding Operate.st2_found
-st2-found-spec = tie.close (tie.spec
+st2_found_spec = tie.close (tie.spec
     (λ c κs. search rules)
     (λ c κs. search rules)
     (λ c. search rules)

@@ -7,8 +7,8 @@ returns : tie.Need-returns
 unfolding Operate.stp
 returns c = cc
 
-pub stp-spec : {M : Type 1} → statement M
-stp-spec = tie.close (tie.spec
+pub stp_spec : {M : Type 1} → statement M
+stp_spec = tie.close (tie.spec
     (λ c κs. search rules)
     (λ c κs. search rules)
     (λ c. search rules)

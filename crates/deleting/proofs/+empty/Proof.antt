@@ -15,8 +15,8 @@ use Rattle.deleting.proofs.+empty.Tie.{close}
 abbrev μ : Measures 1 kinds.ps ℕ
 μ κs a = a.1.1.1.0
 
-pub +empty-spec : {M : Type 1} → statement M
-+empty-spec = close μ λ t. lts.spec (
+pub +empty_spec : {M : Type 1} → statement M
++empty_spec = close μ λ t. lts.spec (
   at_reads.Asked,
   at_reads.Learnt,
   leave-reads.Asked,

@@ -15,8 +15,8 @@ use Rattle.deleting.proofs.+mark_all.Tie.{close}
 abbrev μ : Measures 1 kinds.ps ℕ
 μ κs a = a.1.1.1.0
 
-pub +mark-all-spec : {M : Type 1} → statement M
-+mark-all-spec = close μ λ t. lts.spec (
+pub +mark_all_spec : {M : Type 1} → statement M
++mark_all_spec = close μ λ t. lts.spec (
   at_reads.Asked,
   at_reads.Learnt,
   mark-mail-reads.Asked,

@@ -15,8 +15,8 @@ use Rattle.deleting.proofs.+mark_from.Tie.{close}
 abbrev μ : Measures 1 kinds.ps ℕ
 μ κs a = a.1.1.1.0
 
-pub +mark-from-spec : {M : Type 1} → statement M
-+mark-from-spec = close μ λ t. lts.spec (
+pub +mark_from_spec : {M : Type 1} → statement M
++mark_from_spec = close μ λ t. lts.spec (
   at_reads.Asked,
   at_reads.Learnt,
   mark-reads.Asked,

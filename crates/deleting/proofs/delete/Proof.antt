@@ -3,8 +3,8 @@ use Rattle.deleting.proofs.Laws.{deletions}
 use Rattle.deleting.proofs.delete.Statement.{statement}
 use Rattle.deleting.proofs.delete.Tie as tie
 
-pub delete-spec : {M : Type 1} → statement M
-delete-spec = tie.close (tie.spec
+pub delete_spec : {M : Type 1} → statement M
+delete_spec = tie.close (tie.spec
     (λ c κs. search rules)
     (λ c κs. search rules)
     (λ c κs. search rules)

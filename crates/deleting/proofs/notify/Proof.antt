@@ -7,8 +7,8 @@ returns : tie.Need-returns
 unfolding Delete.noticed
 returns c = cc
 
-pub notify-spec : {M : Type 1} → statement M
-notify-spec = tie.close (tie.spec
+pub notify_spec : {M : Type 1} → statement M
+notify_spec = tie.close (tie.spec
     (λ c κs. search rules)
     (λ c κs. search rules)
     (λ c κs. search rules)

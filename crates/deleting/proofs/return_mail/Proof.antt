@@ -7,8 +7,8 @@ returns : tie.Need-returns
 unfolding Delete.mail_returned
 returns c = cc
 
-pub return-mail-spec : {M : Type 1} → statement M
-return-mail-spec = tie.close (tie.spec
+pub return_mail_spec : {M : Type 1} → statement M
+return_mail_spec = tie.close (tie.spec
     (λ c κs. search rules)
     (λ c κs. search rules)
     (λ c κs. search rules)

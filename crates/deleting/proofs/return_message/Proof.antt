@@ -3,8 +3,8 @@ use Rattle.deleting.proofs.Laws.{deletions}
 use Rattle.deleting.proofs.return_message.Statement.{statement}
 use Rattle.deleting.proofs.return_message.Tie as tie
 
-pub return-message-spec : {M : Type 1} → statement M
-return-message-spec = tie.close (tie.spec
+pub return_message_spec : {M : Type 1} → statement M
+return_message_spec = tie.close (tie.spec
     (λ c κs. search rules)
     (λ c κs. search rules)
     (λ c. search rules)

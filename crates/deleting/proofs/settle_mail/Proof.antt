@@ -3,8 +3,8 @@ use Rattle.deleting.proofs.Laws.{deletions}
 use Rattle.deleting.proofs.settle_mail.Statement.{statement}
 use Rattle.deleting.proofs.settle_mail.Tie as tie
 
-pub settle-mail-spec : {M : Type 1} → statement M
-settle-mail-spec = tie.close (tie.spec
+pub settle_mail_spec : {M : Type 1} → statement M
+settle_mail_spec = tie.close (tie.spec
     (λ c κs. search rules)
     (λ c κs. search rules)
     (λ c. search rules)

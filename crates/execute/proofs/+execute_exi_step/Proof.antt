@@ -53,9 +53,9 @@ abbrev exi-step-below : ℕ → In 1 exi-step-kinds.ps
 exi-step-below t =
     and 1 exi-step-kinds.ps (falls 1 exi-step-kinds.ps ◌<◌ μ-exi-step t) exi-step.Pre
 
-pub +execute-exi-step-spec : {M : Type 1} → statement M
+pub +execute_exi_step_spec : {M : Type 1} → statement M
 unfolding Execute.run
-+execute-exi-step-spec = close μ-execute μ-exi-step (λ t. execute-lts.spec (
++execute_exi_step_spec = close μ-execute μ-exi-step (λ t. execute-lts.spec (
   cvi-reads.Asked,
   cvi-reads.Learnt,
   dvi-reads.Asked,

@@ -3,8 +3,8 @@ use Rattle.execute.proofs.Laws.{fetched_guarded, fetched_coded, fetched_refused}
 use Rattle.execute.proofs.fetched.Statement.{statement}
 use Rattle.execute.proofs.fetched.Tie as tie
 
-pub fetched-spec : {M : Type 1} → statement M
-fetched-spec = tie.close (tie.spec
+pub fetched_spec : {M : Type 1} → statement M
+fetched_spec = tie.close (tie.spec
     (λ c κs. search rules)
     (λ c κs. search rules)
     (λ c. search rules)

@@ -11,8 +11,8 @@ invariant-loop input name file₀ end₀ file end = (length file ≡ length file
 abbrev decreases-loop : tie.decreases-loop
 decreases-loop input name file₀ end₀ file end = length file - end
 
-pub read-whole-spec : {M : Type 1} → statement M
-read-whole-spec = tie.close (tie.spec invariant-loop decreases-loop
+pub read_whole_spec : {M : Type 1} → statement M
+read_whole_spec = tie.close (tie.spec invariant-loop decreases-loop
     (λ c. search rules)
     (λ c. search rules)
     (λ c. search rules)

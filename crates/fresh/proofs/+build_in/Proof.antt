@@ -14,8 +14,8 @@ use Rattle.fresh.proofs.+build_in.Tie.{close}
 abbrev μ : Measures 1 kinds.ps ℕ
 μ κs a = a.1.0
 
-pub +build-in-spec : {M : Type 1} → statement M
-+build-in-spec = close μ λ t. lts.spec
+pub +build_in_spec : {M : Type 1} → statement M
++build_in_spec = close μ λ t. lts.spec
     (wide-reads.Asked, wide-reads.Learnt, write-reads.Asked, write-reads.Learnt, and 1 kinds.ps (falls 1 kinds.ps ◌<◌ μ t) own.Pre, own.Post)
     (and 1 kinds.ps (is 1 kinds.ps μ t) own.Pre)
     own.Post

@@ -13,8 +13,8 @@ use Rattle.fresh.proofs.+chain.Tie.{close}
 abbrev μ : Measures 1 kinds.ps ℕ
 μ κs a = a.1.1.0
 
-pub +chain-spec : {M : Type 1} → statement M
-+chain-spec = close μ λ t. lts.spec
+pub +chain_spec : {M : Type 1} → statement M
++chain_spec = close μ λ t. lts.spec
     (store-reads.Asked, store-reads.Learnt, and 1 kinds.ps (falls 1 kinds.ps ◌<◌ μ t) own.Pre, own.Post)
     (and 1 kinds.ps (is 1 kinds.ps μ t) own.Pre)
     own.Post

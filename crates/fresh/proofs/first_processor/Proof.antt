@@ -3,8 +3,8 @@ use Rattle.fresh.proofs.Laws.{freshly}
 use Rattle.fresh.proofs.first_processor.Statement.{statement}
 use Rattle.fresh.proofs.first_processor.Tie as tie
 
-pub first-processor-spec : {M : Type 1} → statement M
-first-processor-spec = tie.close (tie.spec
+pub first_processor_spec : {M : Type 1} → statement M
+first_processor_spec = tie.close (tie.spec
     (λ c κs. search rules)
     (λ c κs. search rules)
     (λ c κs. search rules)

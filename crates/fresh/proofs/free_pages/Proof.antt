@@ -7,8 +7,8 @@ returns : tie.Need-returns
 unfolding Fresh.freed
 returns c = cc
 
-pub free-pages-spec : {M : Type 1} → statement M
-free-pages-spec = tie.close (tie.spec
+pub free_pages_spec : {M : Type 1} → statement M
+free_pages_spec = tie.close (tie.spec
     (λ c κs. search rules)
     (λ c κs. search rules)
     (λ c κs. search rules)

@@ -7,8 +7,8 @@ returns : tie.Need-returns
 unfolding Fresh.timed
 returns c = cc
 
-pub set-clock-spec : {M : Type 1} → statement M
-set-clock-spec = tie.close (tie.spec
+pub set_clock_spec : {M : Type 1} → statement M
+set_clock_spec = tie.close (tie.spec
     (λ c κs. search rules)
     (λ c κs. search rules)
     (λ c. search rules)

@@ -4,9 +4,9 @@ use Rattle.model.proofs.Tests.{tests}
 use Rattle.fresh.proofs.startable.Statement.{statement}
 use Rattle.fresh.proofs.startable.Tie as tie
 
-pub startable-spec : {M : Type 1} → statement M
+pub startable_spec : {M : Type 1} → statement M
 unfolding Fresh.startable
-startable-spec = tie.close (tie.spec
+startable_spec = tie.close (tie.spec
     (λ c. search (rules, tests))
     (λ c. search (rules, tests))
     (λ c. search (rules, tests))

@@ -3,8 +3,8 @@ use Rattle.host.proofs.Laws.{coding}
 use Rattle.host.proofs.encode.Statement.{statement}
 use Rattle.host.proofs.encode.Tie as tie
 
-pub encode-spec : {M : Type 1} → statement M
-encode-spec = tie.close (tie.spec
+pub encode_spec : {M : Type 1} → statement M
+encode_spec = tie.close (tie.spec
     (λ c. search rules)
     (λ c. search rules)
     (λ c. search rules)

@@ -3,8 +3,8 @@ use Rattle.host.proofs.Laws.{coding}
 use Rattle.host.proofs.encode_held.Statement.{statement}
 use Rattle.host.proofs.encode_held.Tie as tie
 
-pub encode-held-spec : {M : Type 1} → statement M
-encode-held-spec = tie.close (tie.spec
+pub encode_held_spec : {M : Type 1} → statement M
+encode_held_spec = tie.close (tie.spec
     (λ c. search rules)
     (λ c κs. search rules)
     (λ c. search rules)

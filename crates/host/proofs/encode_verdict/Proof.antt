@@ -3,8 +3,8 @@ use Rattle.host.proofs.Laws.{coding}
 use Rattle.host.proofs.encode_verdict.Statement.{statement}
 use Rattle.host.proofs.encode_verdict.Tie as tie
 
-pub encode-verdict-spec : {M : Type 1} → statement M
-encode-verdict-spec = tie.close (tie.spec
+pub encode_verdict_spec : {M : Type 1} → statement M
+encode_verdict_spec = tie.close (tie.spec
     (λ c. search rules)
     (λ c. search rules)
     (λ c κs. search rules)

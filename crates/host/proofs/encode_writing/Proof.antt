@@ -3,8 +3,8 @@ use Rattle.host.proofs.Laws.{coding}
 use Rattle.host.proofs.encode_writing.Statement.{statement}
 use Rattle.host.proofs.encode_writing.Tie as tie
 
-pub encode-writing-spec : {M : Type 1} → statement M
-encode-writing-spec = tie.close (tie.spec
+pub encode_writing_spec : {M : Type 1} → statement M
+encode_writing_spec = tie.close (tie.spec
     (λ c. search rules)
     (λ c. search rules)
     (λ c κs. search rules)

@@ -3,8 +3,8 @@ use Rattle.host.proofs.Laws.{encodings}
 use Rattle.host.proofs.wik_fresh.Statement.{statement}
 use Rattle.host.proofs.wik_fresh.Tie as tie
 
-pub wik-fresh-spec : {M : Type 1} → statement M
-wik-fresh-spec = tie.close (tie.spec
+pub wik_fresh_spec : {M : Type 1} → statement M
+wik_fresh_spec = tie.close (tie.spec
     (λ c κs. search rules)
     (λ c κs. search rules)
     (λ c. search rules)

@@ -3,8 +3,8 @@ use Rattle.host.proofs.Laws.{encodings}
 use Rattle.host.proofs.wik_instruction.Statement.{statement}
 use Rattle.host.proofs.wik_instruction.Tie as tie
 
-pub wik-instruction-spec : {M : Type 1} → statement M
-wik-instruction-spec = tie.close (tie.spec
+pub wik_instruction_spec : {M : Type 1} → statement M
+wik_instruction_spec = tie.close (tie.spec
     (λ c κs. search rules)
     (λ c κs. search rules)
     (λ c. search rules)

@@ -3,8 +3,8 @@ use Rattle.host.proofs.Laws.{encodings}
 use Rattle.host.proofs.wik_set_registers.Statement.{statement}
 use Rattle.host.proofs.wik_set_registers.Tie as tie
 
-pub wik-set-registers-spec : {M : Type 1} → statement M
-wik-set-registers-spec = tie.close (tie.spec
+pub wik_set_registers_spec : {M : Type 1} → statement M
+wik_set_registers_spec = tie.close (tie.spec
     (λ c κs. search rules)
     (λ c κs. search rules)
     (λ c. search rules)

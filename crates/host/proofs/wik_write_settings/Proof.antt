@@ -3,8 +3,8 @@ use Rattle.host.proofs.Laws.{encodings}
 use Rattle.host.proofs.wik_write_settings.Statement.{statement}
 use Rattle.host.proofs.wik_write_settings.Tie as tie
 
-pub wik-write-settings-spec : {M : Type 1} → statement M
-wik-write-settings-spec = tie.close (tie.spec
+pub wik_write_settings_spec : {M : Type 1} → statement M
+wik_write_settings_spec = tie.close (tie.spec
     (λ c κs. search rules)
     (λ c κs. search rules)
     (λ c. search rules)

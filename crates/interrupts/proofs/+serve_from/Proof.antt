@@ -14,8 +14,8 @@ use Rattle.interrupts.proofs.+serve_from.Tie.{close}
 abbrev μ : Measures 1 kinds.ps ℕ
 μ κs a = a.1.1.1.1.0
 
-pub +serve-from-spec : {M : Type 1} → statement M
-+serve-from-spec = close μ λ t. lts.spec
+pub +serve_from_spec : {M : Type 1} → statement M
++serve_from_spec = close μ λ t. lts.spec
     (word-reads.Asked, word-reads.Learnt, strike-reads.Asked, strike-reads.Learnt, and 1 kinds.ps (falls 1 kinds.ps ◌<◌ μ t) own.Pre, own.Post)
     (and 1 kinds.ps (is 1 kinds.ps μ t) own.Pre)
     own.Post

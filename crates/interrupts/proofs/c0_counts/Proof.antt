@@ -5,9 +5,9 @@ use Rattle.interrupts.proofs.Laws.{counter_ends, counter_counts}
 use Rattle.interrupts.proofs.c0_counts.Statement.{statement}
 use Rattle.interrupts.proofs.c0_counts.Tie as tie
 
-pub c0-counts-spec : {M : Type 1} → statement M
+pub c0_counts_spec : {M : Type 1} → statement M
 unfolding Interrupt.c0_counts
-c0-counts-spec = tie.close (tie.spec
+c0_counts_spec = tie.close (tie.spec
     (λ c κs. search rules)
     (λ c κs. search rules)
     (λ c κs. search rules)

@@ -5,9 +5,9 @@ use Rattle.interrupts.proofs.Laws.{counter_ends, counter_counts}
 use Rattle.interrupts.proofs.c1_counts.Statement.{statement}
 use Rattle.interrupts.proofs.c1_counts.Tie as tie
 
-pub c1-counts-spec : {M : Type 1} → statement M
+pub c1_counts_spec : {M : Type 1} → statement M
 unfolding Interrupt.c1_counts
-c1-counts-spec = tie.close (tie.spec
+c1_counts_spec = tie.close (tie.spec
     (λ c κs. search rules)
     (λ c κs. search rules)
     (λ c. search rules)

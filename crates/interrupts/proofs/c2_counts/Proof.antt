@@ -5,9 +5,9 @@ use Rattle.interrupts.proofs.Laws.{counter_ends, counter_counts}
 use Rattle.interrupts.proofs.c2_counts.Statement.{statement}
 use Rattle.interrupts.proofs.c2_counts.Tie as tie
 
-pub c2-counts-spec : {M : Type 1} → statement M
+pub c2_counts_spec : {M : Type 1} → statement M
 unfolding Interrupt.c2_counts
-c2-counts-spec = tie.close (tie.spec
+c2_counts_spec = tie.close (tie.spec
     (λ c κs. search rules)
     (λ c κs. search rules)
     (λ c. search rules)

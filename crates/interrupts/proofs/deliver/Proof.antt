@@ -3,8 +3,8 @@ use Rattle.interrupts.proofs.Laws.{interrupts}
 use Rattle.interrupts.proofs.deliver.Statement.{statement}
 use Rattle.interrupts.proofs.deliver.Tie as tie
 
-pub deliver-spec : {M : Type 1} → statement M
-deliver-spec = tie.close (tie.spec
+pub deliver_spec : {M : Type 1} → statement M
+deliver_spec = tie.close (tie.spec
     (λ c κs. search rules)
     (λ c κs. search rules)
     (λ c κs. search rules)

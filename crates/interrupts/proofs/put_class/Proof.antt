@@ -4,9 +4,9 @@ use Rattle.processors.proofs.Ways.{ways}
 use Rattle.interrupts.proofs.put_class.Statement.{statement}
 use Rattle.interrupts.proofs.put_class.Tie as tie
 
-pub put-class-spec : {M : Type 1} → statement M
+pub put_class_spec : {M : Type 1} → statement M
 unfolding Interrupt.classed
-put-class-spec = tie.close (tie.spec
+put_class_spec = tie.close (tie.spec
     (λ c. search (rules, ways))
     (λ c. search (rules, ways))
     (λ c κs. search rules)

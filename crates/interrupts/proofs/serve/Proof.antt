@@ -7,8 +7,8 @@ returns : tie.Need-returns
 unfolding Interrupt.serve
 returns c = cc
 
-pub serve-spec : {M : Type 1} → statement M
-serve-spec = tie.close (tie.spec
+pub serve_spec : {M : Type 1} → statement M
+serve_spec = tie.close (tie.spec
     (λ c κs. search rules)
     (λ c. search rules)
     (λ c. search rules)

@@ -9,8 +9,8 @@ returns c = (search ends_yes, search turns_is)
 returns-2 : tie.Need-returns-2
 returns-2 c = (search ends_no, search counts_is)
 
-pub tick-spec : {M : Type 1} → statement M
-tick-spec = tie.close (tie.spec
+pub tick_spec : {M : Type 1} → statement M
+tick_spec = tie.close (tie.spec
     (λ c κs. search rules)
     (λ c κs. search rules)
     (λ c κs. search rules)

@@ -3,8 +3,8 @@ use Rattle.judge.proofs.Whole.{whole}
 use Rattle.judge.proofs.judged.Statement.{statement}
 use Rattle.judge.proofs.judged.Tie as tie
 
-pub judged-spec : {M : Type 1} → statement M
-judged-spec = tie.close (tie.spec
+pub judged_spec : {M : Type 1} → statement M
+judged_spec = tie.close (tie.spec
     (λ c κs. search rules)
     (λ c κs. search rules)
     (λ c. search (rules, whole))

@@ -3,8 +3,8 @@ use Rattle.judge.proofs.Whole.{whole}
 use Rattle.judge.proofs.linked.Statement.{statement}
 use Rattle.judge.proofs.linked.Tie as tie
 
-pub linked-spec : {M : Type 1} → statement M
-linked-spec = tie.close (tie.spec
+pub linked_spec : {M : Type 1} → statement M
+linked_spec = tie.close (tie.spec
     (λ c κs. search rules)
     (λ c κs. search (rules, whole))
     (λ c κs. search rules)

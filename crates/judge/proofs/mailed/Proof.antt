@@ -4,9 +4,9 @@ use Rattle.judge.proofs.Laws.{shortened}
 use Rattle.judge.proofs.mailed.Statement.{statement}
 use Rattle.judge.proofs.mailed.Tie as tie
 
-pub mailed-spec : {M : Type 1} → statement M
+pub mailed_spec : {M : Type 1} → statement M
 unfolding Tails.mailed
-mailed-spec = tie.close (tie.spec
+mailed_spec = tie.close (tie.spec
     (λ c κs. search rules)
     (λ c κs. search rules)
     (λ c. search (rules, shortened))

@@ -4,9 +4,9 @@ use Rattle.judge.proofs.Laws.{shortened}
 use Rattle.judge.proofs.paged.Statement.{statement}
 use Rattle.judge.proofs.paged.Tie as tie
 
-pub paged-spec : {M : Type 1} → statement M
+pub paged_spec : {M : Type 1} → statement M
 unfolding Tails.paged
-paged-spec = tie.close (tie.spec
+paged_spec = tie.close (tie.spec
     (λ c κs. search rules)
     (λ c κs. search rules)
     (λ c κs. search rules)

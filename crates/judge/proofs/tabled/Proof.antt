@@ -4,9 +4,9 @@ use Rattle.judge.proofs.Laws.{shortened}
 use Rattle.judge.proofs.tabled.Statement.{statement}
 use Rattle.judge.proofs.tabled.Tie as tie
 
-pub tabled-spec : {M : Type 1} → statement M
+pub tabled_spec : {M : Type 1} → statement M
 unfolding Tails.tabled
-tabled-spec = tie.close (tie.spec
+tabled_spec = tie.close (tie.spec
     (λ c κs. search rules)
     (λ c κs. search rules)
     (λ c κs. search rules)

@@ -4,9 +4,9 @@ use Rattle.judge.proofs.Laws.{shortened}
 use Rattle.judge.proofs.waited.Statement.{statement}
 use Rattle.judge.proofs.waited.Tie as tie
 
-pub waited-spec : {M : Type 1} → statement M
+pub waited_spec : {M : Type 1} → statement M
 unfolding Tails.waited
-waited-spec = tie.close (tie.spec
+waited_spec = tie.close (tie.spec
     (λ c κs. search rules)
     (λ c κs. search rules)
     (λ c κs. search rules)

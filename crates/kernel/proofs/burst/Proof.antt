@@ -4,9 +4,9 @@ use Rattle.kernel.proofs.Laws.{heads, sayings}
 use Rattle.kernel.proofs.burst.Statement.{statement}
 use Rattle.kernel.proofs.burst.Tie as tie
 
-pub burst-spec : {M : Type 1} → statement M
+pub burst_spec : {M : Type 1} → statement M
 unfolding Burst.burst
-burst-spec = tie.close (tie.spec
+burst_spec = tie.close (tie.spec
     (λ c κs. search rules)
     (λ c. search rules)
     (λ c κs. search (rules, heads, sayings))

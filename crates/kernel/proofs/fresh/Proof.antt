@@ -5,9 +5,9 @@ use Rattle.kernel.proofs.Laws.{started_is, said}
 use Rattle.kernel.proofs.fresh.Statement.{statement}
 use Rattle.kernel.proofs.fresh.Tie as tie
 
-pub fresh-spec : {M : Type 1} → statement M
+pub fresh_spec : {M : Type 1} → statement M
 unfolding Call.fresh
-fresh-spec = tie.close (tie.spec
+fresh_spec = tie.close (tie.spec
     (λ c. search (if_other, said))
     (λ c κs. search rules)
     (λ c κs. search rules)

@@ -4,9 +4,9 @@ use Rattle.kernel.proofs.Laws.{heads, sayings}
 use Rattle.kernel.proofs.instruction.Statement.{statement}
 use Rattle.kernel.proofs.instruction.Tie as tie
 
-pub instruction-spec : {M : Type 1} → statement M
+pub instruction_spec : {M : Type 1} → statement M
 unfolding Call.instruction
-instruction-spec = tie.close (tie.spec
+instruction_spec = tie.close (tie.spec
     (λ c κs. search rules)
     (λ c. search rules)
     (λ c κs. search (rules, heads, sayings))

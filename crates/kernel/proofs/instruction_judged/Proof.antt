@@ -5,9 +5,9 @@ use Rattle.kernel.proofs.Laws.{calls}
 use Rattle.kernel.proofs.instruction_judged.Statement.{statement}
 use Rattle.kernel.proofs.instruction_judged.Tie as tie
 
-pub instruction-judged-spec : {M : Type 1} → statement M
+pub instruction_judged_spec : {M : Type 1} → statement M
 unfolding Call.instruction_judged
-instruction-judged-spec = tie.close (tie.spec
+instruction_judged_spec = tie.close (tie.spec
     (λ c κs. search rules)
     (λ c. search rules)
     (λ c. search (rules, ways, calls))

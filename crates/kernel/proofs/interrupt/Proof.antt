@@ -4,9 +4,9 @@ use Rattle.kernel.proofs.Laws.{heads, sayings}
 use Rattle.kernel.proofs.interrupt.Statement.{statement}
 use Rattle.kernel.proofs.interrupt.Tie as tie
 
-pub interrupt-spec : {M : Type 1} → statement M
+pub interrupt_spec : {M : Type 1} → statement M
 unfolding Call.interrupt
-interrupt-spec = tie.close (tie.spec
+interrupt_spec = tie.close (tie.spec
     (λ c κs. search rules)
     (λ c. search rules)
     (λ c κs. search (rules, heads, sayings))

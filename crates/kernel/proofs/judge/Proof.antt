@@ -4,9 +4,9 @@ use Rattle.kernel.proofs.Laws.{heads, sayings}
 use Rattle.kernel.proofs.judge.Statement.{statement}
 use Rattle.kernel.proofs.judge.Tie as tie
 
-pub judge-spec : {M : Type 1} → statement M
+pub judge_spec : {M : Type 1} → statement M
 unfolding Call.judge
-judge-spec = tie.close (tie.spec
+judge_spec = tie.close (tie.spec
     (λ c κs. search rules)
     (λ c. search rules)
     (λ c. search rules)

@@ -5,9 +5,9 @@ use Rattle.kernel.proofs.Laws.{calls}
 use Rattle.kernel.proofs.read_judged.Statement.{statement}
 use Rattle.kernel.proofs.read_judged.Tie as tie
 
-pub read-judged-spec : {M : Type 1} → statement M
+pub read_judged_spec : {M : Type 1} → statement M
 unfolding Call.read_judged
-read-judged-spec = tie.close (tie.spec
+read_judged_spec = tie.close (tie.spec
     (λ c κs. search rules)
     (λ c. search (rules, ways, calls))
     (λ c κs. search rules)

@@ -4,9 +4,9 @@ use Rattle.kernel.proofs.Laws.{heads, sayings}
 use Rattle.kernel.proofs.read_registers.Statement.{statement}
 use Rattle.kernel.proofs.read_registers.Tie as tie
 
-pub read-registers-spec : {M : Type 1} → statement M
+pub read_registers_spec : {M : Type 1} → statement M
 unfolding Call.read_registers
-read-registers-spec = tie.close (tie.spec
+read_registers_spec = tie.close (tie.spec
     (λ c κs. search rules)
     (λ c. search rules)
     (λ c κs. search (rules, heads, sayings))

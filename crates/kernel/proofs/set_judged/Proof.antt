@@ -5,9 +5,9 @@ use Rattle.kernel.proofs.Laws.{calls}
 use Rattle.kernel.proofs.set_judged.Statement.{statement}
 use Rattle.kernel.proofs.set_judged.Tie as tie
 
-pub set-judged-spec : {M : Type 1} → statement M
+pub set_judged_spec : {M : Type 1} → statement M
 unfolding Call.set_judged
-set-judged-spec = tie.close (tie.spec
+set_judged_spec = tie.close (tie.spec
     (λ c κs. search rules)
     (λ c. search rules)
     (λ c. search (rules, ways, calls))

@@ -4,9 +4,9 @@ use Rattle.kernel.proofs.Laws.{heads, sayings}
 use Rattle.kernel.proofs.set_registers.Statement.{statement}
 use Rattle.kernel.proofs.set_registers.Tie as tie
 
-pub set-registers-spec : {M : Type 1} → statement M
+pub set_registers_spec : {M : Type 1} → statement M
 unfolding Call.set_registers
-set-registers-spec = tie.close (tie.spec
+set_registers_spec = tie.close (tie.spec
     (λ c κs. search rules)
     (λ c. search rules)
     (λ c κs. search (rules, heads, sayings))

@@ -3,8 +3,8 @@ use Rattle.kernel.proofs.Laws.{sayings}
 use Rattle.kernel.proofs.write_settings.Statement.{statement}
 use Rattle.kernel.proofs.write_settings.Tie as tie
 
-pub write-settings-spec : {M : Type 1} → statement M
-write-settings-spec = tie.close (tie.spec
+pub write_settings_spec : {M : Type 1} → statement M
+write_settings_spec = tie.close (tie.spec
     (λ c κs. search rules)
     (λ c. search rules)
     (λ c. search (rules, sayings)))

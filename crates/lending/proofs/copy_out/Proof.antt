@@ -3,8 +3,8 @@ use Rattle.lending.proofs.Parts.{parts}
 use Rattle.lending.proofs.copy_out.Statement.{statement}
 use Rattle.lending.proofs.copy_out.Tie as tie
 
-pub copy-out-spec : {M : Type 1} → statement M
-copy-out-spec = tie.close (tie.spec
+pub copy_out_spec : {M : Type 1} → statement M
+copy_out_spec = tie.close (tie.spec
     (λ c. search rules)
     (λ c. search rules)
     (λ c. search rules)

@@ -3,8 +3,8 @@ use Rattle.lending.proofs.Parts.{parts}
 use Rattle.lending.proofs.fresh_from.Statement.{statement}
 use Rattle.lending.proofs.fresh_from.Tie as tie
 
-pub fresh-from-spec : {M : Type 1} → statement M
-fresh-from-spec = tie.close (tie.spec
+pub fresh_from_spec : {M : Type 1} → statement M
+fresh_from_spec = tie.close (tie.spec
     (λ c. search rules)
     (λ c κs. search rules)
     (λ c. search rules)

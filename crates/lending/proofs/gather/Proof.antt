@@ -15,8 +15,8 @@ invariant-loop list₀ given count left₀ list left =
 abbrev decreases-loop : tie.decreases-loop
 decreases-loop list₀ given count left₀ list left = left
 
-pub gather-spec : {M : Type 1} → statement M
-gather-spec = tie.close (tie.spec invariant-loop decreases-loop
+pub gather_spec : {M : Type 1} → statement M
+gather_spec = tie.close (tie.spec invariant-loop decreases-loop
     (λ c. search rules)
     (λ c. search rules)
     (λ c. search rules)

@@ -3,8 +3,8 @@ use Rattle.lending.proofs.Parts.{parts}
 use Rattle.lending.proofs.write_and_copy_back.Statement.{statement}
 use Rattle.lending.proofs.write_and_copy_back.Tie as tie
 
-pub write-and-copy-back-spec : {M : Type 1} → statement M
-write-and-copy-back-spec = tie.close (tie.spec
+pub write_and_copy_back_spec : {M : Type 1} → statement M
+write_and_copy_back_spec = tie.close (tie.spec
     (λ c. search rules)
     (λ c. search rules)
     (λ c. search rules)

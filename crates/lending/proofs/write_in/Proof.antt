@@ -3,8 +3,8 @@ use Rattle.lending.proofs.Parts.{parts}
 use Rattle.lending.proofs.write_in.Statement.{statement}
 use Rattle.lending.proofs.write_in.Tie as tie
 
-pub write-in-spec : {M : Type 1} → statement M
-write-in-spec = tie.close (tie.spec
+pub write_in_spec : {M : Type 1} → statement M
+write_in_spec = tie.close (tie.spec
     (λ c. search rules)
     (λ c κs. search rules)
     (λ c. search rules)

@@ -15,8 +15,8 @@ use Rattle.lists.proofs.+bearers.Tie.{close}
 abbrev μ : Measures 1 kinds.ps ℕ
 μ κs a = a.1.1.1.0
 
-pub +bearers-spec : {M : Type 1} → statement M
-+bearers-spec = close μ λ t. lts.spec (
+pub +bearers_spec : {M : Type 1} → statement M
++bearers_spec = close μ λ t. lts.spec (
   at_reads.Asked,
   at_reads.Learnt,
   word-reads.Asked,

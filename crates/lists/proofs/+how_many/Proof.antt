@@ -14,8 +14,8 @@ use Rattle.lists.proofs.+how_many.Tie.{close}
 abbrev μ : Measures 1 kinds.ps ℕ
 μ κs a = a.1.1.1.0
 
-pub +how-many-spec : {M : Type 1} → statement M
-+how-many-spec = close μ λ t. lts.spec
+pub +how_many_spec : {M : Type 1} → statement M
++how_many_spec = close μ λ t. lts.spec
     (at_reads.Asked, at_reads.Learnt, place-reads.Asked, place-reads.Learnt, and 1 kinds.ps (falls 1 kinds.ps ◌<◌ μ t) own.Pre, own.Post)
     (and 1 kinds.ps (is 1 kinds.ps μ t) own.Pre)
     own.Post

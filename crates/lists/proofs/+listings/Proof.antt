@@ -14,8 +14,8 @@ use Rattle.lists.proofs.+listings.Tie.{close}
 abbrev μ : Measures 1 kinds.ps ℕ
 μ κs a = a.1.1.1.0
 
-pub +listings-spec : {M : Type 1} → statement M
-+listings-spec = close μ λ t. lts.spec
+pub +listings_spec : {M : Type 1} → statement M
++listings_spec = close μ λ t. lts.spec
     (at_reads.Asked, at_reads.Learnt, place-reads.Asked, place-reads.Learnt, and 1 kinds.ps (falls 1 kinds.ps ◌<◌ μ t) own.Pre, own.Post)
     (and 1 kinds.ps (is 1 kinds.ps μ t) own.Pre)
     own.Post

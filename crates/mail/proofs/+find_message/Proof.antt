@@ -15,8 +15,8 @@ use Rattle.mail.proofs.+find_message.Tie.{close}
 abbrev μ : Measures 1 kinds.ps ℕ
 μ κs a = a.1.1.1.1.0
 
-pub +find-message-spec : {M : Type 1} → statement M
-+find-message-spec = close μ λ t. lts.spec (
+pub +find_message_spec : {M : Type 1} → statement M
++find_message_spec = close μ λ t. lts.spec (
   at_reads.Asked,
   at_reads.Learnt,
   matches-reads.Asked,

@@ -15,8 +15,8 @@ use Rattle.mail.proofs.+test_q1.Tie.{close}
 abbrev μ : Measures 1 kinds.ps ℕ
 μ κs a = a.1.1.1.1.0
 
-pub +test-q1-spec : {M : Type 1} → statement M
-+test-q1-spec = close μ λ t. lts.spec (
+pub +test_q1_spec : {M : Type 1} → statement M
++test_q1_spec = close μ λ t. lts.spec (
   word-reads.Asked,
   word-reads.Learnt,
   matches-reads.Asked,

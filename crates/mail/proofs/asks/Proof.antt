@@ -4,8 +4,8 @@ use Rattle.model.proofs.Tests.{tests}
 use Rattle.mail.proofs.asks.Statement.{statement}
 use Rattle.mail.proofs.asks.Tie as tie
 
-pub asks-spec : {M : Type 1} → statement M
+pub asks_spec : {M : Type 1} → statement M
 unfolding Mail.asks
-asks-spec = tie.close (tie.spec
+asks_spec = tie.close (tie.spec
     (λ c. search (rules, tests))
     (λ c. search (rules, tests)))

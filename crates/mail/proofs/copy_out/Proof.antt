@@ -7,8 +7,8 @@ returns : tie.Need-returns
 unfolding Mail.copy_out
 returns c = cc
 
-pub copy-out-spec : {M : Type 1} → statement M
-copy-out-spec = tie.close (tie.spec
+pub copy_out_spec : {M : Type 1} → statement M
+copy_out_spec = tie.close (tie.spec
     (λ c κs. search rules)
     (λ c κs. search rules)
     (λ c κs. search rules)

@@ -7,8 +7,8 @@ returns : tie.Need-returns
 unfolding Mail.deliver
 returns c = cc
 
-pub deliver-spec : {M : Type 1} → statement M
-deliver-spec = tie.close (tie.spec
+pub deliver_spec : {M : Type 1} → statement M
+deliver_spec = tie.close (tie.spec
     (λ c κs. search rules)
     (λ c κs. search rules)
     (λ c κs. search rules)

@@ -3,8 +3,8 @@ use Rattle.mail.proofs.Laws.{mails}
 use Rattle.mail.proofs.fits.Statement.{statement}
 use Rattle.mail.proofs.fits.Tie as tie
 
-pub fits-spec : {M : Type 1} → statement M
-fits-spec = tie.close (tie.spec
+pub fits_spec : {M : Type 1} → statement M
+fits_spec = tie.close (tie.spec
     (λ c κs. search rules)
     (λ c κs. search rules)
     (λ c. search (rules, mails))

@@ -7,8 +7,8 @@ returns : tie.Need-returns
 unfolding Mail.make_notice
 returns c = cc
 
-pub make-notice-spec : {M : Type 1} → statement M
-make-notice-spec = tie.close (tie.spec
+pub make_notice_spec : {M : Type 1} → statement M
+make_notice_spec = tie.close (tie.spec
     (λ c. search rules)
     (λ c. search rules)
     (λ c κs. search rules)

@@ -7,8 +7,8 @@ returns : tie.Need-returns
 unfolding Mail.matches
 returns c = cc
 
-pub matches-spec : {M : Type 1} → statement M
-matches-spec = tie.close (tie.spec
+pub matches_spec : {M : Type 1} → statement M
+matches_spec = tie.close (tie.spec
     (λ c κs. search rules)
     (λ c κs. search rules)
     returns)

@@ -7,8 +7,8 @@ returns : tie.Need-returns
 unfolding Mail.move
 returns c = cc
 
-pub move-message-spec : {M : Type 1} → statement M
-move-message-spec = tie.close (tie.spec
+pub move_message_spec : {M : Type 1} → statement M
+move_message_spec = tie.close (tie.spec
     (λ c κs. search rules)
     (λ c κs. search rules)
     (λ c κs. search rules)

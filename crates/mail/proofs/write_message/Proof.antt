@@ -3,8 +3,8 @@ use Rattle.mail.proofs.Laws.{mails}
 use Rattle.mail.proofs.write_message.Statement.{statement}
 use Rattle.mail.proofs.write_message.Tie as tie
 
-pub write-message-spec : {M : Type 1} → statement M
-write-message-spec = tie.close (tie.spec
+pub write_message_spec : {M : Type 1} → statement M
+write_message_spec = tie.close (tie.spec
     (λ c κs. search rules)
     (λ c κs. search rules)
     (λ c. search rules)

@@ -5,9 +5,9 @@ use Rattle.pages.proofs.Laws.{pages}
 use Rattle.pages.proofs.first_free.Statement.{statement}
 use Rattle.pages.proofs.first_free.Tie as tie
 
-pub first-free-spec : {M : Type 1} → statement M
+pub first_free_spec : {M : Type 1} → statement M
 unfolding Page.first_free
-first-free-spec = tie.close (tie.spec
+first_free_spec = tie.close (tie.spec
     (λ c κs. search rules)
     (λ c. search rules)
     (λ c. search (rules, ways, pages))

@@ -7,8 +7,8 @@ returns : tie.Need-returns
 unfolding Page.free_page
 returns c = cc
 
-pub free-page-spec : {M : Type 1} → statement M
-free-page-spec = tie.close (tie.spec
+pub free_page_spec : {M : Type 1} → statement M
+free_page_spec = tie.close (tie.spec
     (λ c κs. search rules)
     (λ c κs. search rules)
     (λ c κs. search rules)

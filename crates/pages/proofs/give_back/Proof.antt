@@ -5,9 +5,9 @@ use Rattle.pages.proofs.Laws.{pages}
 use Rattle.pages.proofs.give_back.Statement.{statement}
 use Rattle.pages.proofs.give_back.Tie as tie
 
-pub give-back-spec : {M : Type 1} → statement M
+pub give_back_spec : {M : Type 1} → statement M
 unfolding Page.give_back
-give-back-spec = tie.close (tie.spec
+give_back_spec = tie.close (tie.spec
     (λ c κs. search rules)
     (λ c κs. search rules)
     (λ c. search rules)

@@ -7,8 +7,8 @@ returns : tie.Need-returns
 unfolding Page.grant_page
 returns c = cc
 
-pub grant-page-spec : {M : Type 1} → statement M
-grant-page-spec = tie.close (tie.spec
+pub grant_page_spec : {M : Type 1} → statement M
+grant_page_spec = tie.close (tie.spec
     (λ c κs. search rules)
     (λ c κs. search rules)
     (λ c. search rules)

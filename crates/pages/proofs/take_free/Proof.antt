@@ -7,8 +7,8 @@ returns : tie.Need-returns
 unfolding Page.take_free
 returns c = cc
 
-pub take-free-spec : {M : Type 1} → statement M
-take-free-spec = tie.close (tie.spec
+pub take_free_spec : {M : Type 1} → statement M
+take_free_spec = tie.close (tie.spec
     (λ c κs. search rules)
     (λ c κs. search rules)
     (λ c κs. search rules)

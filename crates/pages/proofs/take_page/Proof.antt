@@ -3,8 +3,8 @@ use Rattle.pages.proofs.Laws.{pages}
 use Rattle.pages.proofs.take_page.Statement.{statement}
 use Rattle.pages.proofs.take_page.Tie as tie
 
-pub take-page-spec : {M : Type 1} → statement M
-take-page-spec = tie.close (tie.spec
+pub take_page_spec : {M : Type 1} → statement M
+take_page_spec = tie.close (tie.spec
     (λ c κs. search rules)
     (λ c κs. search rules)
     (λ c. search rules)

@@ -15,8 +15,8 @@ use Rattle.processors.proofs.+find_name.Tie.{close}
 abbrev μ : Measures 1 kinds.ps ℕ
 μ κs a = a.1.1.1.0
 
-pub +find-name-spec : {M : Type 1} → statement M
-+find-name-spec = close μ λ t. lts.spec (
+pub +find_name_spec : {M : Type 1} → statement M
++find_name_spec = close μ λ t. lts.spec (
   at_reads.Asked,
   at_reads.Learnt,
   is-named-reads.Asked,

@@ -15,8 +15,8 @@ use Rattle.processors.proofs.+seat.Tie.{close}
 abbrev μ : Measures 1 kinds.ps ℕ
 μ κs a = a.1.1.0
 
-pub +seat-spec : {M : Type 1} → statement M
-+seat-spec = close μ λ t. lts.spec (
+pub +seat_spec : {M : Type 1} → statement M
++seat_spec = close μ λ t. lts.spec (
   queued-reads.Asked,
   queued-reads.Learnt,
   place-reads.Asked,

@@ -3,8 +3,8 @@ use Rattle.processors.proofs.Records.{records}
 use Rattle.processors.proofs.accumulate.Statement.{statement}
 use Rattle.processors.proofs.accumulate.Tie as tie
 
-pub accumulate-spec : {M : Type 1} → statement M
-accumulate-spec = tie.close (tie.spec
+pub accumulate_spec : {M : Type 1} → statement M
+accumulate_spec = tie.close (tie.spec
     (λ c κs. search rules)
     (λ c κs. search rules)
     (λ c κs. search rules)

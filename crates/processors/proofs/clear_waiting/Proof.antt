@@ -3,8 +3,8 @@ use Rattle.processors.proofs.Laws.{clear_is}
 use Rattle.processors.proofs.clear_waiting.Statement.{statement}
 use Rattle.processors.proofs.clear_waiting.Tie as tie
 
-pub clear-waiting-spec : {M : Type 1} → statement M
-clear-waiting-spec = tie.close (tie.spec
+pub clear_waiting_spec : {M : Type 1} → statement M
+clear_waiting_spec = tie.close (tie.spec
     (λ c κs. search rules)
     (λ c. search rules)
     (λ c. search rules)

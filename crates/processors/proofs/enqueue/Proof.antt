@@ -3,8 +3,8 @@ use Rattle.processors.proofs.Laws.{enqueue_is}
 use Rattle.processors.proofs.enqueue.Statement.{statement}
 use Rattle.processors.proofs.enqueue.Tie as tie
 
-pub enqueue-spec : {M : Type 1} → statement M
-enqueue-spec = tie.close (tie.spec
+pub enqueue_spec : {M : Type 1} → statement M
+enqueue_spec = tie.close (tie.spec
     (λ c κs. search rules)
     (λ c κs. search rules)
     (λ c κs. search rules)

@@ -7,7 +7,7 @@ returns : tie.Need-returns
 unfolding Processor.is_named
 returns c = cc
 
-pub is-named-spec : {M : Type 1} → statement M
-is-named-spec = tie.close (tie.spec
+pub is_named_spec : {M : Type 1} → statement M
+is_named_spec = tie.close (tie.spec
     (λ c κs. search rules)
     returns)

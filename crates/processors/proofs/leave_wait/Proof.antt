@@ -3,8 +3,8 @@ use Rattle.processors.proofs.Laws.{waiting}
 use Rattle.processors.proofs.leave_wait.Statement.{statement}
 use Rattle.processors.proofs.leave_wait.Tie as tie
 
-pub leave-wait-spec : {M : Type 1} → statement M
-leave-wait-spec = tie.close (tie.spec
+pub leave_wait_spec : {M : Type 1} → statement M
+leave_wait_spec = tie.close (tie.spec
     (λ c κs. search rules)
     (λ c κs. search rules)
     (λ c κs. search rules)

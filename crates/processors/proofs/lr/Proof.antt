@@ -7,8 +7,8 @@ returns : tie.Need-returns
 unfolding Processor.registers_of
 returns c = (cc, search rules)
 
-pub lr-spec : {M : Type 1} → statement M
-lr-spec = tie.close (tie.spec
+pub lr_spec : {M : Type 1} → statement M
+lr_spec = tie.close (tie.spec
     (λ c κs. search rules)
     (λ c κs. search rules)
     returns)

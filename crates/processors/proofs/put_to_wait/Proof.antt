@@ -7,8 +7,8 @@ returns : tie.Need-returns
 unfolding Wait.put_to_wait
 returns c = cc
 
-pub put-to-wait-spec : {M : Type 1} → statement M
-put-to-wait-spec = tie.close (tie.spec
+pub put_to_wait_spec : {M : Type 1} → statement M
+put_to_wait_spec = tie.close (tie.spec
     (λ c κs. search rules)
     (λ c. search rules)
     (λ c. search rules)

@@ -7,8 +7,8 @@ returns : tie.Need-returns
 unfolding Wait.queued
 returns c = cc
 
-pub queued-spec : {M : Type 1} → statement M
-queued-spec = tie.close (tie.spec
+pub queued_spec : {M : Type 1} → statement M
+queued_spec = tie.close (tie.spec
     (λ c. search rules)
     (λ c κs. search rules)
     returns)

@@ -5,7 +5,7 @@ use Rattle.processors.proofs.ready.Tie as tie
 returns : tie.Need-returns
 returns c = cc
 
-pub ready-spec : {M : Type 1} → statement M
-ready-spec = tie.close (tie.spec
+pub ready_spec : {M : Type 1} → statement M
+ready_spec = tie.close (tie.spec
     (λ c κs. search rules)
     returns)

@@ -3,8 +3,8 @@ use Rattle.processors.proofs.Records.{records}
 use Rattle.processors.proofs.stop.Statement.{statement}
 use Rattle.processors.proofs.stop.Tie as tie
 
-pub stop-spec : {M : Type 1} → statement M
-stop-spec = tie.close (tie.spec
+pub stop_spec : {M : Type 1} → statement M
+stop_spec = tie.close (tie.spec
     (λ c κs. search rules)
     (λ c κs. search rules)
     (λ c κs. search rules)

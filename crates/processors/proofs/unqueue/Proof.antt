@@ -7,8 +7,8 @@ returns : tie.Need-returns
 unfolding Wait.unqueue
 returns c = cc
 
-pub unqueue-spec : {M : Type 1} → statement M
-unqueue-spec = tie.close (tie.spec
+pub unqueue_spec : {M : Type 1} → statement M
+unqueue_spec = tie.close (tie.spec
     (λ c κs. search rules)
     (λ c κs. search rules)
     (λ c κs. search rules)

@@ -3,8 +3,8 @@ use Rattle.promised.proofs.Laws.{goings}
 use Rattle.promised.proofs.interrupt.Statement.{statement}
 use Rattle.promised.proofs.interrupt.Tie as tie
 
-pub interrupt-spec : {M : Type 1} → statement M
-interrupt-spec = tie.close (tie.spec
+pub interrupt_spec : {M : Type 1} → statement M
+interrupt_spec = tie.close (tie.spec
     (λ c κs. search rules)
     (λ c. search rules)
     (λ c. search (rules, goings)))

@@ -15,8 +15,8 @@ use Rattle.queues.proofs.+find_page.Tie.{close}
 abbrev μ : Measures 1 kinds.ps ℕ
 μ κs a = a.1.1.1.0
 
-pub +find-page-spec : {M : Type 1} → statement M
-+find-page-spec = close μ λ t. lts.spec (
+pub +find_page_spec : {M : Type 1} → statement M
++find_page_spec = close μ λ t. lts.spec (
   at_reads.Asked,
   at_reads.Learnt,
   is-page-reads.Asked,

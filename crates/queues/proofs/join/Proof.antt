@@ -3,8 +3,8 @@ use Rattle.queues.proofs.Laws.{join_is}
 use Rattle.queues.proofs.join.Statement.{statement}
 use Rattle.queues.proofs.join.Tie as tie
 
-pub join-spec : {M : Type 1} → statement M
-join-spec = tie.close (tie.spec
+pub join_spec : {M : Type 1} → statement M
+join_spec = tie.close (tie.spec
     (λ c κs. search rules)
     (λ c κs. search rules)
     (λ c κs. search rules)

@@ -3,8 +3,8 @@ use Rattle.files.proofs.Laws.{reading}
 use Rattle.report.proofs.compare.Statement.{statement}
 use Rattle.report.proofs.compare.Tie as tie
 
-pub compare-spec : {M : Type 1} → statement M
-compare-spec = tie.close (tie.spec
+pub compare_spec : {M : Type 1} → statement M
+compare_spec = tie.close (tie.spec
     (λ c. search rules)
     (λ c κs. search rules)
     (λ c. search rules)

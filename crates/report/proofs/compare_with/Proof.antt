@@ -3,8 +3,8 @@ use Rattle.files.proofs.Laws.{reading}
 use Rattle.report.proofs.compare_with.Statement.{statement}
 use Rattle.report.proofs.compare_with.Tie as tie
 
-pub compare-with-spec : {M : Type 1} → statement M
-compare-with-spec = tie.close (tie.spec
+pub compare_with_spec : {M : Type 1} → statement M
+compare_with_spec = tie.close (tie.spec
     (λ c. search rules)
     (λ c κs. search rules)
     (λ c. search rules)

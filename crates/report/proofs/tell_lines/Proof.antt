@@ -14,8 +14,8 @@ invariant-loop first second output₀ kept₀ cursor₀ output kept cursor = (le
 abbrev decreases-loop : tie.decreases-loop
 decreases-loop first second output₀ kept₀ cursor₀ output kept cursor = length (lines_from cursor first second)
 
-pub tell-lines-spec : {M : Type 1} → statement M
-tell-lines-spec = tie.close (tie.spec invariant-loop decreases-loop
+pub tell_lines_spec : {M : Type 1} → statement M
+tell_lines_spec = tie.close (tie.spec invariant-loop decreases-loop
     (λ c. search rules)
     (λ c κs. search rules)
     (λ c. search rules)

@@ -4,8 +4,8 @@ use Rattle.script.proofs.Laws.{tests}
 use Rattle.script.proofs.burst.Statement.{statement}
 use Rattle.script.proofs.burst.Tie as tie
 
-pub burst-spec : {M : Type 1} → statement M
+pub burst_spec : {M : Type 1} → statement M
 unfolding Script.burst
-burst-spec = tie.close (tie.spec
+burst_spec = tie.close (tie.spec
     (λ c. search (rules, tests))
     (λ c. search (rules, tests)))

@@ -4,9 +4,9 @@ use Rattle.script.proofs.Laws.{orders}
 use Rattle.script.proofs.call_order.Statement.{statement}
 use Rattle.script.proofs.call_order.Tie as tie
 
-pub call-order-spec : {M : Type 1} → statement M
+pub call_order_spec : {M : Type 1} → statement M
 unfolding Script.call_order
-call-order-spec = tie.close (tie.spec
+call_order_spec = tie.close (tie.spec
     (λ c. search rules)
     (λ c κs. search rules)
     (λ c. search rules)

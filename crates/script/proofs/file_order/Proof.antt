@@ -4,9 +4,9 @@ use Rattle.script.proofs.Laws.{orders}
 use Rattle.script.proofs.file_order.Statement.{statement}
 use Rattle.script.proofs.file_order.Tie as tie
 
-pub file-order-spec : {M : Type 1} → statement M
+pub file_order_spec : {M : Type 1} → statement M
 unfolding Script.file_order
-file-order-spec = tie.close (tie.spec
+file_order_spec = tie.close (tie.spec
     (λ c. search rules)
     (λ c κs. search rules)
     (λ c. search rules)

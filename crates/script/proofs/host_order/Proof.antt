@@ -4,9 +4,9 @@ use Rattle.script.proofs.Laws.{orders}
 use Rattle.script.proofs.host_order.Statement.{statement}
 use Rattle.script.proofs.host_order.Tie as tie
 
-pub host-order-spec : {M : Type 1} → statement M
+pub host_order_spec : {M : Type 1} → statement M
 unfolding Script.host_order
-host-order-spec = tie.close (tie.spec
+host_order_spec = tie.close (tie.spec
     (λ c. search rules)
     (λ c κs. search rules)
     (λ c. search rules)

@@ -4,9 +4,9 @@ use Rattle.script.proofs.Laws.{tests}
 use Rattle.script.proofs.interrupt.Statement.{statement}
 use Rattle.script.proofs.interrupt.Tie as tie
 
-pub interrupt-spec : {M : Type 1} → statement M
+pub interrupt_spec : {M : Type 1} → statement M
 unfolding Script.interrupt
-interrupt-spec = tie.close (tie.spec
+interrupt_spec = tie.close (tie.spec
     (λ c. search rules)
     (λ c. search (rules, tests))
     (λ c. search rules)

@@ -4,9 +4,9 @@ use Rattle.script.proofs.Laws.{orders}
 use Rattle.script.proofs.look_order.Statement.{statement}
 use Rattle.script.proofs.look_order.Tie as tie
 
-pub look-order-spec : {M : Type 1} → statement M
+pub look_order_spec : {M : Type 1} → statement M
 unfolding Script.look_order
-look-order-spec = tie.close (tie.spec
+look_order_spec = tie.close (tie.spec
     (λ c. search rules)
     (λ c κs. search rules)
     (λ c κs. search rules)

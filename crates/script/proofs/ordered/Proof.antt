@@ -3,8 +3,8 @@ use Rattle.script.proofs.Laws.{orders}
 use Rattle.script.proofs.ordered.Statement.{statement}
 use Rattle.script.proofs.ordered.Tie as tie
 
-pub ordered-spec : {M : Type 1} → statement M
-ordered-spec = tie.close (tie.spec
+pub ordered_spec : {M : Type 1} → statement M
+ordered_spec = tie.close (tie.spec
     (λ c. search rules)
     (λ c κs. search rules)
     (λ c κs. search rules)

@@ -7,8 +7,8 @@ returns : tie.Need-returns
 unfolding Script.parts_written
 returns c = cc
 
-pub parts-written-spec : {M : Type 1} → statement M
-parts-written-spec = tie.close (tie.spec
+pub parts_written_spec : {M : Type 1} → statement M
+parts_written_spec = tie.close (tie.spec
     (λ c. search rules)
     (λ c. search rules)
     (λ c. search rules)

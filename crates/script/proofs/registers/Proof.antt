@@ -7,8 +7,8 @@ returns : tie.Need-returns
 unfolding Script.registers
 returns c = cc
 
-pub registers-spec : {M : Type 1} → statement M
-registers-spec = tie.close (tie.spec
+pub registers_spec : {M : Type 1} → statement M
+registers_spec = tie.close (tie.spec
     (λ c. search rules)
     (λ c. search rules)
     (λ c. search rules)

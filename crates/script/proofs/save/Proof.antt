@@ -3,8 +3,8 @@ use Rattle.script.proofs.Laws.{orders}
 use Rattle.script.proofs.save.Statement.{statement}
 use Rattle.script.proofs.save.Tie as tie
 
-pub save-spec : {M : Type 1} → statement M
-save-spec = tie.close (tie.spec
+pub save_spec : {M : Type 1} → statement M
+save_spec = tie.close (tie.spec
     (λ c. search rules)
     (λ c κs. search rules)
     (λ c. search rules)

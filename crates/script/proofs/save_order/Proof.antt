@@ -4,9 +4,9 @@ use Rattle.script.proofs.Laws.{orders}
 use Rattle.script.proofs.save_order.Statement.{statement}
 use Rattle.script.proofs.save_order.Tie as tie
 
-pub save-order-spec : {M : Type 1} → statement M
+pub save_order_spec : {M : Type 1} → statement M
 unfolding Script.save_order
-save-order-spec = tie.close (tie.spec
+save_order_spec = tie.close (tie.spec
     (λ c. search rules)
     (λ c κs. search rules)
     (λ c κs. search rules)

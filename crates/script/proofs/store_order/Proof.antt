@@ -4,9 +4,9 @@ use Rattle.script.proofs.Laws.{orders}
 use Rattle.script.proofs.store_order.Statement.{statement}
 use Rattle.script.proofs.store_order.Tie as tie
 
-pub store-order-spec : {M : Type 1} → statement M
+pub store_order_spec : {M : Type 1} → statement M
 unfolding Script.store_order
-store-order-spec = tie.close (tie.spec
+store_order_spec = tie.close (tie.spec
     (λ c κs. search rules)
     (λ c. search rules)
     (λ c κs. search rules)

@@ -4,8 +4,8 @@ use Rattle.script.proofs.Laws.{tests}
 use Rattle.script.proofs.valued.Statement.{statement}
 use Rattle.script.proofs.valued.Tie as tie
 
-pub valued-spec : {M : Type 1} → statement M
+pub valued_spec : {M : Type 1} → statement M
 unfolding Script.valued
-valued-spec = tie.close (tie.spec
+valued_spec = tie.close (tie.spec
     (λ c. search (rules, tests))
     (λ c. search (rules, tests)))

@@ -4,9 +4,9 @@ use Rattle.script.proofs.Laws.{tests}
 use Rattle.script.proofs.values.Statement.{statement}
 use Rattle.script.proofs.values.Tie as tie
 
-pub values-spec : {M : Type 1} → statement M
+pub values_spec : {M : Type 1} → statement M
 unfolding Script.values
-values-spec = tie.close (tie.spec
+values_spec = tie.close (tie.spec
     (λ c. search (rules, tests))
     (λ c. search (rules, tests))
     (λ c. search rules)

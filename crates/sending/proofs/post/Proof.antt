@@ -3,8 +3,8 @@ use Rattle.sending.proofs.Laws.{sends}
 use Rattle.sending.proofs.post.Statement.{statement}
 use Rattle.sending.proofs.post.Tie as tie
 
-pub post-spec : {M : Type 1} → statement M
-post-spec = tie.close (tie.spec
+pub post_spec : {M : Type 1} → statement M
+post_spec = tie.close (tie.spec
     (λ c κs. search rules)
     (λ c κs. search rules)
     (λ c κs. search rules)

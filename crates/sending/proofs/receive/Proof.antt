@@ -3,8 +3,8 @@ use Rattle.sending.proofs.Laws.{received_is}
 use Rattle.sending.proofs.receive.Statement.{statement}
 use Rattle.sending.proofs.receive.Tie as tie
 
-pub receive-spec : {M : Type 1} → statement M
-receive-spec = tie.close (tie.spec
+pub receive_spec : {M : Type 1} → statement M
+receive_spec = tie.close (tie.spec
     (λ c κs. search rules)
     (λ c κs. search rules)
     (λ c κs. search rules)

@@ -3,8 +3,8 @@ use Rattle.sending.proofs.Laws.{rme_none, rme_done, rme_guarded}
 use Rattle.sending.proofs.rme.Statement.{statement}
 use Rattle.sending.proofs.rme.Tie as tie
 
-pub rme-spec : {M : Type 1} → statement M
-rme-spec = tie.close (tie.spec
+pub rme_spec : {M : Type 1} → statement M
+rme_spec = tie.close (tie.spec
     (λ c κs. search rules)
     (λ c κs. search rules)
     (λ c. search rules)

@@ -4,9 +4,9 @@ use Rattle.answers.proofs.Laws.{pages}
 use Rattle.sending.proofs.send.Statement.{statement}
 use Rattle.sending.proofs.send.Tie as tie
 
-pub send-spec : {M : Type 1} → statement M
+pub send_spec : {M : Type 1} → statement M
 unfolding Operate.sent
-send-spec = tie.close (tie.spec
+send_spec = tie.close (tie.spec
     (λ c κs. search rules)
     (λ c κs. search rules)
     (λ c κs. search rules)

@@ -4,9 +4,9 @@ use Rattle.processors.proofs.Ways.{ways}
 use Rattle.sending.proofs.sme.Statement.{statement}
 use Rattle.sending.proofs.sme.Tie as tie
 
-pub sme-spec : {M : Type 1} → statement M
+pub sme_spec : {M : Type 1} → statement M
 unfolding Operate.sme
-sme-spec = tie.close (tie.spec
+sme_spec = tie.close (tie.spec
     (λ c κs. search rules)
     (λ c. search rules)
     (λ c. search (rules, ways))

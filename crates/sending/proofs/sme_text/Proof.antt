@@ -3,8 +3,8 @@ use Rattle.sending.proofs.Laws.{text_long, text_sent, text_guarded}
 use Rattle.sending.proofs.sme_text.Statement.{statement}
 use Rattle.sending.proofs.sme_text.Tie as tie
 
-pub sme-text-spec : {M : Type 1} → statement M
-sme-text-spec = tie.close (tie.spec
+pub sme_text_spec : {M : Type 1} → statement M
+sme_text_spec = tie.close (tie.spec
     (λ c κs. search rules)
     (λ c κs. search rules)
     (λ c. search rules)

@@ -4,9 +4,9 @@ use Rattle.processors.proofs.Ways.{ways}
 use Rattle.sending.proofs.tme.Statement.{statement}
 use Rattle.sending.proofs.tme.Tie as tie
 
-pub tme-spec : {M : Type 1} → statement M
+pub tme_spec : {M : Type 1} → statement M
 unfolding Operate.tme
-tme-spec = tie.close (tie.spec
+tme_spec = tie.close (tie.spec
     (λ c κs. search rules)
     (λ c κs. search rules)
     (λ c. search rules)

@@ -3,8 +3,8 @@ use Rattle.sending.proofs.Laws.{sends}
 use Rattle.sending.proofs.wnm.Statement.{statement}
 use Rattle.sending.proofs.wnm.Tie as tie
 
-pub wnm-spec : {M : Type 1} → statement M
-wnm-spec = tie.close (tie.spec
+pub wnm_spec : {M : Type 1} → statement M
+wnm_spec = tie.close (tie.spec
     (λ c κs. search rules)
     (λ c κs. search rules)
     (λ c κs. search rules)

@@ -15,8 +15,8 @@ use Rattle.settling.proofs.+make_all.Tie.{close}
 abbrev μ : Measures 2 kinds.ps ℕ
 μ κs a = a.1.1.1.0
 
-pub +make-all-spec : {M : Type 1} → statement M
-+make-all-spec = close μ λ t. lts.spec (
+pub +make_all_spec : {M : Type 1} → statement M
++make_all_spec = close μ λ t. lts.spec (
   entry-at-reads.Asked,
   entry-at-reads.Learnt,
   make-reads.Asked,

@@ -12,8 +12,8 @@ invariant-loop block₀ count at₀ number₀ block at number = length block ≡
 abbrev decreases-loop : tie.decreases-loop
 decreases-loop block₀ count at₀ number₀ block at number = count - number
 
-pub take-arguments-spec : {M : Type 1} → statement M
-take-arguments-spec = tie.close (tie.spec invariant-loop decreases-loop
+pub take_arguments_spec : {M : Type 1} → statement M
+take_arguments_spec = tie.close (tie.spec invariant-loop decreases-loop
     (λ c. search rules)
     (λ c κs. search rules)
     (λ c. search rules)

@@ -3,8 +3,8 @@ use Rattle.sheet.proofs.Laws.{files}
 use Rattle.sheet.proofs.write_words.Statement.{statement}
 use Rattle.sheet.proofs.write_words.Tie as tie
 
-pub write-words-spec : {M : Type 1} → statement M
-write-words-spec = tie.close (tie.spec
+pub write_words_spec : {M : Type 1} → statement M
+write_words_spec = tie.close (tie.spec
     (λ c. search rules)
     (λ c κs. search rules)
     (λ c κs. search rules)

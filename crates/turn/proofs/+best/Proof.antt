@@ -15,8 +15,8 @@ use Rattle.turn.proofs.+best.Tie.{close}
 abbrev μ : Measures 1 kinds.ps ℕ
 μ κs a = a.1.1.1.0
 
-pub +best-spec : {M : Type 1} → statement M
-+best-spec = close μ λ t. lts.spec (
+pub +best_spec : {M : Type 1} → statement M
++best_spec = close μ λ t. lts.spec (
   at_reads.Asked,
   at_reads.Learnt,
   better-reads.Asked,

@@ -14,8 +14,8 @@ use Rattle.turn.proofs.+read_kept.Tie.{close}
 abbrev μ : Measures 1 kinds.ps ℕ
 μ κs a = a.1.1.1.0
 
-pub +read-kept-spec : {M : Type 1} → statement M
-+read-kept-spec = close μ λ t. lts.spec (
+pub +read_kept_spec : {M : Type 1} → statement M
++read_kept_spec = close μ λ t. lts.spec (
   word-reads.Asked,
   word-reads.Learnt,
   with-word-reads.Asked,

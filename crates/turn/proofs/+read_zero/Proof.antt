@@ -15,8 +15,8 @@ use Rattle.turn.proofs.+read_zero.Tie.{close}
 abbrev μ : Measures 1 kinds.ps ℕ
 μ κs a = a.1.1.0
 
-pub +read-zero-spec : {M : Type 1} → statement M
-+read-zero-spec = close μ λ t. lts.spec (
+pub +read_zero_spec : {M : Type 1} → statement M
++read_zero_spec = close μ λ t. lts.spec (
   zero-place-reads.Asked,
   zero-place-reads.Learnt,
   at_reads.Asked,

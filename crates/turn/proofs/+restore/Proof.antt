@@ -14,8 +14,8 @@ use Rattle.turn.proofs.+restore.Tie.{close}
 abbrev μ : Measures 1 kinds.ps ℕ
 μ κs a = a.1.1.0
 
-pub +restore-spec : {M : Type 1} → statement M
-+restore-spec = close μ λ t. lts.spec
+pub +restore_spec : {M : Type 1} → statement M
++restore_spec = close μ λ t. lts.spec
     (zero-place-reads.Asked, zero-place-reads.Learnt, write-reads.Asked, write-reads.Learnt, and 1 kinds.ps (falls 1 kinds.ps ◌<◌ μ t) own.Pre, own.Post)
     (and 1 kinds.ps (is 1 kinds.ps μ t) own.Pre)
     own.Post

@@ -5,9 +5,9 @@ use Rattle.turn.proofs.Laws.{turns}
 use Rattle.turn.proofs.above.Statement.{statement}
 use Rattle.turn.proofs.above.Tie as tie
 
-pub above-spec : {M : Type 1} → statement M
+pub above_spec : {M : Type 1} → statement M
 unfolding Turn.above
-above-spec = tie.close (tie.spec
+above_spec = tie.close (tie.spec
     (λ c. search (rules, ways, turns))
     (λ c κs. search rules)
     (λ c κs. search rules)

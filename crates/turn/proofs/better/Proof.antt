@@ -4,9 +4,9 @@ use Rattle.processors.proofs.Ways.{ways}
 use Rattle.turn.proofs.better.Statement.{statement}
 use Rattle.turn.proofs.better.Tie as tie
 
-pub better-spec : {M : Type 1} → statement M
+pub better_spec : {M : Type 1} → statement M
 unfolding Turn.better
-better-spec = tie.close (tie.spec
+better_spec = tie.close (tie.spec
     (λ c κs. search rules)
     (λ c κs. search rules)
     (λ c. search (rules, ways))

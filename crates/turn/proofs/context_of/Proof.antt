@@ -7,8 +7,8 @@ returns : tie.Need-returns
 unfolding Turn.context_of
 returns c = cc
 
-pub context-of-spec : {M : Type 1} → statement M
-context-of-spec = tie.close (tie.spec
+pub context_of_spec : {M : Type 1} → statement M
+context_of_spec = tie.close (tie.spec
     (λ c κs. search rules)
     (λ c κs. search rules)
     returns)

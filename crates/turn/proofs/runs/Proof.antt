@@ -7,8 +7,8 @@ returns : tie.Need-returns
 unfolding Turn.runs
 returns c = cc
 
-pub runs-spec : {M : Type 1} → statement M
-runs-spec = tie.close (tie.spec
+pub runs_spec : {M : Type 1} → statement M
+runs_spec = tie.close (tie.spec
     (λ c κs. search rules)
     (λ c κs. search rules)
     (λ c κs. search rules)

@@ -5,9 +5,9 @@ use Rattle.turn.proofs.Laws.{save_is}
 use Rattle.turn.proofs.save.Statement.{statement}
 use Rattle.turn.proofs.save.Tie as tie
 
-pub save-spec : {M : Type 1} → statement M
+pub save_spec : {M : Type 1} → statement M
 unfolding Turn.save
-save-spec = tie.close (tie.spec
+save_spec = tie.close (tie.spec
     (λ c. search (ways, save_is))
     (λ c κs. search rules)
     (λ c κs. search rules)

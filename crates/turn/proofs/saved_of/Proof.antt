@@ -7,8 +7,8 @@ returns : tie.Need-returns
 unfolding Turn.saved_of
 returns c = cc
 
-pub saved-of-spec : {M : Type 1} → statement M
-saved-of-spec = tie.close (tie.spec
+pub saved_of_spec : {M : Type 1} → statement M
+saved_of_spec = tie.close (tie.spec
     (λ c κs. search rules)
     (λ c κs. search rules)
     returns)

@@ -4,9 +4,9 @@ use Rattle.processors.proofs.Ways.{ways}
 use Rattle.turn.proofs.stays.Statement.{statement}
 use Rattle.turn.proofs.stays.Tie as tie
 
-pub stays-spec : {M : Type 1} → statement M
+pub stays_spec : {M : Type 1} → statement M
 unfolding Turn.stays
-stays-spec = tie.close (tie.spec
+stays_spec = tie.close (tie.spec
     (λ c. search (rules, ways))
     (λ c κs. search rules)
     (λ c. search (rules, ways))

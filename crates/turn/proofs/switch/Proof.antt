@@ -5,9 +5,9 @@ use Rattle.turn.proofs.Laws.{turns}
 use Rattle.turn.proofs.switch.Statement.{statement}
 use Rattle.turn.proofs.switch.Tie as tie
 
-pub switch-spec : {M : Type 1} → statement M
+pub switch_spec : {M : Type 1} → statement M
 unfolding Turn.switch
-switch-spec = tie.close (tie.spec
+switch_spec = tie.close (tie.spec
     (λ c. search (rules, ways, turns))
     (λ c κs. search rules)
     (λ c κs. search rules)

@@ -7,8 +7,8 @@ returns : tie.Need-returns
 unfolding Turn.who_runs
 returns c = cc
 
-pub who-runs-spec : {M : Type 1} → statement M
-who-runs-spec = tie.close (tie.spec
+pub who_runs_spec : {M : Type 1} → statement M
+who_runs_spec = tie.close (tie.spec
     (λ c κs. search rules)
     (λ c κs. search rules)
     (λ c κs. search rules)

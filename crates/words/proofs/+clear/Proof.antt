@@ -15,8 +15,8 @@ use Rattle.words.proofs.+clear.Tie.{close}
 abbrev μ : Measures 0 kinds.ps ℕ
 μ κs a = a.0
 
-pub +clear-spec : {M : Type 1} → statement M
-+clear-spec = close μ λ t. lts.spec (
+pub +clear_spec : {M : Type 1} → statement M
++clear_spec = close μ λ t. lts.spec (
   wide-reads.Asked,
   wide-reads.Learnt,
   wrapped-reads.Asked,

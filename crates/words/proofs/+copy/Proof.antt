@@ -15,8 +15,8 @@ use Rattle.words.proofs.+copy.Tie.{close}
 abbrev μ : Measures 1 kinds.ps ℕ
 μ κs a = a.1.1.1.0
 
-pub +copy-spec : {M : Type 1} → statement M
-+copy-spec = close μ λ t. lts.spec (
+pub +copy_spec : {M : Type 1} → statement M
++copy_spec = close μ λ t. lts.spec (
   at_reads.Asked,
   at_reads.Learnt,
   write-reads.Asked,

@@ -4,9 +4,9 @@ use Rattle.model.proofs.Tests.{tests}
 use Rattle.words.proofs.guarded.Statement.{statement}
 use Rattle.words.proofs.guarded.Tie as tie
 
-pub guarded-spec : {M : Type 1} → statement M
+pub guarded_spec : {M : Type 1} → statement M
 unfolding Address.guarded
-guarded-spec = tie.close (tie.spec
+guarded_spec = tie.close (tie.spec
     (λ c. search (rules, tests))
     (λ c. search (rules, tests))
     (λ c. search (rules, tests))

@@ -14,8 +14,8 @@ invariant-loop first second from count at₀ left₀ at left =
 abbrev decreases-loop : tie.decreases-loop
 decreases-loop first second from count at₀ left₀ at left = left
 
-pub next-differing-spec : {M : Type 1} → statement M
-next-differing-spec = tie.close (tie.spec invariant-loop decreases-loop
+pub next_differing_spec : {M : Type 1} → statement M
+next_differing_spec = tie.close (tie.spec invariant-loop decreases-loop
     (λ c. search rules)
     (λ c. search rules)
     (λ c. search rules)

@@ -15,8 +15,8 @@ use Rattle.comparing.proofs.letters.+same_messages.Tie.{close}
 abbrev μ : Measures 2 kinds.ps ℕ
 μ κs a = a.1.1.1.1.0
 
-pub +same-messages-spec : {M : Type 1} → statement M
-+same-messages-spec = close μ λ t. lts.spec (
+pub +same_messages_spec : {M : Type 1} → statement M
++same_messages_spec = close μ λ t. lts.spec (
   at_reads.Asked,
   at_reads.Learnt,
   same-message-reads.Asked,

@@ -14,8 +14,8 @@ use Rattle.comparing.proofs.letters.+same_words.Tie.{close}
 abbrev μ : Measures 2 kinds.ps ℕ
 μ κs a = a.1.1.1.1.0
 
-pub +same-words-spec : {M : Type 1} → statement M
-+same-words-spec = close μ λ t. lts.spec (
+pub +same_words_spec : {M : Type 1} → statement M
++same_words_spec = close μ λ t. lts.spec (
   at_reads.Asked,
   at_reads.Learnt,
   wrapped-reads.Asked,

@@ -3,8 +3,8 @@ use Rattle.comparing.proofs.Laws.{mails}
 use Rattle.comparing.proofs.letters.same_content.Statement.{statement}
 use Rattle.comparing.proofs.letters.same_content.Tie as tie
 
-pub same-content-spec : {M : Type 1} → statement M
-same-content-spec = tie.close (tie.spec
+pub same_content_spec : {M : Type 1} → statement M
+same_content_spec = tie.close (tie.spec
     (λ c κs. search rules)
     (λ c κs. search rules)
     (λ c κs. search rules)

@@ -3,8 +3,8 @@ use Rattle.comparing.proofs.Laws.{mails}
 use Rattle.comparing.proofs.letters.same_message.Statement.{statement}
 use Rattle.comparing.proofs.letters.same_message.Tie as tie
 
-pub same-message-spec : {M : Type 1} → statement M
-same-message-spec = tie.close (tie.spec
+pub same_message_spec : {M : Type 1} → statement M
+same_message_spec = tie.close (tie.spec
     (λ c κs. search rules)
     (λ c κs. search rules)
     (λ c κs. search rules)

@@ -4,9 +4,9 @@ use Rattle.comparing.proofs.names.differs_in.Statement.{statement}
 use Rattle.processors.proofs.Ways.{ways}
 use Rattle.comparing.proofs.names.differs_in.Tie as tie
 
-pub differs-in-spec : {M : Type 1} → statement M
+pub differs_in_spec : {M : Type 1} → statement M
 unfolding Differ.differs_in
-differs-in-spec = tie.close (tie.spec
+differs_in_spec = tie.close (tie.spec
     (λ c. search (rules, ways))
     (λ c. search (rules, ways))
     (λ c. search (rules, ways))

@@ -3,8 +3,8 @@ use Rattle.comparing.proofs.Laws.{states}
 use Rattle.comparing.proofs.names.queue_of.Statement.{statement}
 use Rattle.comparing.proofs.names.queue_of.Tie as tie
 
-pub queue-of-spec : {M : Type 1} → statement M
-queue-of-spec = tie.close (tie.spec
+pub queue_of_spec : {M : Type 1} → statement M
+queue_of_spec = tie.close (tie.spec
     (λ c κs. search rules)
     (λ c κs. search rules)
     (λ c κs. search rules)

@@ -3,8 +3,8 @@ use Rattle.comparing.proofs.Laws.{sayings}
 use Rattle.comparing.proofs.names.said.Statement.{statement}
 use Rattle.comparing.proofs.names.said.Tie as tie
 
-pub said-spec : {M : Type 1} → statement M
-said-spec = tie.close (tie.spec
+pub said_spec : {M : Type 1} → statement M
+said_spec = tie.close (tie.spec
     (λ c κs. search rules)
     (λ c κs. search rules)
     (λ c κs. search rules)

@@ -3,8 +3,8 @@ use Rattle.comparing.proofs.Laws.{sayings}
 use Rattle.comparing.proofs.names.said_of.Statement.{statement}
 use Rattle.comparing.proofs.names.said_of.Tie as tie
 
-pub said-of-spec : {M : Type 1} → statement M
-said-of-spec = tie.close (tie.spec
+pub said_of_spec : {M : Type 1} → statement M
+said_of_spec = tie.close (tie.spec
     (λ c. search (rules, sayings))
     (λ c. search (rules, sayings))
     (λ c. search (rules, sayings))

@@ -4,8 +4,8 @@ use Rattle.comparing.proofs.names.same_wait.Statement.{statement}
 use Rattle.processors.proofs.Ways.{ways}
 use Rattle.comparing.proofs.names.same_wait.Tie as tie
 
-pub same-wait-spec : {M : Type 1} → statement M
+pub same_wait_spec : {M : Type 1} → statement M
 unfolding Differ.same_wait
-same-wait-spec = tie.close (tie.spec
+same_wait_spec = tie.close (tie.spec
     (λ c. search (rules, ways))
     (λ c. search (rules, ways)))

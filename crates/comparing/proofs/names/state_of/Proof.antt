@@ -3,8 +3,8 @@ use Rattle.comparing.proofs.Laws.{states}
 use Rattle.comparing.proofs.names.state_of.Statement.{statement}
 use Rattle.comparing.proofs.names.state_of.Tie as tie
 
-pub state-of-spec : {M : Type 1} → statement M
-state-of-spec = tie.close (tie.spec
+pub state_of_spec : {M : Type 1} → statement M
+state_of_spec = tie.close (tie.spec
     (λ c κs. search rules)
     (λ c κs. search rules)
     (λ c κs. search rules)

@@ -8,8 +8,8 @@ invariant-loop ahead at left next₀ end next = (at ≤ next) × (next ≤ end) 
 abbrev decreases-loop : tie.decreases-loop
 decreases-loop ahead at left next₀ end next = end - next
 
-pub line-end-spec : {M : Type 1} → statement M
-line-end-spec = tie.close (tie.spec invariant-loop decreases-loop
+pub line_end_spec : {M : Type 1} → statement M
+line_end_spec = tie.close (tie.spec invariant-loop decreases-loop
     (λ c. search rules)
     (λ c. search rules)
     (λ c. search rules)

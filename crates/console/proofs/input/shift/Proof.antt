@@ -8,8 +8,8 @@ invariant-loop ahead₀ from to count moved₀ ahead moved = (length ahead ≡ l
 abbrev decreases-loop : tie.decreases-loop
 decreases-loop ahead₀ from to count moved₀ ahead moved = count - moved
 
-pub shift-spec : {M : Type 1} → statement M
-shift-spec = tie.close (tie.spec invariant-loop decreases-loop
+pub shift_spec : {M : Type 1} → statement M
+shift_spec = tie.close (tie.spec invariant-loop decreases-loop
     (λ c. search rules)
     (λ c. search rules)
     (λ c. search rules)

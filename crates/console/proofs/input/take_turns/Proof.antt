@@ -12,8 +12,8 @@ invariant-loop input m₀ old₀ output₀ ahead₀ turns₀ place₀ m old outp
 abbrev decreases-loop : tie.decreases-loop
 decreases-loop input m₀ old₀ output₀ ahead₀ turns₀ place₀ m old output ahead turns place = turns
 
-pub take-turns-spec : {M : Type 1} → statement M
-take-turns-spec = tie.close (tie.spec invariant-loop decreases-loop
+pub take_turns_spec : {M : Type 1} → statement M
+take_turns_spec = tie.close (tie.spec invariant-loop decreases-loop
     (λ c. search rules)
     (λ c. search rules)
     (λ c κs. search rules)

@@ -12,8 +12,8 @@ use Rattle.console.proofs.memory.+tell_words.Tie.{close}
 abbrev μ : Measures 1 kinds.ps ℕ
 μ κs a = a.1.1.0
 
-pub +tell-words-spec : {M : Type 1} → statement M
-+tell-words-spec = close μ λ t. lts.spec
+pub +tell_words_spec : {M : Type 1} → statement M
++tell_words_spec = close μ λ t. lts.spec
     (text-reads.Asked, text-reads.Learnt, word-reads.Asked, word-reads.Learnt, and 1 kinds.ps (falls 1 kinds.ps ◌<◌ μ t) own.Pre, own.Post)
     (and 1 kinds.ps (is 1 kinds.ps μ t) own.Pre)
     own.Post

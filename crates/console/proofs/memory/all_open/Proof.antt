@@ -8,8 +8,8 @@ invariant-loop address count left₀ left = left ≤ count
 abbrev decreases-loop : tie.decreases-loop
 decreases-loop address count left₀ left = left
 
-pub all-open-spec : {M : Type 1} → statement M
-all-open-spec = tie.close (tie.spec invariant-loop decreases-loop
+pub all_open_spec : {M : Type 1} → statement M
+all_open_spec = tie.close (tie.spec invariant-loop decreases-loop
     (λ c. search rules)
     (λ c. search rules)
     (λ c. search rules)

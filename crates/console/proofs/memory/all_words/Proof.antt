@@ -8,8 +8,8 @@ invariant-loop given count left₀ left = left ≤ count
 abbrev decreases-loop : tie.decreases-loop
 decreases-loop given count left₀ left = left
 
-pub all-words-spec : {M : Type 1} → statement M
-all-words-spec = tie.close (tie.spec invariant-loop decreases-loop
+pub all_words_spec : {M : Type 1} → statement M
+all_words_spec = tie.close (tie.spec invariant-loop decreases-loop
     (λ c. search rules)
     (λ c. search rules)
     (λ c. search rules)

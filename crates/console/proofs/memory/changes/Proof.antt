@@ -10,8 +10,8 @@ invariant-loop m old₀ output kept none at₀ changed₀ t8 t9 old at changed =
 abbrev decreases-loop : tie.decreases-loop
 decreases-loop m old₀ output kept none at₀ changed₀ t8 t9 old at changed = buffer_words - at
 
-pub changes-spec : {M : Type 1} → statement M
-changes-spec = tie.close (tie.spec invariant-loop decreases-loop
+pub changes_spec : {M : Type 1} → statement M
+changes_spec = tie.close (tie.spec invariant-loop decreases-loop
     (λ c κs. search rules)
     (λ c. search rules)
     (λ c κs. search rules)

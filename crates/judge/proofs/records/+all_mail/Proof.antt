@@ -15,8 +15,8 @@ use Rattle.judge.proofs.records.+all_mail.Tie.{close}
 abbrev μ : Measures 1 kinds.ps ℕ
 μ κs a = a.1.1.0
 
-pub +all-mail-spec : {M : Type 1} → statement M
-+all-mail-spec = close μ λ t. lts.spec (
+pub +all_mail_spec : {M : Type 1} → statement M
++all_mail_spec = close μ λ t. lts.spec (
   at_reads.Asked,
   at_reads.Learnt,
   mail-reads.Asked,

@@ -15,8 +15,8 @@ use Rattle.judge.proofs.records.+all_messages.Tie.{close}
 abbrev μ : Measures 1 kinds.ps ℕ
 μ κs a = a.1.1.0
 
-pub +all-messages-spec : {M : Type 1} → statement M
-+all-messages-spec = close μ λ t. lts.spec (
+pub +all_messages_spec : {M : Type 1} → statement M
++all_messages_spec = close μ λ t. lts.spec (
   at_reads.Asked,
   at_reads.Learnt,
   message-reads.Asked,

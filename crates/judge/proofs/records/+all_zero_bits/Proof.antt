@@ -15,8 +15,8 @@ use Rattle.judge.proofs.records.+all_zero_bits.Tie.{close}
 abbrev μ : Measures 1 kinds.ps ℕ
 μ κs a = a.1.1.0
 
-pub +all-zero-bits-spec : {M : Type 1} → statement M
-+all-zero-bits-spec = close μ λ t. lts.spec (
+pub +all_zero_bits_spec : {M : Type 1} → statement M
++all_zero_bits_spec = close μ λ t. lts.spec (
   at_reads.Asked,
   at_reads.Learnt,
   zero-bits-reads.Asked,

@@ -18,9 +18,9 @@ invariant-loop m k₀ k = (length m ≡ 8192) × (k ≤ page_size) × Decides (r
 abbrev decreases-loop : tie.decreases-loop
 decreases-loop m k₀ k = k
 
-pub granted-spec : {M : Type 1} → statement M
+pub granted_spec : {M : Type 1} → statement M
 unfolding Judge.granted
-granted-spec = tie.close (tie.spec invariant-loop decreases-loop
+granted_spec = tie.close (tie.spec invariant-loop decreases-loop
     (λ c. search rules)
     (λ c. search rules)
     (λ c κs. search rules)

@@ -4,9 +4,9 @@ use Rattle.judge.proofs.Laws.{rulings}
 use Rattle.judge.proofs.records.mail.Statement.{statement}
 use Rattle.judge.proofs.records.mail.Tie as tie
 
-pub mail-spec : {M : Type 1} → statement M
+pub mail_spec : {M : Type 1} → statement M
 unfolding Judge.mail
-mail-spec = tie.close (tie.spec
+mail_spec = tie.close (tie.spec
     (λ c κs. search rules)
     (λ c κs. search rules)
     (λ c κs. search rules)

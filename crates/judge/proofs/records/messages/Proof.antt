@@ -4,8 +4,8 @@ use Rattle.judge.proofs.Laws.{rulings}
 use Rattle.judge.proofs.records.messages.Statement.{statement}
 use Rattle.judge.proofs.records.messages.Tie as tie
 
-pub messages-spec : {M : Type 1} → statement M
+pub messages_spec : {M : Type 1} → statement M
 unfolding Judge.messages
-messages-spec = tie.close (tie.spec
+messages_spec = tie.close (tie.spec
     (λ c κs. search rules)
     (λ c. search (rules, rulings)))

@@ -8,7 +8,7 @@ returns : tie.Need-returns
 unfolding Judge.zero_bits Rule.holds
 returns c = cc
 
-pub zero-bits-spec : {M : Type 1} → statement M
-zero-bits-spec = tie.close (tie.spec
+pub zero_bits_spec : {M : Type 1} → statement M
+zero_bits_spec = tie.close (tie.spec
     (λ c κs. search rules)
     returns)

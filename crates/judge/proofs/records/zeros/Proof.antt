@@ -4,9 +4,9 @@ use Rattle.judge.proofs.Laws.{rulings}
 use Rattle.judge.proofs.records.zeros.Statement.{statement}
 use Rattle.judge.proofs.records.zeros.Tie as tie
 
-pub zeros-spec : {M : Type 1} → statement M
+pub zeros_spec : {M : Type 1} → statement M
 unfolding Judge.zeros
-zeros-spec = tie.close (tie.spec
+zeros_spec = tie.close (tie.spec
     (λ c κs. search rules)
     (λ c κs. search rules)
     (λ c κs. search rules)

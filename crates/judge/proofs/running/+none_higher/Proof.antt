@@ -15,8 +15,8 @@ use Rattle.judge.proofs.running.+none_higher.Tie.{close}
 abbrev μ : Measures 1 kinds.ps ℕ
 μ κs a = a.1.1.0
 
-pub +none-higher-spec : {M : Type 1} → statement M
-+none-higher-spec = close μ λ t. lts.spec (
+pub +none_higher_spec : {M : Type 1} → statement M
++none_higher_spec = close μ λ t. lts.spec (
   at_reads.Asked,
   at_reads.Learnt,
   not-higher-reads.Asked,

@@ -3,8 +3,8 @@ use Rattle.judge.proofs.Laws.{rulings}
 use Rattle.judge.proofs.running.not_higher.Statement.{statement}
 use Rattle.judge.proofs.running.not_higher.Tie as tie
 
-pub not-higher-spec : {M : Type 1} → statement M
-not-higher-spec = tie.close (tie.spec
+pub not_higher_spec : {M : Type 1} → statement M
+not_higher_spec = tie.close (tie.spec
     (λ c κs. search rules)
     (λ c κs. search rules)
     (λ c κs. search rules)

@@ -3,8 +3,8 @@ use Rattle.judge.proofs.Laws.{rulings}
 use Rattle.judge.proofs.running.running.Statement.{statement}
 use Rattle.judge.proofs.running.running.Tie as tie
 
-pub running-spec : {M : Type 1} → statement M
-running-spec = tie.close (tie.spec
+pub running_spec : {M : Type 1} → statement M
+running_spec = tie.close (tie.spec
     (λ c κs. search rules)
     (λ c κs. search rules)
     (λ c κs. search rules)

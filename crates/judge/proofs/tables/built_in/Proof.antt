@@ -7,8 +7,8 @@ returns : tie.Need-returns
 unfolding Rule.holds
 returns c = cc
 
-pub built-in-spec : {M : Type 1} → statement M
-built-in-spec = tie.close (tie.spec
+pub built_in_spec : {M : Type 1} → statement M
+built_in_spec = tie.close (tie.spec
     (λ c κs. search rules)
     (λ c. search rules)
     (λ c. search rules)

@@ -4,9 +4,9 @@ use Rattle.judge.proofs.Laws.{rulings}
 use Rattle.judge.proofs.tables.clock.Statement.{statement}
 use Rattle.judge.proofs.tables.clock.Tie as tie
 
-pub clock-spec : {M : Type 1} → statement M
+pub clock_spec : {M : Type 1} → statement M
 unfolding Judge.clock
-clock-spec = tie.close (tie.spec
+clock_spec = tie.close (tie.spec
     (λ c κs. search rules)
     (λ c κs. search rules)
     (λ c κs. search rules)

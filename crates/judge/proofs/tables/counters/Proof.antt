@@ -4,9 +4,9 @@ use Rattle.judge.proofs.Laws.{rulings}
 use Rattle.judge.proofs.tables.counters.Statement.{statement}
 use Rattle.judge.proofs.tables.counters.Tie as tie
 
-pub counters-spec : {M : Type 1} → statement M
+pub counters_spec : {M : Type 1} → statement M
 unfolding Judge.counters
-counters-spec = tie.close (tie.spec
+counters_spec = tie.close (tie.spec
     (λ c κs. search rules)
     (λ c κs. search rules)
     (λ c κs. search rules)

@@ -17,8 +17,8 @@ invariant-loop m k₀ k = (length m ≡ 8192) × (k ≤ entries) × Decides (Jud
 abbrev decreases-loop : tie.decreases-loop
 decreases-loop m k₀ k = k
 
-pub entries-spec : {M : Type 1} → statement M
-entries-spec = tie.close (tie.spec invariant-loop decreases-loop
+pub entries_spec : {M : Type 1} → statement M
+entries_spec = tie.close (tie.spec invariant-loop decreases-loop
     (λ c. search rules)
     (λ c. search rules)
     (λ c κs. search rules)

@@ -7,8 +7,8 @@ returns : tie.Need-returns
 unfolding Rule.holds
 returns c = cc
 
-pub foreign-spec : {M : Type 1} → statement M
-foreign-spec = tie.close (tie.spec
+pub foreign_spec : {M : Type 1} → statement M
+foreign_spec = tie.close (tie.spec
     (λ c κs. search rules)
     (λ c. search rules)
     (λ c. search rules)

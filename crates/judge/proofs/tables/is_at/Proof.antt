@@ -7,7 +7,7 @@ returns : tie.Need-returns
 unfolding Rule.holds
 returns c = cc
 
-pub is-at-spec : {M : Type 1} → statement M
-is-at-spec = tie.close (tie.spec
+pub is_at_spec : {M : Type 1} → statement M
+is_at_spec = tie.close (tie.spec
     (λ c κs. search rules)
     returns)

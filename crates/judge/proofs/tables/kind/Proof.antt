@@ -8,8 +8,8 @@ returns : tie.Need-returns
 unfolding Judge.kind Rule.holds
 returns c = cc
 
-pub kind-spec : {M : Type 1} → statement M
-kind-spec = tie.close (tie.spec
+pub kind_spec : {M : Type 1} → statement M
+kind_spec = tie.close (tie.spec
     (λ c κs. search rules)
     (λ c. search rules)
     (λ c. search rules)

@@ -17,8 +17,8 @@ invariant-loop m k₀ k = (length m ≡ 8192) × (k ≤ all_codes) × Decides (J
 abbrev decreases-loop : tie.decreases-loop
 decreases-loop m k₀ k = k
 
-pub kinds-spec : {M : Type 1} → statement M
-kinds-spec = tie.close (tie.spec invariant-loop decreases-loop
+pub kinds_spec : {M : Type 1} → statement M
+kinds_spec = tie.close (tie.spec invariant-loop decreases-loop
     (λ c. search rules)
     (λ c. search rules)
     (λ c κs. search rules)

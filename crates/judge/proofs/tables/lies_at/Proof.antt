@@ -5,8 +5,8 @@ use Rattle.judge.proofs.tables.lies_at.Tie as tie
 returns : tie.Need-returns
 returns c = cc
 
-pub lies-at-spec : {M : Type 1} → statement M
-lies-at-spec = tie.close (tie.spec
+pub lies_at_spec : {M : Type 1} → statement M
+lies_at_spec = tie.close (tie.spec
     (λ c κs. search rules)
     (λ c κs. search rules)
     returns)

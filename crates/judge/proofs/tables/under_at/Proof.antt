@@ -7,7 +7,7 @@ returns : tie.Need-returns
 unfolding Rule.holds
 returns c = cc
 
-pub under-at-spec : {M : Type 1} → statement M
-under-at-spec = tie.close (tie.spec
+pub under_at_spec : {M : Type 1} → statement M
+under_at_spec = tie.close (tie.spec
     (λ c κs. search rules)
     returns)

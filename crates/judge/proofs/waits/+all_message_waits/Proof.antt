@@ -15,8 +15,8 @@ use Rattle.judge.proofs.waits.+all_message_waits.Tie.{close}
 abbrev μ : Measures 1 kinds.ps ℕ
 μ κs a = a.1.1.0
 
-pub +all-message-waits-spec : {M : Type 1} → statement M
-+all-message-waits-spec = close μ λ t. lts.spec (
+pub +all_message_waits_spec : {M : Type 1} → statement M
++all_message_waits_spec = close μ λ t. lts.spec (
   at_reads.Asked,
   at_reads.Learnt,
   message-wait-reads.Asked,

@@ -15,8 +15,8 @@ use Rattle.judge.proofs.waits.+all_owner.Tie.{close}
 abbrev μ : Measures 1 kinds.ps ℕ
 μ κs a = a.1.1.1.0
 
-pub +all-owner-spec : {M : Type 1} → statement M
-+all-owner-spec = close μ λ t. lts.spec (
+pub +all_owner_spec : {M : Type 1} → statement M
++all_owner_spec = close μ λ t. lts.spec (
   at_reads.Asked,
   at_reads.Learnt,
   owner-reads.Asked,

@@ -15,8 +15,8 @@ use Rattle.judge.proofs.waits.+all_page_waits.Tie.{close}
 abbrev μ : Measures 1 kinds.ps ℕ
 μ κs a = a.1.1.0
 
-pub +all-page-waits-spec : {M : Type 1} → statement M
-+all-page-waits-spec = close μ λ t. lts.spec (
+pub +all_page_waits_spec : {M : Type 1} → statement M
++all_page_waits_spec = close μ λ t. lts.spec (
   at_reads.Asked,
   at_reads.Learnt,
   page-wait-reads.Asked,

@@ -15,8 +15,8 @@ use Rattle.judge.proofs.waits.+all_quiet.Tie.{close}
 abbrev μ : Measures 1 kinds.ps ℕ
 μ κs a = a.1.1.0
 
-pub +all-quiet-spec : {M : Type 1} → statement M
-+all-quiet-spec = close μ λ t. lts.spec (
+pub +all_quiet_spec : {M : Type 1} → statement M
++all_quiet_spec = close μ λ t. lts.spec (
   at_reads.Asked,
   at_reads.Learnt,
   quiet-reads.Asked,

@@ -15,8 +15,8 @@ use Rattle.judge.proofs.waits.+all_reasoned.Tie.{close}
 abbrev μ : Measures 1 kinds.ps ℕ
 μ κs a = a.1.1.0
 
-pub +all-reasoned-spec : {M : Type 1} → statement M
-+all-reasoned-spec = close μ λ t. lts.spec (
+pub +all_reasoned_spec : {M : Type 1} → statement M
++all_reasoned_spec = close μ λ t. lts.spec (
   at_reads.Asked,
   at_reads.Learnt,
   reasoned-reads.Asked,

@@ -15,8 +15,8 @@ use Rattle.judge.proofs.waits.+all_reasonless.Tie.{close}
 abbrev μ : Measures 1 kinds.ps ℕ
 μ κs a = a.1.1.0
 
-pub +all-reasonless-spec : {M : Type 1} → statement M
-+all-reasonless-spec = close μ λ t. lts.spec (
+pub +all_reasonless_spec : {M : Type 1} → statement M
++all_reasonless_spec = close μ λ t. lts.spec (
   at_reads.Asked,
   at_reads.Learnt,
   reasonless-reads.Asked,

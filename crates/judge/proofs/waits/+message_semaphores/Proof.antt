@@ -15,8 +15,8 @@ use Rattle.judge.proofs.waits.+message_semaphores.Tie.{close}
 abbrev μ : Measures 1 kinds.ps ℕ
 μ κs a = a.1.1.0
 
-pub +message-semaphores-spec : {M : Type 1} → statement M
-+message-semaphores-spec = close μ λ t. lts.spec (
+pub +message_semaphores_spec : {M : Type 1} → statement M
++message_semaphores_spec = close μ λ t. lts.spec (
   at_reads.Asked,
   at_reads.Learnt,
   message-semaphore-reads.Asked,

@@ -18,8 +18,8 @@ invariant-loop m k₀ k = (length m ≡ 8192) × (k ≤ interrupts) × Decides (
 abbrev decreases-loop : tie.decreases-loop
 decreases-loop m k₀ k = k
 
-pub all-served-spec : {M : Type 1} → statement M
-all-served-spec = tie.close (tie.spec invariant-loop decreases-loop
+pub all_served_spec : {M : Type 1} → statement M
+all_served_spec = tie.close (tie.spec invariant-loop decreases-loop
     (λ c. search rules)
     (λ c. search rules)
     (λ c κs. search rules)

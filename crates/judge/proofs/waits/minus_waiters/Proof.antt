@@ -3,8 +3,8 @@ use Rattle.judge.proofs.Laws.{rulings}
 use Rattle.judge.proofs.waits.minus_waiters.Statement.{statement}
 use Rattle.judge.proofs.waits.minus_waiters.Tie as tie
 
-pub minus-waiters-spec : {M : Type 1} → statement M
-minus-waiters-spec = tie.close (tie.spec
+pub minus_waiters_spec : {M : Type 1} → statement M
+minus_waiters_spec = tie.close (tie.spec
     (λ c κs. search rules)
     (λ c. search (rules, rulings))
     (λ c κs. search rules)

@@ -4,8 +4,8 @@ use Rattle.judge.proofs.Laws.{rulings}
 use Rattle.judge.proofs.waits.page_waits.Statement.{statement}
 use Rattle.judge.proofs.waits.page_waits.Tie as tie
 
-pub page-waits-spec : {M : Type 1} → statement M
+pub page_waits_spec : {M : Type 1} → statement M
 unfolding Judge.page_waits
-page-waits-spec = tie.close (tie.spec
+page_waits_spec = tie.close (tie.spec
     (λ c κs. search rules)
     (λ c. search (rules, rulings)))

@@ -7,8 +7,8 @@ returns : tie.Need-returns
 unfolding Judge.reasoned
 returns c = cc
 
-pub reasoned-spec : {M : Type 1} → statement M
-reasoned-spec = tie.close (tie.spec
+pub reasoned_spec : {M : Type 1} → statement M
+reasoned_spec = tie.close (tie.spec
     (λ c κs. search rules)
     (λ c κs. search rules)
     returns)

@@ -8,7 +8,7 @@ returns : tie.Need-returns
 unfolding Judge.reasonless Rule.holds
 returns c = cc
 
-pub reasonless-spec : {M : Type 1} → statement M
-reasonless-spec = tie.close (tie.spec
+pub reasonless_spec : {M : Type 1} → statement M
+reasonless_spec = tie.close (tie.spec
     (λ c κs. search rules)
     returns)

@@ -4,9 +4,9 @@ use Rattle.judge.proofs.Laws.{rulings}
 use Rattle.judge.proofs.waits.reasons.Statement.{statement}
 use Rattle.judge.proofs.waits.reasons.Tie as tie
 
-pub reasons-spec : {M : Type 1} → statement M
+pub reasons_spec : {M : Type 1} → statement M
 unfolding Judge.reasons
-reasons-spec = tie.close (tie.spec
+reasons_spec = tie.close (tie.spec
     (λ c κs. search rules)
     (λ c κs. search rules)
     (λ c κs. search rules)

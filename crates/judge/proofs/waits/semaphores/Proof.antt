@@ -4,9 +4,9 @@ use Rattle.judge.proofs.Laws.{rulings}
 use Rattle.judge.proofs.waits.semaphores.Statement.{statement}
 use Rattle.judge.proofs.waits.semaphores.Tie as tie
 
-pub semaphores-spec : {M : Type 1} → statement M
+pub semaphores_spec : {M : Type 1} → statement M
 unfolding Judge.semaphores
-semaphores-spec = tie.close (tie.spec
+semaphores_spec = tie.close (tie.spec
     (λ c κs. search rules)
     (λ c κs. search rules)
     (λ c κs. search rules)

@@ -4,9 +4,9 @@ use Rattle.judge.proofs.Laws.{rulings}
 use Rattle.judge.proofs.waits.served.Statement.{statement}
 use Rattle.judge.proofs.waits.served.Tie as tie
 
-pub served-spec : {M : Type 1} → statement M
+pub served_spec : {M : Type 1} → statement M
 unfolding Judge.served
-served-spec = tie.close (tie.spec
+served_spec = tie.close (tie.spec
     (λ c κs. search rules)
     (λ c. search rules)
     (λ c. search rules)

@@ -8,8 +8,8 @@ returns : tie.Need-returns
 unfolding Judge.unasked Rule.holds
 returns c = cc
 
-pub unasked-spec : {M : Type 1} → statement M
-unasked-spec = tie.close (tie.spec
+pub unasked_spec : {M : Type 1} → statement M
+unasked_spec = tie.close (tie.spec
     (λ c κs. search rules)
     (λ c κs. search rules)
     (λ c κs. search rules)

@@ -15,8 +15,8 @@ use Rattle.lists.proofs.names.+named_from.Tie.{close}
 abbrev μ : Measures 1 kinds.ps ℕ
 μ κs a = a.1.1.1.0
 
-pub +named-from-spec : {M : Type 1} → statement M
-+named-from-spec = close μ λ t. lts.spec (
+pub +named_from_spec : {M : Type 1} → statement M
++named_from_spec = close μ λ t. lts.spec (
   at_reads.Asked,
   at_reads.Learnt,
   see-name-reads.Asked,

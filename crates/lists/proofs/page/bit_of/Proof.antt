@@ -7,8 +7,8 @@ use Rattle.lists.proofs.page.bit_of.Tie as tie
 returns : tie.Need-returns
 returns c = bit_value _ _ _ (search rules) (search rules) refl refl
 
-pub bit-of-spec : {M : Type 1} → statement M
-bit-of-spec = tie.close (tie.spec
+pub bit_of_spec : {M : Type 1} → statement M
+bit_of_spec = tie.close (tie.spec
     (λ c. search rules)
     (λ c. search rules)
     (λ c. search rules)

@@ -15,8 +15,8 @@ use Rattle.lists.proofs.seen.+flag_bits.Tie.{close}
 abbrev μ : Measures 1 kinds.ps ℕ
 μ κs a = a.1.1.1.0
 
-pub +flag-bits-spec : {M : Type 1} → statement M
-+flag-bits-spec = close μ λ t. lts.spec (
+pub +flag_bits_spec : {M : Type 1} → statement M
++flag_bits_spec = close μ λ t. lts.spec (
   at_reads.Asked,
   at_reads.Learnt,
   see-flagged-reads.Asked,

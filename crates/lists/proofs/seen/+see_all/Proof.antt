@@ -15,8 +15,8 @@ use Rattle.lists.proofs.seen.+see_all.Tie.{close}
 abbrev μ : Measures 1 kinds.ps ℕ
 μ κs a = a.1.1.1.1.0
 
-pub +see-all-spec : {M : Type 1} → statement M
-+see-all-spec = close μ λ t. lts.spec (
+pub +see_all_spec : {M : Type 1} → statement M
++see_all_spec = close μ λ t. lts.spec (
   at_reads.Asked,
   at_reads.Learnt,
   see-reads.Asked,

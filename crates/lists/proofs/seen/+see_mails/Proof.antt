@@ -15,8 +15,8 @@ use Rattle.lists.proofs.seen.+see_mails.Tie.{close}
 abbrev μ : Measures 1 kinds.ps ℕ
 μ κs a = a.1.1.1.0
 
-pub +see-mails-spec : {M : Type 1} → statement M
-+see-mails-spec = close μ λ t. lts.spec (
+pub +see_mails_spec : {M : Type 1} → statement M
++see_mails_spec = close μ λ t. lts.spec (
   at_reads.Asked,
   at_reads.Learnt,
   see-mail-reads.Asked,

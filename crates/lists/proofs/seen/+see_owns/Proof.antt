@@ -15,8 +15,8 @@ use Rattle.lists.proofs.seen.+see_owns.Tie.{close}
 abbrev μ : Measures 1 kinds.ps ℕ
 μ κs a = a.1.1.1.0
 
-pub +see-owns-spec : {M : Type 1} → statement M
-+see-owns-spec = close μ λ t. lts.spec (
+pub +see_owns_spec : {M : Type 1} → statement M
++see_owns_spec = close μ λ t. lts.spec (
   at_reads.Asked,
   at_reads.Learnt,
   place-reads.Asked,

@@ -3,8 +3,8 @@ use Rattle.lists.proofs.Heads.{grant_none, grant_one}
 use Rattle.lists.proofs.seen.see_grant.Statement.{statement}
 use Rattle.lists.proofs.seen.see_grant.Tie as tie
 
-pub see-grant-spec : {M : Type 1} → statement M
-see-grant-spec = tie.close (tie.spec
+pub see_grant_spec : {M : Type 1} → statement M
+see_grant_spec = tie.close (tie.spec
     (λ c κs. search rules)
     (λ c. search (rules, grant_none))
     (λ c κs. search rules)

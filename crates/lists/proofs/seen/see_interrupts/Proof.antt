@@ -19,8 +19,8 @@ invariant-loop m b c₀ a₀ n₀ c a n =
 abbrev decreases-loop : tie.decreases-loop
 decreases-loop m b c₀ a₀ n₀ c a n = n
 
-pub see-interrupts-spec : {M : Type 1} → statement M
-see-interrupts-spec = tie.close (tie.spec invariant-loop decreases-loop
+pub see_interrupts_spec : {M : Type 1} → statement M
+see_interrupts_spec = tie.close (tie.spec invariant-loop decreases-loop
     (λ c. search rules)
     (λ c κs. search rules)
     (λ c. search (rules, turn_broken))

@@ -3,8 +3,8 @@ use Rattle.lists.proofs.Heads.{used_first, used_second, used_third, used_all}
 use Rattle.lists.proofs.seen.used_bits.Statement.{statement}
 use Rattle.lists.proofs.seen.used_bits.Tie as tie
 
-pub used-bits-spec : {M : Type 1} → statement M
-used-bits-spec = tie.close (tie.spec
+pub used_bits_spec : {M : Type 1} → statement M
+used_bits_spec = tie.close (tie.spec
     (λ c κs. search rules)
     (λ c. search (rules, used_first))
     (λ c κs. search rules)

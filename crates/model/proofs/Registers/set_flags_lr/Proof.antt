@@ -7,8 +7,8 @@ returns : tie.Need-returns
 unfolding Processor.set_flags_lr
 returns c = cc
 
-pub set-flags-lr-spec : {M : Type 1} → statement M
-set-flags-lr-spec = tie.close (tie.spec
+pub set_flags_lr_spec : {M : Type 1} → statement M
+set_flags_lr_spec = tie.close (tie.spec
     (λ c. search rules)
     (λ c. search rules)
     (λ c. search rules)

@@ -11,8 +11,8 @@ invariant-loop output₀ kept characters at₀ output at = (length output ≡ le
 abbrev decreases-loop : tie.decreases-loop
 decreases-loop output₀ kept characters at₀ output at = length characters - at
 
-pub text-spec : {M : Type 1} → statement M
-text-spec = tie.close (tie.spec invariant-loop decreases-loop
+pub text_spec : {M : Type 1} → statement M
+text_spec = tie.close (tie.spec invariant-loop decreases-loop
     (λ c. search rules)
     (λ c. search rules)
     (λ c. search rules)

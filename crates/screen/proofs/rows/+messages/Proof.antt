@@ -14,8 +14,8 @@ use Rattle.screen.proofs.rows.+messages.Tie.{close}
 abbrev μ : Measures 1 kinds.ps ℕ
 μ κs a = a.1.1.0
 
-pub +messages-spec : {M : Type 1} → statement M
-+messages-spec = close μ λ t. lts.spec (
+pub +messages_spec : {M : Type 1} → statement M
++messages_spec = close μ λ t. lts.spec (
   text-reads.Asked,
   text-reads.Learnt,
   message-reads.Asked,

@@ -13,8 +13,8 @@ use Rattle.screen.proofs.rows.+processors_from.Tie.{close}
 abbrev μ : Measures 1 kinds.ps ℕ
 μ κs a = a.1.1.0
 
-pub +processors-from-spec : {M : Type 1} → statement M
-+processors-from-spec = close μ λ t. lts.spec (
+pub +processors_from_spec : {M : Type 1} → statement M
++processors_from_spec = close μ λ t. lts.spec (
   processor-reads.Asked,
   processor-reads.Learnt,
   word-reads.Asked,

@@ -12,8 +12,8 @@ use Rattle.screen.proofs.tables.+codes.Tie.{close}
 abbrev μ : Measures 1 kinds.ps ℕ
 μ κs a = a.1.0
 
-pub +codes-spec : {M : Type 1} → statement M
-+codes-spec = close μ λ t. lts.spec
+pub +codes_spec : {M : Type 1} → statement M
++codes_spec = close μ λ t. lts.spec
     (exception-reads.Asked, exception-reads.Learnt, and 1 kinds.ps (falls 1 kinds.ps ◌<◌ μ t) own.Pre, own.Post)
     (and 1 kinds.ps (is 1 kinds.ps μ t) own.Pre)
     own.Post

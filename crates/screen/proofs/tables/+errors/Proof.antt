@@ -15,8 +15,8 @@ use Rattle.screen.proofs.tables.+errors.Tie.{close}
 abbrev μ : Measures 1 kinds.ps ℕ
 μ κs a = a.1.1.0
 
-pub +errors-spec : {M : Type 1} → statement M
-+errors-spec = close μ λ t. lts.spec (
+pub +errors_spec : {M : Type 1} → statement M
++errors_spec = close μ λ t. lts.spec (
   text-reads.Asked,
   text-reads.Learnt,
   wide-reads.Asked,

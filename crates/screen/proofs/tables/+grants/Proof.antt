@@ -14,8 +14,8 @@ use Rattle.screen.proofs.tables.+grants.Tie.{close}
 abbrev μ : Measures 1 kinds.ps ℕ
 μ κs a = a.1.0
 
-pub +grants-spec : {M : Type 1} → statement M
-+grants-spec = close μ λ t. lts.spec (
+pub +grants_spec : {M : Type 1} → statement M
++grants_spec = close μ λ t. lts.spec (
   wide-reads.Asked,
   wide-reads.Learnt,
   at_reads.Asked,

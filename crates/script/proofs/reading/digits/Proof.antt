@@ -16,8 +16,8 @@ invariant-loop line at left value known₀ next₀ rest₀ known next rest =
 abbrev decreases-loop : tie.decreases-loop
 decreases-loop line at left value known₀ next₀ rest₀ known next rest = rest
 
-pub digits-spec : {M : Type 1} → statement M
-digits-spec = tie.close (tie.spec invariant-loop decreases-loop
+pub digits_spec : {M : Type 1} → statement M
+digits_spec = tie.close (tie.spec invariant-loop decreases-loop
     (λ c. search rules)
     (λ c. search rules)
     (λ c κs. search rules)

@@ -7,8 +7,8 @@ returns : tie.Need-returns
 unfolding Script.ended
 returns c = cc
 
-pub ended-spec : {M : Type 1} → statement M
-ended-spec = tie.close (tie.spec
+pub ended_spec : {M : Type 1} → statement M
+ended_spec = tie.close (tie.spec
     (λ c. search rules)
     (λ c κs. search rules)
     (λ c κs. search rules)

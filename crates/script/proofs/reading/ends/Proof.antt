@@ -4,9 +4,9 @@ use Rattle.script.proofs.Laws.{tests}
 use Rattle.script.proofs.reading.ends.Statement.{statement}
 use Rattle.script.proofs.reading.ends.Tie as tie
 
-pub ends-spec : {M : Type 1} → statement M
+pub ends_spec : {M : Type 1} → statement M
 unfolding Script.ends
-ends-spec = tie.close (tie.spec
+ends_spec = tie.close (tie.spec
     (λ c. search (rules, tests))
     (λ c. search rules)
     (λ c. search (rules, tests)))

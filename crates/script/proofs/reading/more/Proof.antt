@@ -4,9 +4,9 @@ use Rattle.script.proofs.Laws.{tests}
 use Rattle.script.proofs.reading.more.Statement.{statement}
 use Rattle.script.proofs.reading.more.Tie as tie
 
-pub more-spec : {M : Type 1} → statement M
+pub more_spec : {M : Type 1} → statement M
 unfolding Script.more
-more-spec = tie.close (tie.spec
+more_spec = tie.close (tie.spec
     (λ c. search rules)
     (λ c. search rules)
     (λ c. search (rules, tests))

@@ -17,8 +17,8 @@ invariant-loop line at given₀ left next₀ room₀ given next room =
 abbrev decreases-loop : tie.decreases-loop
 decreases-loop line at given₀ left next₀ room₀ given next room = room
 
-pub numbers-spec : {M : Type 1} → statement M
-numbers-spec = tie.close (tie.spec invariant-loop decreases-loop
+pub numbers_spec : {M : Type 1} → statement M
+numbers_spec = tie.close (tie.spec invariant-loop decreases-loop
     (λ c. search rules)
     (λ c κs. search rules)
     (λ c. search rules)

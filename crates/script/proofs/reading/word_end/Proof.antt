@@ -15,8 +15,8 @@ invariant-loop line at left next₀ rest₀ next rest =
 abbrev decreases-loop : tie.decreases-loop
 decreases-loop line at left next₀ rest₀ next rest = rest
 
-pub word-end-spec : {M : Type 1} → statement M
-word-end-spec = tie.close (tie.spec invariant-loop decreases-loop
+pub word_end_spec : {M : Type 1} → statement M
+word_end_spec = tie.close (tie.spec invariant-loop decreases-loop
     (λ c. search rules)
     (λ c. search rules)
     (λ c κs. search rules)

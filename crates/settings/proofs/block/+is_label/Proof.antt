@@ -14,8 +14,8 @@ use Rattle.settings.proofs.block.+is_label.Tie.{close}
 abbrev μ : Measures 1 kinds.ps ℕ
 μ κs a = a.1.1.0
 
-pub +is-label-spec : {M : Type 1} → statement M
-+is-label-spec = close μ λ t. lts.spec (
+pub +is_label_spec : {M : Type 1} → statement M
++is_label_spec = close μ λ t. lts.spec (
   is-letter-reads.Asked,
   is-letter-reads.Learnt,
   and 1 kinds.ps (falls 1 kinds.ps ◌<◌ μ t) own.Pre,

@@ -12,8 +12,8 @@ use Rattle.settings.proofs.block.+is_zeros.Tie.{close}
 abbrev μ : Measures 1 kinds.ps ℕ
 μ κs a = a.1.1.0
 
-pub +is-zeros-spec : {M : Type 1} → statement M
-+is-zeros-spec = close μ λ t. lts.spec (
+pub +is_zeros_spec : {M : Type 1} → statement M
++is_zeros_spec = close μ λ t. lts.spec (
   and 1 kinds.ps (falls 1 kinds.ps ◌<◌ μ t) own.Pre,
   own.Post,
 )

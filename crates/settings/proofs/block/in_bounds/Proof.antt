@@ -3,8 +3,8 @@ use Rattle.settings.proofs.Laws.{blocks}
 use Rattle.settings.proofs.block.in_bounds.Statement.{statement}
 use Rattle.settings.proofs.block.in_bounds.Tie as tie
 
-pub in-bounds-spec : {M : Type 1} → statement M
-in-bounds-spec = tie.close (tie.spec
+pub in_bounds_spec : {M : Type 1} → statement M
+in_bounds_spec = tie.close (tie.spec
     (λ c. search (rules, blocks))
     (λ c. search (rules, blocks))
     (λ c κs. search (rules, blocks))

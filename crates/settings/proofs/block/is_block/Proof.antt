@@ -3,8 +3,8 @@ use Rattle.settings.proofs.Laws.{blocks}
 use Rattle.settings.proofs.block.is_block.Statement.{statement}
 use Rattle.settings.proofs.block.is_block.Tie as tie
 
-pub is-block-spec : {M : Type 1} → statement M
-is-block-spec = tie.close (tie.spec
+pub is_block_spec : {M : Type 1} → statement M
+is_block_spec = tie.close (tie.spec
     (λ c. search rules)
     (λ c. search (rules, blocks))
     (λ c. search (rules, blocks))

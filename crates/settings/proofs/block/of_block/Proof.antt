@@ -3,8 +3,8 @@ use Rattle.settings.proofs.Laws.{verdicts}
 use Rattle.settings.proofs.block.of_block.Statement.{statement}
 use Rattle.settings.proofs.block.of_block.Tie as tie
 
-pub of-block-spec : {M : Type 1} → statement M
-of-block-spec = tie.close (tie.spec
+pub of_block_spec : {M : Type 1} → statement M
+of_block_spec = tie.close (tie.spec
     (λ c. search (rules, verdicts))
     (λ c. search (rules, verdicts))
     (λ c κs. search (rules, verdicts))

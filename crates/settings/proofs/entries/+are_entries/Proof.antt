@@ -14,8 +14,8 @@ use Rattle.settings.proofs.entries.+are_entries.Tie.{close}
 abbrev μ : Measures 1 kinds.ps ℕ
 μ κs a = a.1.1.0
 
-pub +are-entries-spec : {M : Type 1} → statement M
-+are-entries-spec = close μ λ t. lts.spec (
+pub +are_entries_spec : {M : Type 1} → statement M
++are_entries_spec = close μ λ t. lts.spec (
   entry-at-reads.Asked,
   entry-at-reads.Learnt,
   is-entry-reads.Asked,

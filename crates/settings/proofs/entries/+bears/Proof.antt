@@ -13,8 +13,8 @@ use Rattle.settings.proofs.entries.+bears.Tie.{close}
 abbrev μ : Measures 1 kinds.ps ℕ
 μ κs a = a.1.1.0
 
-pub +bears-spec : {M : Type 1} → statement M
-+bears-spec = close μ λ t. lts.spec (
+pub +bears_spec : {M : Type 1} → statement M
++bears_spec = close μ λ t. lts.spec (
   entry-at-reads.Asked,
   entry-at-reads.Learnt,
   and 1 kinds.ps (falls 1 kinds.ps ◌<◌ μ t) own.Pre,

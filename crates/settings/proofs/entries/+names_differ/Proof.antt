@@ -14,8 +14,8 @@ use Rattle.settings.proofs.entries.+names_differ.Tie.{close}
 abbrev μ : Measures 1 kinds.ps ℕ
 μ κs a = a.1.1.0
 
-pub +names-differ-spec : {M : Type 1} → statement M
-+names-differ-spec = close μ λ t. lts.spec (
+pub +names_differ_spec : {M : Type 1} → statement M
++names_differ_spec = close μ λ t. lts.spec (
   entry-at-reads.Asked,
   entry-at-reads.Learnt,
   bears-reads.Asked,

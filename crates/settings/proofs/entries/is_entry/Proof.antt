@@ -4,9 +4,9 @@ use Rattle.model.proofs.Tests.{tests}
 use Rattle.settings.proofs.entries.is_entry.Statement.{statement}
 use Rattle.settings.proofs.entries.is_entry.Tie as tie
 
-pub is-entry-spec : {M : Type 1} → statement M
+pub is_entry_spec : {M : Type 1} → statement M
 unfolding Layout.is_entry
-is-entry-spec = tie.close (tie.spec
+is_entry_spec = tie.close (tie.spec
     (λ c. search (rules, tests))
     (λ c. search (rules, tests))
     (λ c κs. search rules)

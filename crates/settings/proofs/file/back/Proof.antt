@@ -3,8 +3,8 @@ use Rattle.settings.proofs.Laws.{files}
 use Rattle.settings.proofs.file.back.Statement.{statement}
 use Rattle.settings.proofs.file.back.Tie as tie
 
-pub back-spec : {M : Type 1} → statement M
-back-spec = tie.close (tie.spec
+pub back_spec : {M : Type 1} → statement M
+back_spec = tie.close (tie.spec
     (λ c. search rules)
     (λ c. search rules)
     (λ c. search rules)

@@ -3,8 +3,8 @@ use Rattle.settings.proofs.Laws.{files}
 use Rattle.settings.proofs.file.begins.Statement.{statement}
 use Rattle.settings.proofs.file.begins.Tie as tie
 
-pub begins-spec : {M : Type 1} → statement M
-begins-spec = tie.close (tie.spec
+pub begins_spec : {M : Type 1} → statement M
+begins_spec = tie.close (tie.spec
     (λ c. search rules)
     (λ c. search rules)
     (λ c. search (rules, files))

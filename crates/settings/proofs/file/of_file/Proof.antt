@@ -3,8 +3,8 @@ use Rattle.settings.proofs.Laws.{files}
 use Rattle.settings.proofs.file.of_file.Statement.{statement}
 use Rattle.settings.proofs.file.of_file.Tie as tie
 
-pub of-file-spec : {M : Type 1} → statement M
-of-file-spec = tie.close (tie.spec
+pub of_file_spec : {M : Type 1} → statement M
+of_file_spec = tie.close (tie.spec
     (λ c. search (rules, files))
     (λ c κs. search rules)
     (λ c κs. search rules)

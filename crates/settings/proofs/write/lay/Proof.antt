@@ -3,8 +3,8 @@ use Rattle.settings.proofs.Writes.{laying}
 use Rattle.settings.proofs.write.lay.Statement.{statement}
 use Rattle.settings.proofs.write.lay.Tie as tie
 
-pub lay-spec : {M : Type 1} → statement M
-lay-spec = tie.close (tie.spec
+pub lay_spec : {M : Type 1} → statement M
+lay_spec = tie.close (tie.spec
     (λ c. search rules)
     (λ c. search rules)
     (λ c. search rules)

@@ -3,8 +3,8 @@ use Rattle.settings.proofs.Writes.{writing}
 use Rattle.settings.proofs.write.write_settings.Statement.{statement}
 use Rattle.settings.proofs.write.write_settings.Tie as tie
 
-pub write-settings-spec : {M : Type 1} → statement M
-write-settings-spec = tie.close (tie.spec
+pub write_settings_spec : {M : Type 1} → statement M
+write_settings_spec = tie.close (tie.spec
     (λ c. search (rules, writing))
     (λ c. search rules)
     (λ c. search rules)

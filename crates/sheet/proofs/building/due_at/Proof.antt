@@ -3,8 +3,8 @@ use Rattle.sheet.proofs.Laws.{numbering}
 use Rattle.sheet.proofs.building.due_at.Statement.{statement}
 use Rattle.sheet.proofs.building.due_at.Tie as tie
 
-pub due-at-spec : {M : Type 1} → statement M
-due-at-spec = tie.close (tie.spec
+pub due_at_spec : {M : Type 1} → statement M
+due_at_spec = tie.close (tie.spec
     (λ c. search (rules, numbering))
     (λ c κs. search rules)
     (λ c κs. search rules)

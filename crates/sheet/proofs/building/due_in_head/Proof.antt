@@ -4,8 +4,8 @@ use Rattle.sheet.proofs.Laws.{tests}
 use Rattle.sheet.proofs.building.due_in_head.Statement.{statement}
 use Rattle.sheet.proofs.building.due_in_head.Tie as tie
 
-pub due-in-head-spec : {M : Type 1} → statement M
+pub due_in_head_spec : {M : Type 1} → statement M
 unfolding Words.due_in_head
-due-in-head-spec = tie.close (tie.spec
+due_in_head_spec = tie.close (tie.spec
     (λ c. search (rules, tests))
     (λ c. search (rules, tests)))

@@ -4,9 +4,9 @@ use Rattle.sheet.proofs.Laws.{tests}
 use Rattle.sheet.proofs.building.letters.Statement.{statement}
 use Rattle.sheet.proofs.building.letters.Tie as tie
 
-pub letters-spec : {M : Type 1} → statement M
+pub letters_spec : {M : Type 1} → statement M
 unfolding Words.letters
-letters-spec = tie.close (tie.spec
+letters_spec = tie.close (tie.spec
     (λ c. search rules)
     (λ c. search (rules, tests))
     (λ c. search (rules, tests))

@@ -3,8 +3,8 @@ use Rattle.sheet.proofs.Laws.{numbering}
 use Rattle.sheet.proofs.building.number_of.Statement.{statement}
 use Rattle.sheet.proofs.building.number_of.Tie as tie
 
-pub number-of-spec : {M : Type 1} → statement M
-number-of-spec = tie.close (tie.spec
+pub number_of_spec : {M : Type 1} → statement M
+number_of_spec = tie.close (tie.spec
     (λ c. search (rules, numbering))
     (λ c κs. search rules)
     (λ c. search (rules, numbering))

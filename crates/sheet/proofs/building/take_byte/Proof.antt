@@ -3,8 +3,8 @@ use Rattle.sheet.proofs.Laws.{bytes}
 use Rattle.sheet.proofs.building.take_byte.Statement.{statement}
 use Rattle.sheet.proofs.building.take_byte.Tie as tie
 
-pub take-byte-spec : {M : Type 1} → statement M
-take-byte-spec = tie.close (tie.spec
+pub take_byte_spec : {M : Type 1} → statement M
+take_byte_spec = tie.close (tie.spec
     (λ c κs. search rules)
     (λ c. search (rules, bytes))
     (λ c. search rules)

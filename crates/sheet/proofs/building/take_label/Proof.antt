@@ -3,8 +3,8 @@ use Rattle.sheet.proofs.Laws.{laying}
 use Rattle.sheet.proofs.building.take_label.Statement.{statement}
 use Rattle.sheet.proofs.building.take_label.Tie as tie
 
-pub take-label-spec : {M : Type 1} → statement M
-take-label-spec = tie.close (tie.spec
+pub take_label_spec : {M : Type 1} → statement M
+take_label_spec = tie.close (tie.spec
     (λ c. search (rules, laying))
     (λ c κs. search rules)
     (λ c. search rules)

@@ -3,8 +3,8 @@ use Rattle.sheet.proofs.Laws.{bytes}
 use Rattle.sheet.proofs.building.take_version.Statement.{statement}
 use Rattle.sheet.proofs.building.take_version.Tie as tie
 
-pub take-version-spec : {M : Type 1} → statement M
-take-version-spec = tie.close (tie.spec
+pub take_version_spec : {M : Type 1} → statement M
+take_version_spec = tie.close (tie.spec
     (λ c κs. search rules)
     (λ c. search (rules, bytes))
     (λ c. search rules)

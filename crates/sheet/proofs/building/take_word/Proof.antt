@@ -3,8 +3,8 @@ use Rattle.sheet.proofs.Laws.{nexts}
 use Rattle.sheet.proofs.building.take_word.Statement.{statement}
 use Rattle.sheet.proofs.building.take_word.Tie as tie
 
-pub take-word-spec : {M : Type 1} → statement M
-take-word-spec = tie.close (tie.spec
+pub take_word_spec : {M : Type 1} → statement M
+take_word_spec = tie.close (tie.spec
     (λ c. search (rules, nexts))
     (λ c. search rules)
     (λ c κs. search rules)

@@ -3,8 +3,8 @@ use Rattle.sheet.proofs.Shown.{showing}
 use Rattle.sheet.proofs.rows.entry_row.Statement.{statement}
 use Rattle.sheet.proofs.rows.entry_row.Tie as tie
 
-pub entry-row-spec : {M : Type 1} → statement M
-entry-row-spec = tie.close (tie.spec
+pub entry_row_spec : {M : Type 1} → statement M
+entry_row_spec = tie.close (tie.spec
     (λ c. search (rules, showing))
     (λ c. search (rules, showing))
     (λ c. search (rules, showing))

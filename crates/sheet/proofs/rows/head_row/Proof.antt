@@ -3,8 +3,8 @@ use Rattle.sheet.proofs.Shown.{heads}
 use Rattle.sheet.proofs.rows.head_row.Statement.{statement}
 use Rattle.sheet.proofs.rows.head_row.Tie as tie
 
-pub head-row-spec : {M : Type 1} → statement M
-head-row-spec = tie.close (tie.spec
+pub head_row_spec : {M : Type 1} → statement M
+head_row_spec = tie.close (tie.spec
     (λ c. search (rules, heads))
     (λ c. search (rules, heads))
     (λ c. search (rules, heads))

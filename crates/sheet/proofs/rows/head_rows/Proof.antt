@@ -4,9 +4,9 @@ use Rattle.sheet.proofs.Laws.{tests}
 use Rattle.sheet.proofs.rows.head_rows.Statement.{statement}
 use Rattle.sheet.proofs.rows.head_rows.Tie as tie
 
-pub head-rows-spec : {M : Type 1} → statement M
+pub head_rows_spec : {M : Type 1} → statement M
 unfolding Rows.head_rows
-head-rows-spec = tie.close (tie.spec
+head_rows_spec = tie.close (tie.spec
     (λ c. search (rules, tests))
     (λ c. search (rules, tests))
     (λ c. search (rules, tests)))

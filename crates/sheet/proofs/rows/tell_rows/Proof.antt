@@ -9,8 +9,8 @@ invariant-loop file number₀ number = Unit {0}
 abbrev decreases-loop : tie.decreases-loop
 decreases-loop file number₀ number = 19 - number
 
-pub tell-rows-spec : {M : Type 1} → statement M
-tell-rows-spec = tie.close (tie.spec invariant-loop decreases-loop
+pub tell_rows_spec : {M : Type 1} → statement M
+tell_rows_spec = tie.close (tie.spec invariant-loop decreases-loop
     (λ c. search rules)
     (λ c κs. search rules)
     (λ c κs. search rules)

@@ -4,9 +4,9 @@ use Rattle.telling.proofs.Lows.{tell_is}
 use Rattle.telling.proofs.cells.below.Statement.{statement}
 use Rattle.telling.proofs.cells.below.Tie as tie
 
-pub below-spec : {M : Type 1} → statement M
+pub below_spec : {M : Type 1} → statement M
 unfolding Classes.below
-below-spec = tie.close (tie.spec
+below_spec = tie.close (tie.spec
     (λ c κs. search rules)
     (λ c κs. search rules)
     (λ c. search (rules, tell_is)))

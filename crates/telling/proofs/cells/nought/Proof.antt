@@ -4,9 +4,9 @@ use Rattle.telling.proofs.Lows.{tell_is}
 use Rattle.telling.proofs.cells.nought.Statement.{statement}
 use Rattle.telling.proofs.cells.nought.Tie as tie
 
-pub nought-spec : {M : Type 1} → statement M
+pub nought_spec : {M : Type 1} → statement M
 unfolding Classes.nought
-nought-spec = tie.close (tie.spec
+nought_spec = tie.close (tie.spec
     (λ c κs. search rules)
     (λ c κs. search rules)
     (λ c. search (rules, tell_is)))

@@ -4,9 +4,9 @@ use Rattle.telling.proofs.Lows.{tell_is}
 use Rattle.telling.proofs.cells.outer.Statement.{statement}
 use Rattle.telling.proofs.cells.outer.Tie as tie
 
-pub outer-spec : {M : Type 1} → statement M
+pub outer_spec : {M : Type 1} → statement M
 unfolding Classes.outer
-outer-spec = tie.close (tie.spec
+outer_spec = tie.close (tie.spec
     (λ c κs. search rules)
     (λ c κs. search rules)
     (λ c. search (rules, tell_is)))

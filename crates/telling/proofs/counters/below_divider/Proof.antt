@@ -3,8 +3,8 @@ use Rattle.telling.proofs.Asking.{divider_is}
 use Rattle.telling.proofs.counters.below_divider.Statement.{statement}
 use Rattle.telling.proofs.counters.below_divider.Tie as tie
 
-pub below-divider-spec : {M : Type 1} → statement M
-below-divider-spec = tie.close (tie.spec
+pub below_divider_spec : {M : Type 1} → statement M
+below_divider_spec = tie.close (tie.spec
     (λ c κs. search rules)
     (λ c κs. search rules)
     (λ c. search (rules, divider_is)))

@@ -4,9 +4,9 @@ use Rattle.telling.proofs.Lows.{lows}
 use Rattle.telling.proofs.counters.clock.Statement.{statement}
 use Rattle.telling.proofs.counters.clock.Tie as tie
 
-pub clock-spec : {M : Type 1} → statement M
+pub clock_spec : {M : Type 1} → statement M
 unfolding Classes.clock
-clock-spec = tie.close (tie.spec
+clock_spec = tie.close (tie.spec
     (λ c κs. search rules)
     (λ c κs. search rules)
     (λ c κs. search rules)

@@ -4,9 +4,9 @@ use Rattle.telling.proofs.Lows.{lows}
 use Rattle.telling.proofs.counters.counters.Statement.{statement}
 use Rattle.telling.proofs.counters.counters.Tie as tie
 
-pub counters-spec : {M : Type 1} → statement M
+pub counters_spec : {M : Type 1} → statement M
 unfolding Classes.of_counters
-counters-spec = tie.close (tie.spec
+counters_spec = tie.close (tie.spec
     (λ c κs. search rules)
     (λ c κs. search rules)
     (λ c. search (rules, lows) depth 8))

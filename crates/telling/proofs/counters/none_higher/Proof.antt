@@ -21,8 +21,8 @@ invariant-loop m low lowest₀ cell₀ left₀ lowest cell left =
 abbrev decreases-loop : tie.decreases-loop
 decreases-loop m low lowest₀ cell₀ left₀ lowest cell left = left
 
-pub none-higher-spec : {M : Type 1} → statement M
-none-higher-spec = tie.close (tie.spec invariant-loop decreases-loop
+pub none_higher_spec : {M : Type 1} → statement M
+none_higher_spec = tie.close (tie.spec invariant-loop decreases-loop
     (λ c. search (rules, processors))
     (λ c κs. search (rules, control_low))
     (λ c. search (rules, processors))

@@ -3,8 +3,8 @@ use Rattle.telling.proofs.Asking.{higher_is, higher_waits}
 use Rattle.telling.proofs.counters.not_higher.Statement.{statement}
 use Rattle.telling.proofs.counters.not_higher.Tie as tie
 
-pub not-higher-spec : {M : Type 1} → statement M
-not-higher-spec = tie.close (tie.spec
+pub not_higher_spec : {M : Type 1} → statement M
+not_higher_spec = tie.close (tie.spec
     (λ c κs. search rules)
     (λ c κs. search rules)
     (λ c κs. search rules)

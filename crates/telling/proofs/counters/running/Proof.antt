@@ -4,9 +4,9 @@ use Rattle.telling.proofs.Lows.{lows}
 use Rattle.telling.proofs.counters.running.Statement.{statement}
 use Rattle.telling.proofs.counters.running.Tie as tie
 
-pub running-spec : {M : Type 1} → statement M
+pub running_spec : {M : Type 1} → statement M
 unfolding Classes.running
-running-spec = tie.close (tie.spec
+running_spec = tie.close (tie.spec
     (λ c κs. search rules)
     (λ c κs. search rules)
     (λ c κs. search rules)

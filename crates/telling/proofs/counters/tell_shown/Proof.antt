@@ -3,8 +3,8 @@ use Rattle.telling.proofs.Lows.{tell_is}
 use Rattle.telling.proofs.counters.tell_shown.Statement.{statement}
 use Rattle.telling.proofs.counters.tell_shown.Tie as tie
 
-pub tell-shown-spec : {M : Type 1} → statement M
-tell-shown-spec = tie.close (tie.spec
+pub tell_shown_spec : {M : Type 1} → statement M
+tell_shown_spec = tie.close (tie.spec
     (λ c κs. search rules)
     (λ c κs. search rules)
     (λ c. search (rules, tell_is)))

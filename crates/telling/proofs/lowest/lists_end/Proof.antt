@@ -16,8 +16,8 @@ invariant-loop m heads step head low lowest₀ a₀ left₀ lowest a left =
 abbrev decreases-loop : tie.decreases-loop
 decreases-loop m heads step head low lowest₀ a₀ left₀ lowest a left = left
 
-pub lists-end-spec : {M : Type 1} → statement M
-lists-end-spec = tie.close (tie.spec invariant-loop decreases-loop
+pub lists_end_spec : {M : Type 1} → statement M
+lists_end_spec = tie.close (tie.spec invariant-loop decreases-loop
     (λ c. search (rules, turns))
     (λ c κs. search rules)
     (λ c. search rules)

@@ -20,8 +20,8 @@ invariant-loop m low lowest₀ cell₀ left₀ lowest cell left =
 abbrev decreases-loop : tie.decreases-loop
 decreases-loop m low lowest₀ cell₀ left₀ lowest cell left = left
 
-pub owns-end-spec : {M : Type 1} → statement M
-owns-end-spec = tie.close (tie.spec invariant-loop decreases-loop
+pub owns_end_spec : {M : Type 1} → statement M
+owns_end_spec = tie.close (tie.spec invariant-loop decreases-loop
     (λ c. search (rules, heads))
     (λ c κs. search (rules, control_low))
     (λ c. search (rules, heads))

@@ -3,8 +3,8 @@ use Rattle.telling.proofs.Asking.{pointer_none, pointer_some}
 use Rattle.telling.proofs.lowest.pointer.Statement.{statement}
 use Rattle.telling.proofs.lowest.pointer.Tie as tie
 
-pub pointer-spec : {M : Type 1} → statement M
-pointer-spec = tie.close (tie.spec
+pub pointer_spec : {M : Type 1} → statement M
+pointer_spec = tie.close (tie.spec
     (λ c κs. search rules)
     (λ c. search (rules, pointer_none, pointer_some))
     (λ c κs. search rules)

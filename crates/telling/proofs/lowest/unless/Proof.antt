@@ -3,8 +3,8 @@ use Rattle.telling.proofs.Lows.{rule_kept, rule_broken}
 use Rattle.telling.proofs.lowest.unless.Statement.{statement}
 use Rattle.telling.proofs.lowest.unless.Tie as tie
 
-pub unless-spec : {M : Type 1} → statement M
-unless-spec = tie.close (tie.spec
+pub unless_spec : {M : Type 1} → statement M
+unless_spec = tie.close (tie.spec
     (λ c. search rules)
     (λ c κs. search rules)
     (λ c. search (rules, rule_kept, rule_broken)))

@@ -16,8 +16,8 @@ use Rattle.telling.proofs.met.+mark_path.Tie.{close}
 abbrev μ : Measures 1 kinds.ps ℕ
 μ κs a = a.1.1.1.1.0
 
-pub +mark-path-spec : {M : Type 1} → statement M
-+mark-path-spec = close μ λ t. lts.spec (
+pub +mark_path_spec : {M : Type 1} → statement M
++mark_path_spec = close μ λ t. lts.spec (
   control-at-reads.Asked,
   control-at-reads.Learnt,
   mark-reads.Asked,

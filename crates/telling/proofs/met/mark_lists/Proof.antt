@@ -19,8 +19,8 @@ invariant-loop m marks heads step head t₀ a₀ left₀ t a left =
 abbrev decreases-loop : tie.decreases-loop
 decreases-loop m marks heads step head t₀ a₀ left₀ t a left = left
 
-pub mark-lists-spec : {M : Type 1} → statement M
-mark-lists-spec = tie.close (tie.spec invariant-loop decreases-loop
+pub mark_lists_spec : {M : Type 1} → statement M
+mark_lists_spec = tie.close (tie.spec invariant-loop decreases-loop
     (λ c. search (rules, marchings))
     (λ c κs. search rules)
     (λ c. search rules)

@@ -20,8 +20,8 @@ invariant-loop m marks t₀ cell₀ left₀ t cell left =
 abbrev decreases-loop : tie.decreases-loop
 decreases-loop m marks t₀ cell₀ left₀ t cell left = left
 
-pub mark-owns-spec : {M : Type 1} → statement M
-mark-owns-spec = tie.close (tie.spec invariant-loop decreases-loop
+pub mark_owns_spec : {M : Type 1} → statement M
+mark_owns_spec = tie.close (tie.spec invariant-loop decreases-loop
     (λ c. search (rules, marchings))
     (λ c κs. search (rules, control_low))
     (λ c. search (rules, marchings))

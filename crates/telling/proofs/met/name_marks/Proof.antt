@@ -18,8 +18,8 @@ invariant-loop m t₀ cell₀ left₀ t cell left =
 abbrev decreases-loop : tie.decreases-loop
 decreases-loop m t₀ cell₀ left₀ t cell left = left
 
-pub name-marks-spec : {M : Type 1} → statement M
-name-marks-spec = tie.close (tie.spec invariant-loop decreases-loop
+pub name_marks_spec : {M : Type 1} → statement M
+name_marks_spec = tie.close (tie.spec invariant-loop decreases-loop
     (λ c. search (rules, marchings))
     (λ c κs. search (rules, control_low))
     (λ c. search (rules, marchings))

@@ -3,7 +3,7 @@ use Rattle.telling.proofs.Meeting.{title_is}
 use Rattle.telling.proofs.met.title.Statement.{statement}
 use Rattle.telling.proofs.met.title.Tie as tie
 
-pub title-spec : {M : Type 1} → statement M
-title-spec = tie.close (tie.spec
+pub title_spec : {M : Type 1} → statement M
+title_spec = tie.close (tie.spec
     (λ c. search rules)
     (λ c. search (rules, title_is)))

@@ -3,8 +3,8 @@ use Rattle.telling.proofs.Meeting.{used_is}
 use Rattle.telling.proofs.met.used_marks.Statement.{statement}
 use Rattle.telling.proofs.met.used_marks.Tie as tie
 
-pub used-marks-spec : {M : Type 1} → statement M
-used-marks-spec = tie.close (tie.spec
+pub used_marks_spec : {M : Type 1} → statement M
+used_marks_spec = tie.close (tie.spec
     (λ c κs. search rules)
     (λ c κs. search rules)
     (λ c κs. search rules)

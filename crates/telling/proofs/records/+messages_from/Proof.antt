@@ -17,8 +17,8 @@ use Rattle.telling.proofs.records.+messages_from.Tie.{close}
 abbrev μ : Measures 1 kinds.ps ℕ
 μ κs a = a.1.1.0
 
-pub +messages-from-spec : {M : Type 1} → statement M
-+messages-from-spec = close μ λ t. lts.spec (
+pub +messages_from_spec : {M : Type 1} → statement M
++messages_from_spec = close μ λ t. lts.spec (
   control-at-reads.Asked,
   control-at-reads.Learnt,
   message-reads.Asked,

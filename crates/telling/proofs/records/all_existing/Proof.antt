@@ -22,8 +22,8 @@ invariant-loop m marks low lowest₀ x₀ left₀ lowest x left =
 abbrev decreases-loop : tie.decreases-loop
 decreases-loop m marks low lowest₀ x₀ left₀ lowest x left = left
 
-pub all-existing-spec : {M : Type 1} → statement M
-all-existing-spec = tie.close (tie.spec invariant-loop decreases-loop
+pub all_existing_spec : {M : Type 1} → statement M
+all_existing_spec = tie.close (tie.spec invariant-loop decreases-loop
     (λ c. search (rules, turns))
     (λ c κs. search rules)
     (λ c κs. search rules)

@@ -23,8 +23,8 @@ invariant-loop m marks low lowest₀ cell₀ left₀ lowest cell left =
 abbrev decreases-loop : tie.decreases-loop
 decreases-loop m marks low lowest₀ cell₀ left₀ lowest cell left = left
 
-pub all-labels-spec : {M : Type 1} → statement M
-all-labels-spec = tie.close (tie.spec invariant-loop decreases-loop
+pub all_labels_spec : {M : Type 1} → statement M
+all_labels_spec = tie.close (tie.spec invariant-loop decreases-loop
     (λ c. search (rules, processors))
     (λ c κs. search (rules, control_low))
     (λ c. search (rules, processors))

@@ -24,8 +24,8 @@ invariant-loop m low lowest₀ cell₀ left₀ lowest cell left =
 abbrev decreases-loop : tie.decreases-loop
 decreases-loop m low lowest₀ cell₀ left₀ lowest cell left = left
 
-pub all-messages-spec : {M : Type 1} → statement M
-all-messages-spec = tie.close (tie.spec invariant-loop decreases-loop
+pub all_messages_spec : {M : Type 1} → statement M
+all_messages_spec = tie.close (tie.spec invariant-loop decreases-loop
     (λ c. search (rules, letters))
     (λ c κs. search (rules, control_low))
     (λ c. search (rules, letters))

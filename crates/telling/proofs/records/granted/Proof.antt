@@ -4,9 +4,9 @@ use Rattle.telling.proofs.Lows.{lows}
 use Rattle.telling.proofs.records.granted.Statement.{statement}
 use Rattle.telling.proofs.records.granted.Tie as tie
 
-pub granted-spec : {M : Type 1} → statement M
+pub granted_spec : {M : Type 1} → statement M
 unfolding Classes.granted
-granted-spec = tie.close (tie.spec
+granted_spec = tie.close (tie.spec
     (λ c κs. search rules)
     (λ c κs. search rules)
     (λ c κs. search rules)

@@ -3,8 +3,8 @@ use Rattle.telling.proofs.Meeting.{label_by}
 use Rattle.telling.proofs.records.label.Statement.{statement}
 use Rattle.telling.proofs.records.label.Tie as tie
 
-pub label-spec : {M : Type 1} → statement M
-label-spec = tie.close (tie.spec
+pub label_spec : {M : Type 1} → statement M
+label_spec = tie.close (tie.spec
     (λ c κs. search (rules, label_by))
     (λ c κs. search (rules, label_by))
     (λ c κs. search (rules, label_by))

@@ -4,9 +4,9 @@ use Rattle.telling.proofs.Lows.{lows}
 use Rattle.telling.proofs.records.labels.Statement.{statement}
 use Rattle.telling.proofs.records.labels.Tie as tie
 
-pub labels-spec : {M : Type 1} → statement M
+pub labels_spec : {M : Type 1} → statement M
 unfolding Classes.labels
-labels-spec = tie.close (tie.spec
+labels_spec = tie.close (tie.spec
     (λ c κs. search rules)
     (λ c κs. search rules)
     (λ c. search (rules, lows) depth 8))

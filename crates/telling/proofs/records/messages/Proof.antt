@@ -4,8 +4,8 @@ use Rattle.telling.proofs.Lows.{lows}
 use Rattle.telling.proofs.records.messages.Statement.{statement}
 use Rattle.telling.proofs.records.messages.Tie as tie
 
-pub messages-spec : {M : Type 1} → statement M
+pub messages_spec : {M : Type 1} → statement M
 unfolding Classes.messages
-messages-spec = tie.close (tie.spec
+messages_spec = tie.close (tie.spec
     (λ c κs. search rules)
     (λ c. search (rules, lows) depth 8))

@@ -3,8 +3,8 @@ use Rattle.telling.proofs.Lows.{place_is}
 use Rattle.telling.proofs.records.messages_in.Statement.{statement}
 use Rattle.telling.proofs.records.messages_in.Tie as tie
 
-pub messages-in-spec : {M : Type 1} → statement M
-messages-in-spec = tie.close (tie.spec
+pub messages_in_spec : {M : Type 1} → statement M
+messages_in_spec = tie.close (tie.spec
     (λ c κs. search rules)
     (λ c κs. search rules)
     (λ c. search (rules, place_is)))

@@ -4,9 +4,9 @@ use Rattle.telling.proofs.Lows.{lows}
 use Rattle.telling.proofs.records.records.Statement.{statement}
 use Rattle.telling.proofs.records.records.Tie as tie
 
-pub records-spec : {M : Type 1} → statement M
+pub records_spec : {M : Type 1} → statement M
 unfolding Classes.of_records
-records-spec = tie.close (tie.spec
+records_spec = tie.close (tie.spec
     (λ c κs. search rules)
     (λ c κs. search rules)
     (λ c κs. search rules)

@@ -20,8 +20,8 @@ invariant-loop m low lowest₀ x₀ left₀ lowest x left =
 abbrev decreases-loop : tie.decreases-loop
 decreases-loop m low lowest₀ x₀ left₀ lowest x left = left
 
-pub rest-nought-spec : {M : Type 1} → statement M
-rest-nought-spec = tie.close (tie.spec invariant-loop decreases-loop
+pub rest_nought_spec : {M : Type 1} → statement M
+rest_nought_spec = tie.close (tie.spec invariant-loop decreases-loop
     (λ c. search rules)
     (λ c. search (rules, turns))
     (λ c κs. search rules)

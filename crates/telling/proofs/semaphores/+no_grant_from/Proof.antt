@@ -18,8 +18,8 @@ use Rattle.telling.proofs.semaphores.+no_grant_from.Tie.{close}
 abbrev μ : Measures 1 kinds.ps ℕ
 μ κs a = a.1.1.0
 
-pub +no-grant-from-spec : {M : Type 1} → statement M
-+no-grant-from-spec = close μ λ t. lts.spec (
+pub +no_grant_from_spec : {M : Type 1} → statement M
++no_grant_from_spec = close μ λ t. lts.spec (
   control-at-reads.Asked,
   control-at-reads.Learnt,
   no-grant-reads.Asked,

@@ -18,8 +18,8 @@ use Rattle.telling.proofs.semaphores.+none_free_from.Tie.{close}
 abbrev μ : Measures 1 kinds.ps ℕ
 μ κs a = a.1.1.0
 
-pub +none-free-from-spec : {M : Type 1} → statement M
-+none-free-from-spec = close μ λ t. lts.spec (
+pub +none_free_from_spec : {M : Type 1} → statement M
++none_free_from_spec = close μ λ t. lts.spec (
   control-at-reads.Asked,
   control-at-reads.Learnt,
   none-free-reads.Asked,

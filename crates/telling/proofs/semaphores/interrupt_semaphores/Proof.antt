@@ -21,8 +21,8 @@ invariant-loop m low lowest₀ x₀ left₀ lowest x left =
 abbrev decreases-loop : tie.decreases-loop
 decreases-loop m low lowest₀ x₀ left₀ lowest x left = left
 
-pub interrupt-semaphores-spec : {M : Type 1} → statement M
-interrupt-semaphores-spec = tie.close (tie.spec invariant-loop decreases-loop
+pub interrupt_semaphores_spec : {M : Type 1} → statement M
+interrupt_semaphores_spec = tie.close (tie.spec invariant-loop decreases-loop
     (λ c. search (rules, turns))
     (λ c κs. search rules)
     (λ c κs. search rules)

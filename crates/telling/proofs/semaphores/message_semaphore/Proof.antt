@@ -8,8 +8,8 @@ returns : tie.Need-returns
 unfolding Judge.message_semaphore Rule.holds
 returns c = cc
 
-pub message-semaphore-spec : {M : Type 1} → statement M
-message-semaphore-spec = tie.close (tie.spec
+pub message_semaphore_spec : {M : Type 1} → statement M
+message_semaphore_spec = tie.close (tie.spec
     (λ c κs. search rules)
     (λ c κs. search rules)
     (λ c κs. search rules)

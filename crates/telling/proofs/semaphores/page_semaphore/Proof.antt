@@ -9,8 +9,8 @@ returns : tie.Need-returns
 unfolding Classes.page_semaphore Judge.page_semaphore Rule.holds
 returns c = cc
 
-pub page-semaphore-spec : {M : Type 1} → statement M
-page-semaphore-spec = tie.close (tie.spec
+pub page_semaphore_spec : {M : Type 1} → statement M
+page_semaphore_spec = tie.close (tie.spec
     (λ c κs. search rules)
     (λ c κs. search rules)
     (λ c κs. search rules)

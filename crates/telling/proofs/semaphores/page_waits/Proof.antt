@@ -4,9 +4,9 @@ use Rattle.telling.proofs.Lows.{lows}
 use Rattle.telling.proofs.semaphores.page_waits.Statement.{statement}
 use Rattle.telling.proofs.semaphores.page_waits.Tie as tie
 
-pub page-waits-spec : {M : Type 1} → statement M
+pub page_waits_spec : {M : Type 1} → statement M
 unfolding Classes.page_waits
-page-waits-spec = tie.close (tie.spec
+page_waits_spec = tie.close (tie.spec
     (λ c κs. search rules)
     (λ c κs. search rules)
     (λ c. search (rules, lows) depth 8))

@@ -4,9 +4,9 @@ use Rattle.telling.proofs.Lows.{lows}
 use Rattle.telling.proofs.semaphores.semaphores.Statement.{statement}
 use Rattle.telling.proofs.semaphores.semaphores.Tie as tie
 
-pub semaphores-spec : {M : Type 1} → statement M
+pub semaphores_spec : {M : Type 1} → statement M
 unfolding Classes.semaphores
-semaphores-spec = tie.close (tie.spec
+semaphores_spec = tie.close (tie.spec
     (λ c κs. search rules)
     (λ c κs. search rules)
     (λ c κs. search rules)

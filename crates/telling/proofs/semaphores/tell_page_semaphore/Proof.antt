@@ -3,8 +3,8 @@ use Rattle.telling.proofs.Lows.{tell_is}
 use Rattle.telling.proofs.semaphores.tell_page_semaphore.Statement.{statement}
 use Rattle.telling.proofs.semaphores.tell_page_semaphore.Tie as tie
 
-pub tell-page-semaphore-spec : {M : Type 1} → statement M
-tell-page-semaphore-spec = tie.close (tie.spec
+pub tell_page_semaphore_spec : {M : Type 1} → statement M
+tell_page_semaphore_spec = tie.close (tie.spec
     (λ c κs. search rules)
     (λ c κs. search rules)
     (λ c. search (rules, tell_is)))

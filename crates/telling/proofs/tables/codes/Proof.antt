@@ -4,9 +4,9 @@ use Rattle.telling.proofs.Lows.{lows}
 use Rattle.telling.proofs.tables.codes.Statement.{statement}
 use Rattle.telling.proofs.tables.codes.Tie as tie
 
-pub codes-spec : {M : Type 1} → statement M
+pub codes_spec : {M : Type 1} → statement M
 unfolding Classes.codes
-codes-spec = tie.close (tie.spec
+codes_spec = tie.close (tie.spec
     (λ c κs. search rules)
     (λ c κs. search rules)
     (λ c κs. search rules)

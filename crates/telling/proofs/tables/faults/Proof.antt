@@ -4,9 +4,9 @@ use Rattle.telling.proofs.Lows.{lows}
 use Rattle.telling.proofs.tables.faults.Statement.{statement}
 use Rattle.telling.proofs.tables.faults.Tie as tie
 
-pub faults-spec : {M : Type 1} → statement M
+pub faults_spec : {M : Type 1} → statement M
 unfolding Classes.faults
-faults-spec = tie.close (tie.spec
+faults_spec = tie.close (tie.spec
     (λ c κs. search rules)
     (λ c κs. search rules)
     (λ c. search (rules, lows) depth 8))

@@ -4,9 +4,9 @@ use Rattle.telling.proofs.Lows.{lows}
 use Rattle.telling.proofs.tables.tables.Statement.{statement}
 use Rattle.telling.proofs.tables.tables.Tie as tie
 
-pub tables-spec : {M : Type 1} → statement M
+pub tables_spec : {M : Type 1} → statement M
 unfolding Classes.of_tables
-tables-spec = tie.close (tie.spec
+tables_spec = tie.close (tie.spec
     (λ c κs. search rules)
     (λ c κs. search rules)
     (λ c. search (rules, lows) depth 8))

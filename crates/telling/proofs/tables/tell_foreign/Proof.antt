@@ -4,9 +4,9 @@ use Rattle.telling.proofs.Lows.{tell_is}
 use Rattle.telling.proofs.tables.tell_foreign.Statement.{statement}
 use Rattle.telling.proofs.tables.tell_foreign.Tie as tie
 
-pub tell-foreign-spec : {M : Type 1} → statement M
+pub tell_foreign_spec : {M : Type 1} → statement M
 unfolding Classes.is_foreign
-tell-foreign-spec = tie.close (tie.spec
+tell_foreign_spec = tie.close (tie.spec
     (λ c κs. search rules)
     (λ c κs. search rules)
     (λ c κs. search rules)

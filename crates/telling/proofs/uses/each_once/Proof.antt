@@ -21,8 +21,8 @@ invariant-loop m marks low lowest₀ x₀ left₀ lowest x left =
 abbrev decreases-loop : tie.decreases-loop
 decreases-loop m marks low lowest₀ x₀ left₀ lowest x left = left
 
-pub each-once-spec : {M : Type 1} → statement M
-each-once-spec = tie.close (tie.spec invariant-loop decreases-loop
+pub each_once_spec : {M : Type 1} → statement M
+each_once_spec = tie.close (tie.spec invariant-loop decreases-loop
     (λ c. search (rules, turns))
     (λ c. search rules)
     (λ c κs. search rules)

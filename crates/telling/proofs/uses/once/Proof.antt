@@ -3,7 +3,7 @@ use Rattle.telling.proofs.Meeting.{once_by}
 use Rattle.telling.proofs.uses.once.Statement.{statement}
 use Rattle.telling.proofs.uses.once.Tie as tie
 
-pub once-spec : {M : Type 1} → statement M
-once-spec = tie.close (tie.spec
+pub once_spec : {M : Type 1} → statement M
+once_spec = tie.close (tie.spec
     (λ c κs. search rules)
     (λ c. search (rules, once_by)))

@@ -4,9 +4,9 @@ use Rattle.telling.proofs.Lows.{lows}
 use Rattle.telling.proofs.uses.pages.Statement.{statement}
 use Rattle.telling.proofs.uses.pages.Tie as tie
 
-pub pages-spec : {M : Type 1} → statement M
+pub pages_spec : {M : Type 1} → statement M
 unfolding Classes.of_pages
-pages-spec = tie.close (tie.spec
+pages_spec = tie.close (tie.spec
     (λ c κs. search rules)
     (λ c κs. search rules)
     (λ c. search (rules, lows) depth 8))

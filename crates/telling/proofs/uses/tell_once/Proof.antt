@@ -3,8 +3,8 @@ use Rattle.telling.proofs.Lows.{tell_is}
 use Rattle.telling.proofs.uses.tell_once.Statement.{statement}
 use Rattle.telling.proofs.uses.tell_once.Tie as tie
 
-pub tell-once-spec : {M : Type 1} → statement M
-tell-once-spec = tie.close (tie.spec
+pub tell_once_spec : {M : Type 1} → statement M
+tell_once_spec = tie.close (tie.spec
     (λ c κs. search rules)
     (λ c κs. search rules)
     (λ c κs. search rules)

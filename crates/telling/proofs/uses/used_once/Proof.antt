@@ -4,9 +4,9 @@ use Rattle.telling.proofs.Lows.{lows}
 use Rattle.telling.proofs.uses.used_once.Statement.{statement}
 use Rattle.telling.proofs.uses.used_once.Tie as tie
 
-pub used-once-spec : {M : Type 1} → statement M
+pub used_once_spec : {M : Type 1} → statement M
 unfolding Classes.used_once
-used-once-spec = tie.close (tie.spec
+used_once_spec = tie.close (tie.spec
     (λ c κs. search rules)
     (λ c κs. search rules)
     (λ c. search (rules, lows) depth 8))

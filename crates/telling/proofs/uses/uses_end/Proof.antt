@@ -4,9 +4,9 @@ use Rattle.telling.proofs.Lows.{lows}
 use Rattle.telling.proofs.uses.uses_end.Statement.{statement}
 use Rattle.telling.proofs.uses.uses_end.Tie as tie
 
-pub uses-end-spec : {M : Type 1} → statement M
+pub uses_end_spec : {M : Type 1} → statement M
 unfolding Classes.uses_end
-uses-end-spec = tie.close (tie.spec
+uses_end_spec = tie.close (tie.spec
     (λ c κs. search (rules, lows) depth 8)
     (λ c κs. search (rules, lows) depth 8)
     (λ c κs. search (rules, lows) depth 8)

@@ -15,8 +15,8 @@ use Rattle.telling.proofs.waits.+all_owners.Tie.{close}
 abbrev μ : Measures 1 kinds.ps ℕ
 μ κs a = a.1.1.1.1.0
 
-pub +all-owners-spec : {M : Type 1} → statement M
-+all-owners-spec = close μ λ t. lts.spec (
+pub +all_owners_spec : {M : Type 1} → statement M
++all_owners_spec = close μ λ t. lts.spec (
   control-at-reads.Asked,
   control-at-reads.Learnt,
   owner-reads.Asked,

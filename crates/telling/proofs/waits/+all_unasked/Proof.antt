@@ -15,8 +15,8 @@ use Rattle.telling.proofs.waits.+all_unasked.Tie.{close}
 abbrev μ : Measures 1 kinds.ps ℕ
 μ κs a = a.1.1.1.1.0
 
-pub +all-unasked-spec : {M : Type 1} → statement M
-+all-unasked-spec = close μ λ t. lts.spec (
+pub +all_unasked_spec : {M : Type 1} → statement M
++all_unasked_spec = close μ λ t. lts.spec (
   control-at-reads.Asked,
   control-at-reads.Learnt,
   unasked-reads.Asked,

@@ -17,8 +17,8 @@ use Rattle.telling.proofs.waits.+reasonless_from.Tie.{close}
 abbrev μ : Measures 1 kinds.ps ℕ
 μ κs a = a.1.1.0
 
-pub +reasonless-from-spec : {M : Type 1} → statement M
-+reasonless-from-spec = close μ λ t. lts.spec (
+pub +reasonless_from_spec : {M : Type 1} → statement M
++reasonless_from_spec = close μ λ t. lts.spec (
   control-at-reads.Asked,
   control-at-reads.Learnt,
   reasonless-reads.Asked,

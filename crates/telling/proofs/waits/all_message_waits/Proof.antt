@@ -22,8 +22,8 @@ invariant-loop m low lowest₀ cell₀ left₀ lowest cell left =
 abbrev decreases-loop : tie.decreases-loop
 decreases-loop m low lowest₀ cell₀ left₀ lowest cell left = left
 
-pub all-message-waits-spec : {M : Type 1} → statement M
-all-message-waits-spec = tie.close (tie.spec invariant-loop decreases-loop
+pub all_message_waits_spec : {M : Type 1} → statement M
+all_message_waits_spec = tie.close (tie.spec invariant-loop decreases-loop
     (λ c. search (rules, processors))
     (λ c κs. search (rules, control_low))
     (λ c. search (rules, processors))

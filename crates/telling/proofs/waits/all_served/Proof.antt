@@ -23,8 +23,8 @@ invariant-loop m low lowest₀ head₀ left₀ lowest head left =
 abbrev decreases-loop : tie.decreases-loop
 decreases-loop m low lowest₀ head₀ left₀ lowest head left = left
 
-pub all-served-spec : {M : Type 1} → statement M
-all-served-spec = tie.close (tie.spec invariant-loop decreases-loop
+pub all_served_spec : {M : Type 1} → statement M
+all_served_spec = tie.close (tie.spec invariant-loop decreases-loop
     (λ c. search (rules, turns))
     (λ c κs. search rules)
     (λ c. search rules)

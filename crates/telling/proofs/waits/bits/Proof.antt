@@ -23,8 +23,8 @@ invariant-loop m marks low lowest₀ cell₀ left₀ lowest cell left =
 abbrev decreases-loop : tie.decreases-loop
 decreases-loop m marks low lowest₀ cell₀ left₀ lowest cell left = left
 
-pub bits-spec : {M : Type 1} → statement M
-bits-spec = tie.close (tie.spec invariant-loop decreases-loop
+pub bits_spec : {M : Type 1} → statement M
+bits_spec = tie.close (tie.spec invariant-loop decreases-loop
     (λ c. search (rules, processors))
     (λ c κs. search (rules, control_low))
     (λ c. search (rules, processors))

@@ -4,9 +4,9 @@ use Rattle.telling.proofs.Lows.{lows}
 use Rattle.telling.proofs.waits.queues_end.Statement.{statement}
 use Rattle.telling.proofs.waits.queues_end.Tie as tie
 
-pub queues-end-spec : {M : Type 1} → statement M
+pub queues_end_spec : {M : Type 1} → statement M
 unfolding Classes.queues_end
-queues-end-spec = tie.close (tie.spec
+queues_end_spec = tie.close (tie.spec
     (λ c κs. search (rules, lows) depth 8)
     (λ c κs. search (rules, lows) depth 8)
     (λ c κs. search (rules, lows) depth 8)

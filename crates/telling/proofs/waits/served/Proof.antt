@@ -4,8 +4,8 @@ use Rattle.telling.proofs.Walking.{met_empty}
 use Rattle.telling.proofs.waits.served.Statement.{statement}
 use Rattle.telling.proofs.waits.served.Tie as tie
 
-pub served-spec : {M : Type 1} → statement M
-served-spec = tie.close (tie.spec
+pub served_spec : {M : Type 1} → statement M
+served_spec = tie.close (tie.spec
     (λ c κs. search rules)
     (λ c. search (rules, low_none, head_is, met_empty))
     (λ c κs. search rules)

@@ -3,8 +3,8 @@ use Rattle.telling.proofs.Meeting.{waiter_by}
 use Rattle.telling.proofs.waits.waiter.Statement.{statement}
 use Rattle.telling.proofs.waits.waiter.Tie as tie
 
-pub waiter-spec : {M : Type 1} → statement M
-waiter-spec = tie.close (tie.spec
+pub waiter_spec : {M : Type 1} → statement M
+waiter_spec = tie.close (tie.spec
     (λ c κs. search rules)
     (λ c κs. search rules)
     (λ c. search (rules, waiter_by)))

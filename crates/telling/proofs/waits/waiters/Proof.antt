@@ -22,8 +22,8 @@ invariant-loop m marks listed low lowest₀ x₀ left₀ lowest x left =
 abbrev decreases-loop : tie.decreases-loop
 decreases-loop m marks listed low lowest₀ x₀ left₀ lowest x left = left
 
-pub waiters-spec : {M : Type 1} → statement M
-waiters-spec = tie.close (tie.spec invariant-loop decreases-loop
+pub waiters_spec : {M : Type 1} → statement M
+waiters_spec = tie.close (tie.spec invariant-loop decreases-loop
     (λ c. search (rules, turns))
     (λ c. search rules)
     (λ c κs. search rules)

@@ -4,9 +4,9 @@ use Rattle.telling.proofs.Lows.{lows}
 use Rattle.telling.proofs.waits.waiting_bits.Statement.{statement}
 use Rattle.telling.proofs.waits.waiting_bits.Tie as tie
 
-pub waiting-bits-spec : {M : Type 1} → statement M
+pub waiting_bits_spec : {M : Type 1} → statement M
 unfolding Classes.waiting_bits
-waiting-bits-spec = tie.close (tie.spec
+waiting_bits_spec = tie.close (tie.spec
     (λ c κs. search rules)
     (λ c κs. search rules)
     (λ c κs. search rules)

@@ -4,9 +4,9 @@ use Rattle.telling.proofs.Lows.{lows}
 use Rattle.telling.proofs.waits.waits.Statement.{statement}
 use Rattle.telling.proofs.waits.waits.Tie as tie
 
-pub waits-spec : {M : Type 1} → statement M
+pub waits_spec : {M : Type 1} → statement M
 unfolding Classes.of_waits
-waits-spec = tie.close (tie.spec
+waits_spec = tie.close (tie.spec
     (λ c κs. search rules)
     (λ c κs. search rules)
     (λ c κs. search rules)

@@ -15,8 +15,8 @@ use Rattle.telling.proofs.walks.+how_many.Tie.{close}
 abbrev μ : Measures 1 kinds.ps ℕ
 μ κs a = a.1.1.1.0
 
-pub +how-many-spec : {M : Type 1} → statement M
-+how-many-spec = close μ λ t. lts.spec (
+pub +how_many_spec : {M : Type 1} → statement M
++how_many_spec = close μ λ t. lts.spec (
   control-at-reads.Asked,
   control-at-reads.Learnt,
   place-reads.Asked,

@@ -14,8 +14,8 @@ use Rattle.telling.proofs.walks.+last_cell.Tie.{close}
 abbrev μ : Measures 1 kinds.ps ℕ
 μ κs a = a.1.1.1.0
 
-pub +last-cell-spec : {M : Type 1} → statement M
-+last-cell-spec = close μ λ t. lts.spec (
+pub +last_cell_spec : {M : Type 1} → statement M
++last_cell_spec = close μ λ t. lts.spec (
   control-at-reads.Asked,
   control-at-reads.Learnt,
   place-reads.Asked,

@@ -15,8 +15,8 @@ use Rattle.telling.proofs.walks.+meets.Tie.{close}
 abbrev μ : Measures 1 kinds.ps ℕ
 μ κs a = a.1.1.1.1.0
 
-pub +meets-spec : {M : Type 1} → statement M
-+meets-spec = close μ λ t. lts.spec (
+pub +meets_spec : {M : Type 1} → statement M
++meets_spec = close μ λ t. lts.spec (
   control-at-reads.Asked,
   control-at-reads.Learnt,
   place-reads.Asked,

@@ -3,8 +3,8 @@ use Rattle.telling.proofs.Walking.{walkings}
 use Rattle.telling.proofs.walks.length_of.Statement.{statement}
 use Rattle.telling.proofs.walks.length_of.Tie as tie
 
-pub length-of-spec : {M : Type 1} → statement M
-length-of-spec = tie.close (tie.spec
+pub length_of_spec : {M : Type 1} → statement M
+length_of_spec = tie.close (tie.spec
     (λ c κs. search rules)
     (λ c κs. search rules)
     (λ c κs. search rules)

@@ -3,8 +3,8 @@ use Rattle.telling.proofs.Walking.{walkings}
 use Rattle.telling.proofs.walks.met_in.Statement.{statement}
 use Rattle.telling.proofs.walks.met_in.Tie as tie
 
-pub met-in-spec : {M : Type 1} → statement M
-met-in-spec = tie.close (tie.spec
+pub met_in_spec : {M : Type 1} → statement M
+met_in_spec = tie.close (tie.spec
     (λ c κs. search rules)
     (λ c κs. search rules)
     (λ c κs. search rules)
