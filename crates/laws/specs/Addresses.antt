@@ -11,7 +11,7 @@ use Rattle.model.specs.Lists.{count, link_of, range, mails, queues}
 use Rattle.model.specs.Tell.{Row, broken, offending, offending_in, Class}
 use Rattle.model.specs.Tell.Row.{tells}
 use Rattle.model.specs.declared.Finding.{Finding}
-use Rattle.model.specs.declared.Finding.TheVariants.{Nothing, Broken}
+use Rattle.model.specs.declared.Finding.TheVariants.{Nothing, WrongLength, Broken}
 use Rattle.model.specs.Tell.Class.{class}
 use Rattle.model.specs.Classes as Classes
 use Rattle.model.specs.Walks.{last_cell, gather}
@@ -195,6 +195,7 @@ AllWithin n [] = Unit {0}
 AllWithin n (class k ss ∷ cs) = WithinIn n ss × AllWithin n cs
 
 tells_within : (n : ℕ) (cs : List Class) → AllWithin n cs → {k a : ℕ} → Tells cs k a → a < n
+tells_within n [] w t = elim t [ ]
 tells_within n (class k ss ∷ cs) w (now i f) = offending_within_in n ss w.0 _ i
 tells_within n (class k ss ∷ cs) w (later e s) = tells_within n cs w.1 s
 
@@ -214,4 +215,5 @@ told_low m k a e = go (told_of bytes m) e (first_said (Classes.classes bytes m (
   where
     go : (o : Finding) → o ≡ Broken k a → Said (Classes.classes bytes m (met m processor_list) (met m)) o → a < memory_size
     go Nothing q s = let z : ◌≡◌ {A = ℕ} 0 1 = cc in absurd (omega arith)
+    go WrongLength q s = elim s [ ]
     go (Broken j b) q (says t) = let r : b ≡ a = cc in rw (← r) (tells_within memory_size (Classes.classes bytes m (met m processor_list) (met m)) (all_low m) t)

@@ -65,7 +65,7 @@ all_arrive {m} w i [] v e = none m
 all_arrive w i (k ∷ []) v e = absurd (omega arith)
 all_arrive {m} w i (k ∷ c ∷ l) v e =
     let g = good_first i k c l e in
-    let o = all_arrive (arrives_well w g.0) (i + 1) l (omega arith) g.1 in
+    let o = all_arrive {m = who_runs (delivered m k c)} (arrives_well w g.0) (i + 1) l (omega arith) g.1 in
     one m k c l (arrived (who_runs (delivered m k c)) l) (one_done w g.0) (rw (arrives w g.0) o)
 
 pub comes : {m : List ℕ} → WellFormed m → (l : List ℕ) → Comes m l

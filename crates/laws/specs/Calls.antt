@@ -153,9 +153,9 @@ module _ {m : List ℕ} (h : Sound m) where
 -- ---- a burst, whose pairs all pass
 arrived_sound : {m : List ℕ} → Sound m → (i : ℕ) (l : List ℕ) → tested i l ≡ Good → Sound (arrived m l)
 unfolding Burst.arrived
-arrived_sound h i [] e = h
-arrived_sound h i (k ∷ []) e = h
-arrived_sound h i (k ∷ c ∷ l) e = let g = good_first i k c l e in arrived_sound (arrive_sound h g.0) (i + 1) l g.1
+arrived_sound {m = m} h i [] e = h
+arrived_sound {m = m} h i (k ∷ []) e = h
+arrived_sound {m = m} h i (k ∷ c ∷ l) e = let g = good_first i k c l e in arrived_sound {m = who_runs (delivered m k c)} (arrive_sound h g.0) (i + 1) l g.1
 
 pub burst_sound : {m : List ℕ} → Sound m → (l : List ℕ) → Sound (memory_of (burst m l))
 unfolding Call.head Burst.burst Burst.burst_judged Answer.memory_of

@@ -1,7 +1,7 @@
 -- Which sentences of the invariant stay when lists of uses change, when a page in hand changes, when a counter, a code or page 9 changes.
 -- Assumes nothing.
 use Rattle.std.specs.Prelude.{◌≡◌, ◌≢◌, ◌⊎◌, false, List, ℕ, ◌+◌, ◌≤◌, ◌<◌, length}
-use Rattle.std.proofs.Common.{sym, ap, ◌∙◌, inl, inr, arith}
+use Rattle.std.proofs.Common.{sym, ap, ◌∙◌, inl, inr, arith, subst}
 use Rattle.model.specs.Map.{free_list, free_semaphore, grant_for, header_after, interrupts, less, lower, own_queue, own_semaphore, page_queue, page_size}
 use Rattle.model.specs.Map.{place, processor_list, q1, q2, running_page, semaphore_after, upper, wait_in, zeros_in}
 use Rattle.model.specs.Mail.{fits}
@@ -12,7 +12,7 @@ use Rattle.laws.specs.Queues.{upd, upd_same, upd_other}
 use Rattle.laws.specs.Heads.{one, one_le, one_page, sum_one, sum_skip, sum_upd, sum_ext, Seat, seat_of}
 use Rattle.laws.specs.Heads.Seat.{line, page, own}
 use Rattle.laws.specs.Uses.{Among, Sep, proc_page}
-use Rattle.laws.specs.Places.{InUses, InQueues, int_queue, int_once, own_once, q_once, asking_once, wait_page}
+use Rattle.laws.specs.Places.{InUses, InQueues, int_queue, int_once, own_once, q_once, asking_once, wait_page, queue_at}
 use Rattle.laws.specs.Inv.{View, bearers, Message, Codes, Clock, Faults, stock, Runs, Facts, Base}
 use Rattle.laws.specs.Judged.{each_ext}
 use Rattle.laws.specs.Views.{with_sem, with_rest, with_low, with_code, with_entry, with_state}
@@ -28,10 +28,13 @@ queue_once {ps} s a h = go (seat_of ps a h)
 
 -- the semaphores of the three kinds
 pub int_sem : (ps : List ℕ) (k : ℕ) → k < interrupts → 1 ≤ count (semaphore_after k + 1) (queues ps)
-int_sem ps k h = let d : semaphore_after k + 1 ≡ header_after k = omega arith in rw d (int_queue ps k h)
+int_sem ps k h = let d : semaphore_after k + 1 ≡ header_after k = omega arith in queue_at ps _ _ d (int_queue ps k h)
 
 pub own_sem : {ps : List ℕ} {L : Lists} → Sep ps L → (p : ℕ) → 1 ≤ count p ps → 1 ≤ count (place p own_semaphore + 1) (queues ps)
-own_sem s p h = let d : place p own_semaphore + 1 ≡ place p own_queue = omega arith in rw d (omega (arith, (own_once s p h).here))
+own_sem {ps = ps} s p h =
+    let d : place p own_semaphore + 1 ≡ place p own_queue = omega arith in
+    let i : 1 ≤ count (place p own_queue) (queues ps) = omega (arith, (own_once s p h).here) in
+    queue_at ps _ _ d i
 
 pub page_sem : (ps : List ℕ) → 1 ≤ count (free_semaphore + 1) (queues ps)
 page_sem ps = omega arith

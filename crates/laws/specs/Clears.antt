@@ -23,7 +23,7 @@ use Rattle.laws.specs.Heads.{one, page_one, sum_ext, range1_of, range2_of, mails
 use Rattle.laws.specs.Heads.Place.{int, three, grant, slot}
 use Rattle.laws.specs.Uses.{Among, Sep, proc_page, list_short}
 use Rattle.laws.specs.Met.{met, Pointer, met_path, met_some, met_none, some_pos, path_chain, chain_last, gather_of, used_uses, spare}
-use Rattle.laws.specs.Places.{in_uses, in_queues, in_procs, in_free, in_asking, in_own, in_q, in_grant, int_queue, own_once, asking_once}
+use Rattle.laws.specs.Places.{in_uses, in_queues, in_procs, in_free, in_asking, in_own, in_q, in_grant, int_queue, own_once, asking_once, queue_at}
 use Rattle.laws.specs.Places.{grant_is, grant_of_lem, grant_low, grant_high, all_pages_lem}
 use Rattle.laws.specs.Inv.{no_one, view, bearers, stock_page, stock_else, Facts, Inv}
 use Rattle.laws.specs.Accepted.{MessageRule, as_rule}
@@ -200,7 +200,7 @@ module _ (m : List ℕ) (ps : List ℕ) (L : Lists) (i : Inv m ps L (view m)) wh
           let d : semaphore_after k + 1 ≡ header_after k = omega arith in
           let q = int_queue ps k h in
           let s = semaphore_after k in
-          rw (agree (header_after k) (in_queues ps (header_after k) q)) (rw (stock_else L s (omega arith), d) at (f.sems s (rw d q)))
+          rw (agree (header_after k) (in_queues ps (header_after k) q)) (rw (stock_else L s (omega arith), d) at (f.sems s (queue_at ps _ _ d q)))
 
       own_sem : (p : ℕ) → 1 ≤ count p ps → word m p own_semaphore ≡ less 0 (length (met m (place p own_queue)))
       own_sem p h =
@@ -208,7 +208,7 @@ module _ (m : List ℕ) (ps : List ℕ) (L : Lists) (i : Inv m ps L (view m)) wh
           let g = proc_page sep p h in
           let q = (own_once sep p h).here in
           let s = place p own_semaphore in
-          rw (agree (place p own_queue) (in_own ps p h)) (rw (stock_else L s (omega arith), d) at (f.sems s (rw d (omega arith))))
+          rw (agree (place p own_queue) (in_own ps p h)) (rw (stock_else L s (omega arith), d) at (f.sems s (queue_at ps _ _ d (omega arith))))
 
       page_sem : get_or m free_semaphore 0 ≡ less (length (met m free_list)) (length (met m page_queue))
       page_sem = rw (wf, wa) (f.sems free_semaphore (omega (arith, (asking_once sep).here)) ∙ ap (λ (n : ℕ). less n (length (L page_queue))) (stock_page L))

@@ -95,6 +95,7 @@ module _ (m : List ℕ) where
     lowest = f;
     before = λ j u v. before_last none j u (omega arith) (λ w. e) (λ w. e1) (λ w. e2) (λ w. e3);
   }
+  offends l (later e (later e1 (later e2 (later e3 (later e4 t))))) = elim t [ ]
 
 -- ---- what is found, and what then is so
 pub data Found (m : List ℕ) : Finding → Type 0 where
@@ -112,6 +113,7 @@ sized m s = go (told_of m) refl (judged m) refl (said m)
     go : (o : Finding) → told_of m ≡ o → (b : Bool) → judged m ≡ b → Said (table m) o → Found m o
     go Nothing e true j (clear t) = nothing (record { size = s; accepted = j })
     go Nothing e false j (clear t) = let g = nothing_judged m s e in let z : ◌≡◌ {A = ℕ} 0 1 = cc in absurd (omega arith)
+    go WrongLength e b j t = elim t [ ]
     go (Broken k a) e true j (says t) = let g = judged_nothing m s j in let z : ◌≡◌ {A = ℕ} 0 1 = cc in absurd (omega arith)
     go (Broken k a) e false j (says t) = broken k a s j (offends m (told_low m k a e) t)
 

@@ -1,6 +1,6 @@
 -- Instructions: CRP, "created stopped, all else zero". A page in hand becomes a processor: the heads of lists grow by three, all empty. Assumes nothing.
 use Rattle.std.specs.Prelude.{◌≡◌, ◌≢◌, ◌⊎◌, ℕ, ◌+◌, ◌≤◌, ◌<◌, length, get_or, set, eqb}
-use Rattle.std.proofs.Common.{sym, ap, ◌∙◌, inl, inr, length-set}
+use Rattle.std.proofs.Common.{sym, ap, ◌∙◌, inl, inr, length-set, subst}
 use mathlib.Core.List.{List, [], ◌∷◌, ◌++◌, append-nil}
 use native.Mathlib.Omega.{arith}
 use Rattle.model.specs.Map as Map
@@ -232,7 +232,9 @@ module _ {m : List ℕ} {ps : List ℕ} {L : Lists} {W : View} {hs : List ℕ} {
 
       bit : (y : ℕ) → (1 ≤ count y ps) ⊎ (y ≡ q) → sum y grown (queues P) ≡ wait_in (W.state y)
       bit y (inl h) = sum_queues y ∙ b.facts.seats.bit y h
-      bit y (inr e) = rw e (sum_queues q ∙ idle_q ∙ sym n.bit)
+      bit y (inr e) =
+          let B : ℕ → Type 0 = λ x. sum x grown (queues P) ≡ wait_in (W.state x) in
+          subst B (sym e) (sum_queues q ∙ idle_q ∙ sym n.bit)
 
       zeros : (y : ℕ) → (1 ≤ count y ps) ⊎ (y ≡ q) → zeros_in (W.state y) ≡ 0
       zeros y (inl h) = b.facts.seats.zeros y h

@@ -1,7 +1,7 @@
 -- Well-formed: "every control page is used once". Sums over the heads of lists, which cells are heads, and that no list is longer than twenty.
 -- Assumes nothing.
 use Rattle.std.specs.Prelude.{◌≡◌, refl, ◌≢◌, ◌⊎◌, Bool, true, false, ◌&&◌, List, [], ◌∷◌, ◌++◌, ℕ, zero, suc, ◌+◌, ◌*◌, ◌≤◌, ◌<◌, length, eqb, leb, ltb}
-use Rattle.std.proofs.Common.{sym, ap, inl, inr, arith, leb-true, ltb-true, le-leb, lt-ltb}
+use Rattle.std.proofs.Common.{sym, ap, inl, inr, arith, leb-true, ltb-true, le-leb, lt-ltb, subst}
 use Rattle.model.specs.Map.{control_pages, first_control, free_list, free_semaphore, grants, grants_end, header_after, interrupts, last_control, own_queue}
 use Rattle.model.specs.Map.{own_semaphore, page_queue, page_size, place, processor_list, q1, q2, semaphore_after, word_values}
 use Rattle.model.specs.Lists.{hit, count, Lists, sum, range, mails, owns, uses, queues}
@@ -167,7 +167,9 @@ range2_at zero a k h = absurd (omega arith)
 range2_at (suc n) a zero h = omega (arith, one_hit (a + 2 * 0) a (omega arith), range_low n 2 (a + 2) (a + 2 * 0) (omega arith))
 range2_at (suc n) a (suc k) h =
     let e : a + 2 * suc k ≡ a + 2 + 2 * k = omega arith in
-    rw e (omega (arith, hit_other (a + 2 + 2 * k) a (omega arith), range2_at n (a + 2) k (omega arith)))
+    let P : ℕ → Type 0 = λ z. count z (range n 2 (a + 2)) ≡ 1 in
+    let i : count (a + 2 * suc k) (range n 2 (a + 2)) ≡ 1 = subst P (sym e) (range2_at n (a + 2) k (omega arith)) in
+    omega (arith, hit_other (a + 2 * suc k) a (omega arith), i)
 
 pub range2_of : (n a z : ℕ) → 1 ≤ count z (range n 2 a) → (k : ℕ) × (k < n) × (z ≡ a + 2 * k)
 unfolding range

@@ -24,7 +24,7 @@ use Rattle.laws.specs.Chain.{Page, Chain}
 use Rattle.laws.specs.Queues.{upd, upd_same}
 use Rattle.laws.specs.Heads.{sum_one, sum_two}
 use Rattle.laws.specs.Uses.{Sep, proc_page, proc_once, list_short}
-use Rattle.laws.specs.Places.{in_queues, int_queue, own_once, wait_page}
+use Rattle.laws.specs.Places.{in_queues, int_queue, own_once, wait_page, queue_at}
 use Rattle.laws.specs.Inv.{View, view, Clock, Facts, Base}
 use Rattle.laws.specs.Judged.{WellFormed, well_formed_lem, invariant}
 use Rattle.laws.specs.Frames.{Kept, kept_refl, kept_set, quiet_word, base_kept}
@@ -137,7 +137,7 @@ module _ (k c : ℕ) (k1 : 1 ≤ k) (k2 : k ≤ interrupts) where
   at_head = omega arith
 
   pub seat : (ps : List ℕ) → 1 ≤ count (a + 1) (queues ps)
-  seat ps = rw (← at_head) (int_queue ps (k - 1) (omega arith))
+  seat ps = queue_at ps _ _ (sym at_head) (int_queue ps (k - 1) (omega arith))
 
   pub struck_base : {m : List ℕ} {ps : List ℕ} {L : Lists} {W : View} {hs : List ℕ} {g : ℕ} (p : ℕ) (xs ys : List ℕ) → Base m ps L W hs g
       → L (a + 1) ≡ xs ++ p ∷ ys → Struck (struck m k c p) ps a ys hs g W

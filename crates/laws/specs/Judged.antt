@@ -15,7 +15,7 @@ use Rattle.laws.specs.Rules.{Meant, complete}
 use Rattle.laws.specs.Chain.{walk_chain}
 use Rattle.laws.specs.Heads.{page_one, sum_ext, range1_of}
 use Rattle.laws.specs.Uses.{Among, Sep, proc_page, list_short}
-use Rattle.laws.specs.Places.{in_uses, in_queues, in_procs, in_free, in_asking, in_own, in_q, in_grant, int_queue, grant_of_lem, q_free, wait_page}
+use Rattle.laws.specs.Places.{in_uses, in_queues, in_procs, in_free, in_asking, in_own, in_q, in_grant, int_queue, grant_of_lem, q_free, wait_page, queue_at}
 use Rattle.laws.specs.Places.{all_pages_lem, own_once, asking_once}
 use Rattle.laws.specs.Inv.{Base, Best, Facts, Inv, Mem, View, bearers, no_one, stock, stock_else, stock_page, view}
 use Rattle.laws.specs.Accepted.{lists_walk, lists_some, as_rule, judge_inv}
@@ -201,14 +201,14 @@ module _ {m : List ℕ} {ps : List ℕ} {L : Lists} {W : View} (inv : Inv m ps L
       line_sem k h =
           let d : semaphore_after k + 1 ≡ header_after k = omega arith in
           let q = int_queue ps k h in
-          rw (stock_else (lists m) (semaphore_after k) (omega arith), d) at ((facts_here i).sems (semaphore_after k) (rw d q))
+          rw (stock_else (lists m) (semaphore_after k) (omega arith), d) at ((facts_here i).sems (semaphore_after k) (queue_at ps _ _ d q))
 
       own_sem : (p : ℕ) → 1 ≤ count p ps → word m p own_semaphore ≡ less 0 (length (lists m (place p own_queue)))
       own_sem p h =
           let d : place p own_semaphore + 1 ≡ place p own_queue = omega arith in
           let g = proc_page (facts_here i).sep p h in
           let q = (own_once (facts_here i).sep p h).here in
-          rw (stock_else (lists m) (place p own_semaphore) (omega arith), d) at ((facts_here i).sems (place p own_semaphore) (rw d (omega arith)))
+          rw (stock_else (lists m) (place p own_semaphore) (omega arith), d) at ((facts_here i).sems (place p own_semaphore) (queue_at ps _ _ d (omega arith)))
 
       page_sem : less (stock (lists m) free_semaphore) (length (lists m page_queue)) ≡ less (length (lists m free_list)) (length (lists m page_queue))
       page_sem = rw (stock_page (lists m))

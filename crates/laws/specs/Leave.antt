@@ -18,7 +18,7 @@ use Rattle.laws.specs.Queues.{upd, upd_other}
 use Rattle.laws.specs.Heads.{one, one_le, short, sum_two, sum_pos, sum_skip, Seat, seat_of}
 use Rattle.laws.specs.Heads.Seat.{line, page, own}
 use Rattle.laws.specs.Uses.{Sep, proc_page, list_short}
-use Rattle.laws.specs.Places.{in_queues, q_free, queues_pos}
+use Rattle.laws.specs.Places.{in_queues, q_free, queues_pos, queue_at}
 use Rattle.laws.specs.Inv.{Base, Facts, Mem, Message, View, no_one}
 use Rattle.laws.specs.Views.{put1, put1_other, with_words}
 use Rattle.laws.specs.Stores.{sem_mem}
@@ -152,7 +152,7 @@ module _ {m : List ℕ} {ps : List ℕ} {L : Lists} {W : View} {hs : List ℕ} {
       t = found interrupts (omega arith)
 
       none : (a : ℕ) → 1 ≤ count a (queues ps) → 1 ≤ a → count p (L a) ≡ 0
-      none a h i = let d : a - 1 + 1 ≡ a = omega arith in rw (← d) (go (a - 1) (seat_of ps (a - 1) (rw d h)))
+      none a h i = let d : a - 1 + 1 ≡ a = omega arith in rw (← d) (go (a - 1) (seat_of ps (a - 1) (queue_at ps _ _ d h)))
         where
           own_wait : (y : ℕ) → 1 ≤ count y ps → (count p (L (place y own_queue)) ≡ 0) ⊎ (1 ≤ count p (L (place y own_queue))) → count p (L (place y own_queue)) ≡ 0
           own_wait y u (inl z) = z

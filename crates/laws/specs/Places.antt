@@ -1,6 +1,6 @@
 -- Well-formed: which cells head a list, that each stands once in the sum of its kind, and what a page in a list is. Assumes nothing.
 use Rattle.std.specs.Prelude.{◌≡◌, refl, ◌⊎◌, Bool, true, false, ◌&&◌, List, ℕ, ◌≤◌, ◌<◌, leb, ltb}
-use Rattle.std.proofs.Common.{ap, inl, inr, arith, leb-true, ltb-true, le-leb, lt-ltb, le-ltb}
+use Rattle.std.proofs.Common.{ap, inl, inr, arith, leb-true, ltb-true, le-leb, lt-ltb, le-ltb, subst, sym}
 use Rattle.std.proofs.lemmas.Bool.{lt-leb}
 use Rattle.model.specs.Map.{free_list, grant_for, grants, grants_end, guarded_last, header_after, interrupts, own_queue, page_queue, page_size, place}
 use Rattle.model.specs.Map.{processor_list, q1, q2}
@@ -27,6 +27,9 @@ in_free ps = in_uses ps free_list (omega arith)
 
 pub in_asking : (ps : List ℕ) → Among ps page_queue
 in_asking ps = in_queues ps page_queue (omega arith)
+
+pub queue_at : (ps : List ℕ) (a b : ℕ) → a ≡ b → 1 ≤ count b (queues ps) → 1 ≤ count a (queues ps)
+queue_at ps a b e h = let P : ℕ → Type 0 = λ x. 1 ≤ count x (queues ps) in subst P (sym e) h
 
 pub int_queue : (ps : List ℕ) (k : ℕ) → k < interrupts → 1 ≤ count (header_after k) (queues ps)
 int_queue ps k h = omega (arith, count_append (header_after k) (owns ps) line_heads, range2_at interrupts (header_after 0) k h)

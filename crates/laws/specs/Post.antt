@@ -2,7 +2,7 @@
 -- hand and delivered, keeps the invariant; and which words a delivery leaves. Assumes nothing.
 use Rattle.std.specs.Prelude.{◌≡◌, ◌≢◌, Bool, true, false, List, [], ◌∷◌, ◌++◌, ℕ, ◌+◌, ◌≤◌, length, get_or, eqb}
 use Rattle.std.proofs.Math.Path.{refl}
-use Rattle.std.proofs.Common.{ap, ◌∙◌, arith, length-set, get_or-set_same, ne_eqb}
+use Rattle.std.proofs.Common.{ap, ◌∙◌, arith, length-set, get_or-set_same, ne_eqb, subst, sym}
 use Rattle.model.specs.Map.{label, last_flag, last_name, link, longest, lower, memory_size, note, notice, own_queue, own_semaphore, pair, place, q1}
 use Rattle.model.specs.Map.{reason, size, state, text, upper}
 use Rattle.model.specs.Bytes.{name, running, store, word, join, wake, deliver, write_message, make_notice}
@@ -79,8 +79,11 @@ module _ {m : List ℕ} {ps : List ℕ} {L : Lists} {W : View} {hs : List ℕ} {
     fw : Facts ps (upd L a4 xs) (woken W (place p own_semaphore) p) g
     fw = facts_wake (place p own_semaphore) p [] xs b.facts (own_sem s p h) e
 
+    away4 : count a4 (uses ps) ≡ 0
+    away4 = let P : ℕ → Type 0 = λ a. count a (uses ps) ≡ 0 in subst P (sym at4) (own_once s p h).away
+
     room4 : (z : ℕ) → sum z (upd L a4 xs) (uses ps) + hit (eqb z q) ≤ one z
-    room4 z = omega (arith, room b z, sum_skip z L a4 xs (uses ps) (rw at4 (own_once s p h).away))
+    room4 z = omega (arith, room b z, sum_skip z L a4 xs (uses ps) away4)
 
     alone : (x : ℕ) → 1 ≤ count x (upd L a4 xs (place p own_queue)) → ◌≡◌ {A = ℕ} q1 q1
         → fits (upper ((woken W (place p own_semaphore) p).reason p)) (lower ((woken W (place p own_semaphore) p).reason p)) (W.note q) ≡ false
@@ -118,7 +121,7 @@ module _ {m : List ℕ} {ps : List ℕ} {L : Lists} {W : View} {hs : List ℕ} {
                     arith,
                     more_mail q fw room4 p q1 h (omega arith) (omega arith) letter alone z,
                     b.all z,
-                    sum_skip z L a4 xs (uses ps) (rw at4 (own_once s p h).away),
+                    sum_skip z L a4 xs (uses ps) away4,
                   );
             };
             low = refl;

@@ -1,7 +1,7 @@
 -- Deleting: "leave the processor list". A processor that waits nowhere leaves the list: its page and its mail are in hand then, and its grant is the one
 -- of the name that is being deleted. Assumes nothing.
 use Rattle.std.specs.Prelude.{◌≡◌, ◌≢◌, ◌⊎◌, List, ◌∷◌, ◌++◌, ℕ, ◌+◌, ◌≤◌, ◌<◌, length, get_or, set, eqb}
-use Rattle.std.proofs.Common.{ap, ◌∙◌, inl, inr, arith, length-set, length-append, get_or-set_same}
+use Rattle.std.proofs.Common.{ap, ◌∙◌, inl, inr, arith, length-set, length-append, get_or-set_same, subst, sym}
 use Rattle.model.specs.Map as Map
 use Rattle.model.specs.Map.{free_list, grant_for, guarded_last, header_after, link, list_link, lower, own_queue, own_semaphore, page_queue, page_size, place}
 use Rattle.model.specs.Map.{processor_list, q1, q2, running_page}
@@ -95,7 +95,9 @@ module _ (xs : List ℕ) (p : ℕ) (ys : List ℕ) where
           omega (arith, queues_sum xs p ys z A, sum_left z, ap (count z) (at_other (place p own_queue) (omega (arith, pg))), none z)
 
       waits : (z : ℕ) → (z ≡ p) ⊎ (z ≢ p) → sum z A (queues Q) ≤ count z Q
-      waits z (inl e) = rw e (omega (arith, sum_Q p, idle))
+      waits z (inl e) =
+          let B : ℕ → Type 0 = λ x. sum x A (queues Q) ≤ count x Q in
+          subst B (sym e) (omega (arith, sum_Q p, idle))
       waits z (inr d) = omega (arith, sum_Q z, s.waits z, count_more xs p ys z, hit_other z p d)
 
       pub shrink_sep : Sep Q A

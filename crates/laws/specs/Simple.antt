@@ -1,7 +1,7 @@
 -- Instructions: CVI, DVI, ST1, STP, ST2 and code 13 leave a well-formed memory, and so does setting registers. Before them the tests that instructions share:
 -- a case picked from a list, the first that a test picks, a word that is not protected. Assumes nothing.
 use Rattle.std.specs.Prelude.{◌≡◌, refl, ◌≢◌, ◌⊎◌, Bool, true, false, List, [], ◌∷◌, get_or, eqb, ltb, leb}
-use Rattle.std.proofs.Common.{sym, ap, ◌∙◌, inl, inr, arith, eqb-true, ltb-true, ltb-false, leb-false}
+use Rattle.std.proofs.Common.{sym, ap, ◌∙◌, inl, inr, arith, eqb-true, ltb-true, ltb-false, leb-false, subst}
 use Prim.Native.Nat.{ℕ, zero, suc, ◌+◌, ◌≤◌, ◌<◌}
 use Rattle.model.specs.Map as Map
 use Rattle.model.specs.Map.{all_codes, built_in_codes, code_word, guarded_end, guarded_from, guarded_last, guarded_to, high, high_lr, label, last_fault, low}
@@ -74,7 +74,11 @@ first_in f (x ∷ xs) n = go (f x) refl (first_in f xs)
     go : (b : Bool) → f x ≡ b → (first f xs ≢ 0 → (1 ≤ count (first f xs) xs) × (f (first f xs) ≡ true))
         → (1 ≤ count (first f (x ∷ xs)) (x ∷ xs)) × (f (first f (x ∷ xs)) ≡ true)
     go true e ih = let k : first f (x ∷ xs) ≡ x = rw (e, Queue.first) in rw k (omega (arith, hit_self x), e)
-    go false e ih = let k : first f (x ∷ xs) ≡ first f xs = rw (e, Queue.first) in rw k (let t = ih (rw k at n) in (omega (arith, t.0), t.1))
+    go false e ih =
+        let k : first f (x ∷ xs) ≡ first f xs = rw (e, Queue.first) in
+        let t = ih (rw k at n) in
+        let P : ℕ → Type 0 = λ y. (1 ≤ count y (x ∷ xs)) × (f y ≡ true) in
+        subst P (sym k) (omega (arith, t.0), t.1)
 
 module _ {m : List ℕ} {ps : List ℕ} {L : Lists} {W : View} {hs : List ℕ} {g : ℕ} (b : Base m ps L W hs g) where
   pub named_in : (n : ℕ) → page_of m n ≢ 0 → 1 ≤ count (page_of m n) ps

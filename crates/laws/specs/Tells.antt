@@ -7,7 +7,7 @@ use Rattle.model.specs.Lists.{count}
 use Rattle.model.specs.Tell.{Row, broken, offending, offending_in, least, Class, tell, first}
 use Rattle.model.specs.Tell.Row.{tells}
 use Rattle.model.specs.declared.Finding.{Finding}
-use Rattle.model.specs.declared.Finding.TheVariants.{Nothing, Broken}
+use Rattle.model.specs.declared.Finding.TheVariants.{Nothing, WrongLength, Broken}
 use Rattle.model.specs.Tell.Class.{class}
 use Rattle.laws.specs.Count.{hit_self, hit_other, hit_or}
 use Rattle.laws.specs.Rules.{Meant, sound, complete}
@@ -191,4 +191,5 @@ clear_first cs e = go (first cs) e (first_said cs)
   where
     go : (o : Finding) → o ≡ Nothing → Said cs o → Clear cs
     go Nothing e (clear c) = c
+    go WrongLength e s = elim s [ ]
     go (Broken n a) e s = let z : ◌≡◌ {A = ℕ} 0 1 = cc in absurd (omega arith)

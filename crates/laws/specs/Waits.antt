@@ -1,7 +1,7 @@
 -- Pages, Instructions: "wait in IK's queue", "wait in the page queue", "else wait". A processor that is put to wait, in any of the wait queues, keeps the
 -- invariant if its reason fits the queue. Assumes nothing.
 use Rattle.std.specs.Prelude.{◌≡◌, refl, ◌≢◌, ◌⊎◌, List, [], ◌∷◌, ◌++◌, ℕ, ◌+◌, ◌%◌, ◌≤◌, ◌<◌, length, eqb}
-use Rattle.std.proofs.Common.{sym, ap, ◌∙◌, inl, inr, arith, length-append}
+use Rattle.std.proofs.Common.{sym, ap, ◌∙◌, inl, inr, arith, length-append, subst}
 use Rattle.model.specs.Map.{a_word, free_list, free_semaphore, grant_for, header_after, interrupts, less, lower, lowered, own_queue, own_semaphore}
 use Rattle.model.specs.Map.{page_queue, page_size, place, processor_list, q1, semaphore_after, semaphore_of, stop_cleared, wait_bit, wait_in, wait_set}
 use Rattle.model.specs.Map.{zeros_in}
@@ -136,13 +136,17 @@ module _ {ps : List ℕ} {L : Lists} {W : View} {g : ℕ} (a p w : ℕ) (f : Fac
       }
     where
       waits : (z : ℕ) → (z ≡ p) ⊎ (z ≢ p) → sum z K (queues ps) ≤ count z ps
-      waits z (inl d) = rw d (omega (arith, sum_wait p, nowhere, hit_self p))
+      waits z (inl d) =
+          let u : sum p K (queues ps) ≤ count p ps = omega (arith, sum_wait p, nowhere, hit_self p) in
+          let B : ℕ → Type 0 = λ y. sum y K (queues ps) ≤ count y ps in
+          subst B (sym d) u
       waits z (inr n) = omega (arith, sum_wait z, hit_other z p n, s.waits z)
 
       bit : (x : ℕ) → 1 ≤ count x ps → (x ≡ p) ⊎ (x ≢ p) → sum x K (queues ps) ≡ wait_in ((waiting W a p w).state x)
       bit x i (inl d) =
-          rw (put1_same W.state p (wait_set (W.state p)) x d, d)
-          (omega (arith, wait_bits (W.state p), sum_wait p, hit_self p, nowhere))
+          let u : sum p K (queues ps) ≡ wait_in (wait_set (W.state p)) = omega (arith, wait_bits (W.state p), sum_wait p, hit_self p, nowhere) in
+          let B : ℕ → Type 0 = λ y. sum y K (queues ps) ≡ wait_in (wait_set (W.state p)) in
+          rw (put1_same W.state p (wait_set (W.state p)) x d) (subst B (sym d) u)
       bit x i (inr d) = rw (kept_state x d) (omega (arith, sum_wait x, hit_other x p d, f.seats.bit x i))
 
       zeros : (x : ℕ) → 1 ≤ count x ps → (x ≡ p) ⊎ (x ≢ p) → zeros_in ((waiting W a p w).state x) ≡ 0

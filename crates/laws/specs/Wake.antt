@@ -1,7 +1,7 @@
 -- Sending: "Waking leaves the queue and clears the waiting bit and reason." A processor that wakes, from any of the wait queues, keeps the invariant; so
 -- does one whose reason falls by one; and which words waking leaves. Assumes nothing.
 use Rattle.std.specs.Prelude.{◌≡◌, ◌≢◌, ◌⊎◌, false, List, ◌∷◌, ◌++◌, ℕ, ◌+◌, ◌%◌, ◌≤◌, ◌<◌, length, get_or, eqb}
-use Rattle.std.proofs.Common.{sym, ap, ◌∙◌, inl, inr, arith, length-append}
+use Rattle.std.proofs.Common.{sym, ap, ◌∙◌, inl, inr, arith, length-append, subst}
 use Rattle.model.specs.Map.{control_pages, free_list, free_semaphore, grant_for, header_after, less, link, lower, own_queue, page_queue, page_size, place}
 use Rattle.model.specs.Map.{processor_list, q1, q2, raised, reason, state, stop_cleared, wait_bit, wait_cleared, wait_in, zeros_in}
 use Rattle.model.specs.Bytes.{store, word, unqueue, wake}
@@ -161,7 +161,9 @@ module _ {ps : List ℕ} {L : Lists} {W : View} {g : ℕ} (a p : ℕ) (xs ys : L
     where
       bit : (x : ℕ) → 1 ≤ count x ps → (x ≡ p) ⊎ (x ≢ p) → sum x K (queues ps) ≡ wait_in ((woken W a p).state x)
       bit x i (inl d) =
-          rw (put1_same W.state p (wait_cleared (W.state p)) x d, d) (omega (arith, wake_bits (W.state p), sum_wake p, hit_self p, alone))
+          let u : sum p K (queues ps) ≡ wait_in (wait_cleared (W.state p)) = omega (arith, wake_bits (W.state p), sum_wake p, hit_self p, alone) in
+          let B : ℕ → Type 0 = λ y. sum y K (queues ps) ≡ wait_in (wait_cleared (W.state p)) in
+          rw (put1_same W.state p (wait_cleared (W.state p)) x d) (subst B (sym d) u)
       bit x i (inr d) = rw (kept_state x d) (omega (arith, sum_wake x, hit_other x p d, f.seats.bit x i))
 
       zeros : (x : ℕ) → 1 ≤ count x ps → (x ≡ p) ⊎ (x ≢ p) → zeros_in ((woken W a p).state x) ≡ 0

@@ -146,6 +146,7 @@ pub fn enqueue(m: &mut [u8], semaphore: u16, page: ControlPage)
     join(m, semaphore + 1, map::LINK, page);
 }
 
+#[tactic(auto, unfolding(model::specs::Wait::unqueue))]
 pub fn unqueue(m: &mut [u8], semaphore: u16, page: ControlPage)
     requires { (List.length m.old ≡ 8192) × (semaphore < 8191) }
     ensures { m.new ≡ Model.unqueue m.old semaphore page.0 }
@@ -156,6 +157,7 @@ pub fn unqueue(m: &mut [u8], semaphore: u16, page: ControlPage)
 }
 
 // It is put to wait in that queue, for a reason.
+#[tactic(auto, unfolding(model::specs::Wait::put_to_wait))]
 pub fn put_to_wait(m: &mut [u8], semaphore: u16, page: ControlPage, reason: u8)
     requires { (List.length m.old ≡ 8192) × (semaphore < 8191) }
     ensures { m.new ≡ Model.put_to_wait m.old semaphore page.0 reason }

@@ -4,7 +4,7 @@ use Rattle.queues.proofs.leave.Statement.{statement}
 use Rattle.queues.proofs.leave.Tie as tie
 
 returns : tie.Need-returns
-unfolding Queue.leave
+unfolding Queue.leave Queue.cell_of
 returns c = cc
 
 pub leave_spec : {M : Type 1} → statement M

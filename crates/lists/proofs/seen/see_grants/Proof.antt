@@ -11,16 +11,16 @@ use Rattle.lists.proofs.seen.see_grants.Statement.{statement}
 use Rattle.lists.proofs.seen.see_grants.Tie as tie
 
 -- what is left to see
-abbrev invariant-loop : tie.invariant-loop
-invariant-loop m b c₀ a₀ n₀ c a n =
+abbrev invariant-loop-left : tie.invariant-loop-left
+invariant-loop-left m b c₀ a₀ n₀ c a n =
     (length m ≡ 8192) × (a + 1 * n ≡ grants_end) × (n ≤ page_size) × (c < broken) ×
     (see_lists c (lists m) (range n 1 a) ≡ see_lists b (lists m) (range page_size 1 grants))
 
-abbrev decreases-loop : tie.decreases-loop
-decreases-loop m b c₀ a₀ n₀ c a n = n
+abbrev decreases-loop-left : tie.decreases-loop-left
+decreases-loop-left m b c₀ a₀ n₀ c a n = n
 
 pub see_grants_spec : {M : Type 1} → statement M
-see_grants_spec = tie.close (tie.spec invariant-loop decreases-loop
+see_grants_spec = tie.close (tie.spec invariant-loop-left decreases-loop-left
     (λ c. search rules)
     (λ c κs. search rules)
     (λ c. search (rules, turn_broken))

@@ -9,15 +9,15 @@ use Rattle.script.proofs.reading.digits.Statement.{statement}
 use Rattle.script.proofs.reading.digits.Tie as tie
 
 -- what is left to read decides
-abbrev invariant-loop : tie.invariant-loop
-invariant-loop line at left value known₀ next₀ rest₀ known next rest =
+abbrev invariant-loop-rest : tie.invariant-loop-rest
+invariant-loop-rest line at left value known₀ next₀ rest₀ known next rest =
     (next + rest ≡ length line) × (known ≤ no_number) × (Script.digits rest line next known ≡ Script.digits left line at value)
 
-abbrev decreases-loop : tie.decreases-loop
-decreases-loop line at left value known₀ next₀ rest₀ known next rest = rest
+abbrev decreases-loop-rest : tie.decreases-loop-rest
+decreases-loop-rest line at left value known₀ next₀ rest₀ known next rest = rest
 
 pub digits_spec : {M : Type 1} → statement M
-digits_spec = tie.close (tie.spec invariant-loop decreases-loop
+digits_spec = tie.close (tie.spec invariant-loop-rest decreases-loop-rest
     (λ c. search rules)
     (λ c. search rules)
     (λ c κs. search rules)

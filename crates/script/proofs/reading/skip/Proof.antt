@@ -8,15 +8,15 @@ use Rattle.script.proofs.reading.skip.Statement.{statement}
 use Rattle.script.proofs.reading.skip.Tie as tie
 
 -- what is left to read decides
-abbrev invariant-loop : tie.invariant-loop
-invariant-loop line at left next₀ rest₀ next rest =
+abbrev invariant-loop-rest : tie.invariant-loop-rest
+invariant-loop-rest line at left next₀ rest₀ next rest =
     (next + rest ≡ length line) × (Script.skip rest line next ≡ Script.skip left line at)
 
-abbrev decreases-loop : tie.decreases-loop
-decreases-loop line at left next₀ rest₀ next rest = rest
+abbrev decreases-loop-rest : tie.decreases-loop-rest
+decreases-loop-rest line at left next₀ rest₀ next rest = rest
 
 pub skip_spec : {M : Type 1} → statement M
-skip_spec = tie.close (tie.spec invariant-loop decreases-loop
+skip_spec = tie.close (tie.spec invariant-loop-rest decreases-loop-rest
     (λ c. search rules)
     (λ c. search rules)
     (λ c. search rules)
