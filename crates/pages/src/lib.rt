@@ -11,6 +11,7 @@ use queues::{join, leave};
 use words::{at, lowered, raised, write};
 
 // The page leaves the free list.
+#[tactic(auto, unfolding(model::specs::Page::take_free))]
 fn take_free(m: &mut [u8], page: ControlPage)
     requires { length m.old ≡ 8192 }
     ensures { m.new ≡ Model.take_free m.old page.0 }
@@ -49,6 +50,7 @@ pub fn take_page(m: &mut [u8], page: ControlPage) -> ControlPage
 }
 
 // The page goes to the end of the free list.
+#[tactic(auto, unfolding(model::specs::Page::free_page))]
 fn free_page(m: &mut [u8], page: ControlPage)
     requires { length m.old ≡ 8192 }
     ensures { m.new ≡ Model.free_page m.old page.0 }
@@ -59,6 +61,7 @@ fn free_page(m: &mut [u8], page: ControlPage)
 }
 
 // The page becomes the grant of the waiter, which wakes.
+#[tactic(auto, unfolding(model::specs::Page::grant_page))]
 fn grant_page(m: &mut [u8], waiter: ControlPage, page: ControlPage)
     requires { length m.old ≡ 8192 }
     ensures { m.new ≡ Model.grant_page m.old waiter.0 page.0 }
