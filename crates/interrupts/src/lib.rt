@@ -53,6 +53,7 @@ fn serve_from(m: &mut [u8], interrupt: u8, class: u8, page: ControlPage, left: u
 }
 
 // The interrupt is served, with its class number.
+#[tactic(auto, unfolding(model::specs::Interrupt::serve))]
 pub fn serve(m: &mut [u8], interrupt: u8, class: u8)
     requires { (length m.old ≡ 8192) × (interrupt ≤ 54) }
     ensures { m.new ≡ Model.serve m.old interrupt class }
@@ -78,6 +79,7 @@ fn tick(m: &mut [u8], counter: u16, end: u8, interrupt: u8) -> bool
 }
 
 // The counters C3 to C0.
+#[tactic(auto, using(crate::proofs::Laws::interrupts), unfolding(model::specs::Interrupt::c3_counts))]
 fn c3_counts(m: &mut [u8])
     requires { length m.old ≡ 8192 }
     ensures { m.new ≡ Model.c3_counts m.old }
@@ -85,6 +87,7 @@ fn c3_counts(m: &mut [u8])
     tick(m, map::C3, map::C3_END, map::C3_INTERRUPT);
 }
 
+#[tactic(auto, unfolding(model::specs::Interrupt::c2_counts))]
 fn c2_counts(m: &mut [u8])
     requires { length m.old ≡ 8192 }
     ensures { m.new ≡ Model.c2_counts m.old }
@@ -94,6 +97,7 @@ fn c2_counts(m: &mut [u8])
     }
 }
 
+#[tactic(auto, unfolding(model::specs::Interrupt::c1_counts))]
 fn c1_counts(m: &mut [u8])
     requires { length m.old ≡ 8192 }
     ensures { m.new ≡ Model.c1_counts m.old }
@@ -103,6 +107,7 @@ fn c1_counts(m: &mut [u8])
     }
 }
 
+#[tactic(auto, unfolding(model::specs::Interrupt::c0_counts))]
 fn c0_counts(m: &mut [u8])
     requires { length m.old ≡ 8192 }
     ensures { m.new ≡ Model.c0_counts m.old }
@@ -114,6 +119,7 @@ fn c0_counts(m: &mut [u8])
 }
 
 // An interrupt from outside; on the clock line it is served, then C0 counts.
+#[tactic(auto, using(crate::proofs::Laws::interrupts))]
 pub fn deliver(m: &mut [u8], interrupt: u8, class: u8)
     requires { (length m.old ≡ 8192) × (interrupt ≤ 54) }
     ensures { m.new ≡ Model.delivered m.old interrupt class }

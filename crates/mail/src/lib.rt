@@ -174,6 +174,7 @@ fn copy_head(m: &mut [u8], message: ControlPage, address: u16)
 }
 
 // And its text behind them.
+#[tactic(auto, unfolding(model::specs::Mail::copy_out))]
 pub fn copy_out(m: &mut [u8], message: ControlPage, address: u16)
     requires { (length m.old ≡ 8192) × (address < 8192) }
     ensures { m.new ≡ Model.copy_out m.old message.0 address }

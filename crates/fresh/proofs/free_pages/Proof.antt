@@ -4,7 +4,7 @@ use Rattle.fresh.proofs.free_pages.Statement.{statement}
 use Rattle.fresh.proofs.free_pages.Tie as tie
 
 returns : tie.Need-returns
-unfolding Fresh.freed
+unfolding Fresh.freed Fresh.chained
 returns c = cc
 
 pub free_pages_spec : {M : Type 1} → statement M

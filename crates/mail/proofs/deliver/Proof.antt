@@ -4,7 +4,7 @@ use Rattle.mail.proofs.deliver.Statement.{statement}
 use Rattle.mail.proofs.deliver.Tie as tie
 
 returns : tie.Need-returns
-unfolding Mail.deliver
+unfolding Mail.deliver Mail.heard Mail.awaits
 returns c = cc
 
 pub deliver_spec : {M : Type 1} → statement M
