@@ -68,6 +68,7 @@ pub fn dvi(m: &mut [u8], code: u8, length: u16) -> Answer
     done(m, length)
 }
 
+#[tactic(auto, unfolding(model::specs::Operate::gin))]
 pub fn gin(m: &mut [u8], length: u16) -> Answer
     requires { (List.length m.old ≡ 8192) × (length < 8192) }
     ensures { gives result m.new ≡ Model.gin m.old length }

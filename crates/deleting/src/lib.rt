@@ -94,6 +94,7 @@ fn mark_sent(m: &mut [u8], name: Name, page: ControlPage)
 }
 
 // The message becomes a notice from that name to its sender.
+#[tactic(auto, unfolding(model::specs::Delete::noticed))]
 fn notify(m: &mut [u8], name: Name, message: ControlPage, sender: ControlPage)
     requires { (length m.old ≡ 8192) × (name.0 < 16) }
     ensures { m.new ≡ Model.noticed m.old name.0 message.0 sender.0 }
@@ -140,6 +141,7 @@ fn empty(m: &mut [u8], name: Name, header: u16, left: u8)
 }
 
 // Q2 then Q1 of the processor of the page.
+#[tactic(auto, unfolding(model::specs::Delete::mail_returned))]
 fn return_mail(m: &mut [u8], name: Name, page: ControlPage)
     requires { (length m.old ≡ 8192) × (name.0 < 16) }
     ensures { m.new ≡ Model.mail_returned m.old name.0 page.0 }
