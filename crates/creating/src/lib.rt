@@ -111,6 +111,7 @@ fn new_registers(address: u16, w: u8) -> Registers
 }
 
 // The page, cleared, gets name, priority, W and LR.
+#[tactic(auto, unfolding(model::specs::Operate::headed))]
 fn head(m: &mut [u8], page: ControlPage, name: Name, priority: u8, w: u8, address: u16)
     requires { (List.length m.old ≡ 8192) × (name.0 < 16) × (priority < 16) }
     ensures { m.new ≡ Model.headed m.old page.0 name.0 priority w address }
