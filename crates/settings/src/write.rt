@@ -6,7 +6,6 @@ ghost use Rattle.model.specs.Settings as Settings;
 
 use crate::block::of_block;
 use crate::file::of_file;
-use bytes::copy;
 use model::{Fit, Writing, layout, refusals};
 
 // The number that refuses, or 0.
@@ -72,7 +71,8 @@ fn lay(buffer: &mut [u8], at: usize, laid: &[u8])
     ensures { buffer.new
         ≡ take at buffer.old ++ laid.now ++ drop (at + length laid.now) buffer.old }
 {
-    copy(laid, &mut buffer[at..]);
+    let end = at + laid.len();
+    buffer[at..end].copy_from_slice(laid);
 }
 
 // The block and its trailer, where there is room.

@@ -3,7 +3,7 @@ use Rattle.arguments.proofs.Table.{rows, tables}
 use Rattle.arguments.proofs.row_for.Statement.{statement}
 use Rattle.arguments.proofs.row_for.Tie as tie
 
-returns : tie.Need-returns
+returns : tie.Need-returns-then-code-lt-BUILT_IN_CODES
 returns c =
     (search (rules, rows), search (rules, rows), search (rules, rows), search (rules, rows), search (rules, rows), search (rules, rows), search (rules, rows))
 

@@ -11,14 +11,14 @@ use Rattle.judge.proofs.tables.entries.Statement.{statement}
 use Rattle.judge.proofs.tables.entries.Tie as tie
 
 -- what is left to test decides
-abbrev invariant-loop : tie.invariant-loop
-invariant-loop m k₀ k = (length m ≡ 8192) × (k ≤ entries) × Decides (Judge.entry bytes m) entries k
+abbrev invariant-loop-k : tie.invariant-loop-k
+invariant-loop-k m k₀ k = (length m ≡ 8192) × (k ≤ entries) × Decides (Judge.entry bytes m) entries k
 
-abbrev decreases-loop : tie.decreases-loop
-decreases-loop m k₀ k = k
+abbrev decreases-loop-k : tie.decreases-loop-k
+decreases-loop-k m k₀ k = k
 
 pub entries_spec : {M : Type 1} → statement M
-entries_spec = tie.close (tie.spec invariant-loop decreases-loop
+entries_spec = tie.close (tie.spec invariant-loop-k decreases-loop-k
     (λ c. search rules)
     (λ c. search rules)
     (λ c κs. search rules)

@@ -11,14 +11,14 @@ use Rattle.judge.proofs.tables.kinds.Statement.{statement}
 use Rattle.judge.proofs.tables.kinds.Tie as tie
 
 -- what is left to test decides
-abbrev invariant-loop : tie.invariant-loop
-invariant-loop m k₀ k = (length m ≡ 8192) × (k ≤ all_codes) × Decides (Judge.kind bytes m) all_codes k
+abbrev invariant-loop-k : tie.invariant-loop-k
+invariant-loop-k m k₀ k = (length m ≡ 8192) × (k ≤ all_codes) × Decides (Judge.kind bytes m) all_codes k
 
-abbrev decreases-loop : tie.decreases-loop
-decreases-loop m k₀ k = k
+abbrev decreases-loop-k : tie.decreases-loop-k
+decreases-loop-k m k₀ k = k
 
 pub kinds_spec : {M : Type 1} → statement M
-kinds_spec = tie.close (tie.spec invariant-loop decreases-loop
+kinds_spec = tie.close (tie.spec invariant-loop-k decreases-loop-k
     (λ c. search rules)
     (λ c. search rules)
     (λ c κs. search rules)

@@ -12,14 +12,14 @@ use Rattle.judge.proofs.waits.all_served.Statement.{statement}
 use Rattle.judge.proofs.waits.all_served.Tie as tie
 
 -- what is left to test decides
-abbrev invariant-loop : tie.invariant-loop
-invariant-loop m k₀ k = (length m ≡ 8192) × (k ≤ interrupts) × Decides (rule (Judge.served bytes) m) interrupts k
+abbrev invariant-loop-k : tie.invariant-loop-k
+invariant-loop-k m k₀ k = (length m ≡ 8192) × (k ≤ interrupts) × Decides (rule (Judge.served bytes) m) interrupts k
 
-abbrev decreases-loop : tie.decreases-loop
-decreases-loop m k₀ k = k
+abbrev decreases-loop-k : tie.decreases-loop-k
+decreases-loop-k m k₀ k = k
 
 pub all_served_spec : {M : Type 1} → statement M
-all_served_spec = tie.close (tie.spec invariant-loop decreases-loop
+all_served_spec = tie.close (tie.spec invariant-loop-k decreases-loop-k
     (λ c. search rules)
     (λ c. search rules)
     (λ c κs. search rules)
