@@ -9,15 +9,15 @@ use Prim.Native.Nat.{◌<◌, ◌≤◌, ◌+◌, ◌*◌}
 use Rattle.telling.proofs.lowest.lists_end.Statement.{statement}
 use Rattle.telling.proofs.lowest.lists_end.Tie as tie
 
-abbrev invariant-loop : tie.invariant-loop
-invariant-loop m heads step head low lowest₀ a₀ left₀ lowest a left =
+abbrev invariant-loop-left : tie.invariant-loop-left
+invariant-loop-left m heads step head low lowest₀ a₀ left₀ lowest a left =
     (length m ≡ 8192) × (step ≤ 2) × (a + 2 * left < 8192) × (lowest_end m lowest (range left step a) ≡ lowest_end m low (range heads step head))
 
-abbrev decreases-loop : tie.decreases-loop
-decreases-loop m heads step head low lowest₀ a₀ left₀ lowest a left = left
+abbrev decreases-loop-left : tie.decreases-loop-left
+decreases-loop-left m heads step head low lowest₀ a₀ left₀ lowest a left = left
 
 pub lists_end_spec : {M : Type 1} → statement M
-lists_end_spec = tie.close (tie.spec invariant-loop decreases-loop
+lists_end_spec = tie.close (tie.spec invariant-loop-left decreases-loop-left
     (λ c. search (rules, turns))
     (λ c κs. search rules)
     (λ c. search rules)

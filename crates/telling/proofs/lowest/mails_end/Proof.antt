@@ -11,17 +11,17 @@ use Prim.Native.Nat.{◌<◌}
 use Rattle.telling.proofs.lowest.mails_end.Statement.{statement}
 use Rattle.telling.proofs.lowest.mails_end.Tie as tie
 
-abbrev invariant-loop : tie.invariant-loop
-invariant-loop m low lowest₀ cell₀ left₀ lowest cell left =
+abbrev invariant-loop-left : tie.invariant-loop-left
+invariant-loop-left m low lowest₀ cell₀ left₀ lowest cell left =
     (length m ≡ 8192) × (cell < 8192)
     × (lowest_end m lowest (mails (Model.path left m Map.list_link cell))
     ≡ lowest_end m low (mails (Model.met m Map.processor_list)))
 
-abbrev decreases-loop : tie.decreases-loop
-decreases-loop m low lowest₀ cell₀ left₀ lowest cell left = left
+abbrev decreases-loop-left : tie.decreases-loop-left
+decreases-loop-left m low lowest₀ cell₀ left₀ lowest cell left = left
 
 pub mails_end_spec : {M : Type 1} → statement M
-mails_end_spec = tie.close (tie.spec invariant-loop decreases-loop
+mails_end_spec = tie.close (tie.spec invariant-loop-left decreases-loop-left
     (λ c. search (rules, heads))
     (λ c κs. search (rules, control_low))
     (λ c. search (rules, heads))

@@ -11,17 +11,17 @@ use Prim.Native.Nat.{◌<◌, ◌^◌}
 use Rattle.telling.proofs.met.mark_mails.Statement.{statement}
 use Rattle.telling.proofs.met.mark_mails.Tie as tie
 
-abbrev invariant-loop : tie.invariant-loop
-invariant-loop m marks t₀ cell₀ left₀ t cell left =
+abbrev invariant-loop-left : tie.invariant-loop-left
+invariant-loop-left m marks t₀ cell₀ left₀ t cell left =
     (length m ≡ 8192) × (cell < 8192) × (t < 2 ^ 40)
     × (marked_lists t (Model.met m) (mails (Model.path left m Map.list_link cell))
     ≡ marked_lists marks (Model.met m) (mails (Model.met m Map.processor_list)))
 
-abbrev decreases-loop : tie.decreases-loop
-decreases-loop m marks t₀ cell₀ left₀ t cell left = left
+abbrev decreases-loop-left : tie.decreases-loop-left
+decreases-loop-left m marks t₀ cell₀ left₀ t cell left = left
 
 pub mark_mails_spec : {M : Type 1} → statement M
-mark_mails_spec = tie.close (tie.spec invariant-loop decreases-loop
+mark_mails_spec = tie.close (tie.spec invariant-loop-left decreases-loop-left
     (λ c. search (rules, marchings))
     (λ c κs. search (rules, control_low))
     (λ c. search (rules, marchings))

@@ -13,17 +13,17 @@ use Prim.Native.Nat.{◌+◌}
 use Rattle.telling.proofs.records.all_existing.Statement.{statement}
 use Rattle.telling.proofs.records.all_existing.Tie as tie
 
-abbrev invariant-loop : tie.invariant-loop
-invariant-loop m marks low lowest₀ x₀ left₀ lowest x left =
+abbrev invariant-loop-left : tie.invariant-loop-left
+invariant-loop-left m marks low lowest₀ x₀ left₀ lowest x left =
     (length m ≡ 8192) × (marks ≡ Met.name_marks m) × (x + left ≡ 16)
     × (lowest_by Map.grant_for (here (Classes.existing bytes) m) lowest (range left 1 x)
     ≡ lowest_by Map.grant_for (here (Classes.existing bytes) m) low (range 15 1 1))
 
-abbrev decreases-loop : tie.decreases-loop
-decreases-loop m marks low lowest₀ x₀ left₀ lowest x left = left
+abbrev decreases-loop-left : tie.decreases-loop-left
+decreases-loop-left m marks low lowest₀ x₀ left₀ lowest x left = left
 
 pub all_existing_spec : {M : Type 1} → statement M
-all_existing_spec = tie.close (tie.spec invariant-loop decreases-loop
+all_existing_spec = tie.close (tie.spec invariant-loop-left decreases-loop-left
     (λ c. search (rules, turns))
     (λ c κs. search rules)
     (λ c κs. search rules)

@@ -15,17 +15,17 @@ use Prim.Native.Nat.{◌<◌}
 use Rattle.telling.proofs.records.all_messages.Statement.{statement}
 use Rattle.telling.proofs.records.all_messages.Tie as tie
 
-abbrev invariant-loop : tie.invariant-loop
-invariant-loop m low lowest₀ cell₀ left₀ lowest cell left =
+abbrev invariant-loop-left : tie.invariant-loop-left
+invariant-loop-left m low lowest₀ cell₀ left₀ lowest cell left =
     (length m ≡ 8192) × (cell < 8192)
     × (lowest_by Classes.page (Judge.message bytes m) lowest (gather (Model.met m) (mails (Model.path left m Map.list_link cell)))
     ≡ lowest_by Classes.page (Judge.message bytes m) low (gather (Model.met m) (mails (Model.met m Map.processor_list))))
 
-abbrev decreases-loop : tie.decreases-loop
-decreases-loop m low lowest₀ cell₀ left₀ lowest cell left = left
+abbrev decreases-loop-left : tie.decreases-loop-left
+decreases-loop-left m low lowest₀ cell₀ left₀ lowest cell left = left
 
 pub all_messages_spec : {M : Type 1} → statement M
-all_messages_spec = tie.close (tie.spec invariant-loop decreases-loop
+all_messages_spec = tie.close (tie.spec invariant-loop-left decreases-loop-left
     (λ c. search (rules, letters))
     (λ c κs. search (rules, control_low))
     (λ c. search (rules, letters))

@@ -13,17 +13,17 @@ use Prim.Native.Nat.{◌<◌}
 use Rattle.telling.proofs.records.all_zero_bits.Statement.{statement}
 use Rattle.telling.proofs.records.all_zero_bits.Tie as tie
 
-abbrev invariant-loop : tie.invariant-loop
-invariant-loop m low lowest₀ cell₀ left₀ lowest cell left =
+abbrev invariant-loop-left : tie.invariant-loop-left
+invariant-loop-left m low lowest₀ cell₀ left₀ lowest cell left =
     (length m ≡ 8192) × (cell < 8192)
     × (lowest_by Classes.page (Judge.zero_bits bytes m) lowest (Model.path left m Map.list_link cell)
     ≡ lowest_by Classes.page (Judge.zero_bits bytes m) low (Model.met m Map.processor_list))
 
-abbrev decreases-loop : tie.decreases-loop
-decreases-loop m low lowest₀ cell₀ left₀ lowest cell left = left
+abbrev decreases-loop-left : tie.decreases-loop-left
+decreases-loop-left m low lowest₀ cell₀ left₀ lowest cell left = left
 
 pub all_zero_bits_spec : {M : Type 1} → statement M
-all_zero_bits_spec = tie.close (tie.spec invariant-loop decreases-loop
+all_zero_bits_spec = tie.close (tie.spec invariant-loop-left decreases-loop-left
     (λ c. search (rules, processors))
     (λ c κs. search (rules, control_low))
     (λ c. search (rules, processors))

@@ -9,7 +9,7 @@ use Rattle.telling.proofs.semaphores.none_free_from.Kinds as kinds
 use Rattle.telling.proofs.semaphores.+none_free_from.Lts-none_free_from as lts
 use Rattle.model.proofs.ControlPage.place.Reads as place-reads
 use Rattle.telling.proofs.lowest.unless.Reads as unless-reads
-use Rattle.telling.proofs.semaphores.none_free_lem.Reads as none-free-reads
+use Rattle.telling.proofs.semaphores.none_free.Reads as none-free-reads
 use Rattle.telling.proofs.walks.control_at.Reads as control-at-reads
 use Rattle.telling.proofs.semaphores.+none_free_from.{statement}
 use Rattle.telling.proofs.semaphores.+none_free_from.Tie.{close}

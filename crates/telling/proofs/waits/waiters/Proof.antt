@@ -13,17 +13,17 @@ use Prim.Native.Nat.{◌≤◌, ◌+◌}
 use Rattle.telling.proofs.waits.waiters.Statement.{statement}
 use Rattle.telling.proofs.waits.waiters.Tie as tie
 
-abbrev invariant-loop : tie.invariant-loop
-invariant-loop m marks listed low lowest₀ x₀ left₀ lowest x left =
+abbrev invariant-loop-left : tie.invariant-loop-left
+invariant-loop-left m marks listed low lowest₀ x₀ left₀ lowest x left =
     (length m ≡ 8192) × (marks ≡ Met.wait_marks m) × (listed ≡ Met.list_marks m) × Met.Single m × (left ≤ 20) × (x + left ≡ 256)
     × (lowest_by Classes.page (here (Judge.waiter bytes) m) lowest (range left 1 x)
     ≡ lowest_by Classes.page (here (Judge.waiter bytes) m) low (range 20 1 236))
 
-abbrev decreases-loop : tie.decreases-loop
-decreases-loop m marks listed low lowest₀ x₀ left₀ lowest x left = left
+abbrev decreases-loop-left : tie.decreases-loop-left
+decreases-loop-left m marks listed low lowest₀ x₀ left₀ lowest x left = left
 
 pub waiters_spec : {M : Type 1} → statement M
-waiters_spec = tie.close (tie.spec invariant-loop decreases-loop
+waiters_spec = tie.close (tie.spec invariant-loop-left decreases-loop-left
     (λ c. search (rules, turns))
     (λ c. search rules)
     (λ c κs. search rules)
