@@ -4,7 +4,6 @@ ghost use Rattle.io.specs.Counts.{IsPrefixLen};
 ghost use Rattle.files.specs.Files.{new_bytes, new_name};
 
 use crate::sizes;
-use bytes::copy;
 
 // The bytes go to a place and the ones behind it.
 pub fn lay(buffer: &mut [u8], at: usize, laid: &[u8])
@@ -12,7 +11,8 @@ pub fn lay(buffer: &mut [u8], at: usize, laid: &[u8])
     ensures { buffer.new
         ≡ take at buffer.old ++ laid.now ++ drop (at + length laid.now) buffer.old }
 {
-    copy(laid, &mut buffer[at..]);
+    let end = at + laid.len();
+    buffer[at..end].copy_from_slice(laid);
 }
 
 // A file's name with `.new` behind it. Answers how long it is.
