@@ -1,6 +1,5 @@
 // Bytes laid into a buffer: a part of a block or of a memory, and the name of a new file.
 ghost use Rattle.std.specs.Prelude.{◌≡◌, ◌++◌, ◌≤◌, ◌+◌, length, take, drop};
-ghost use Rattle.io.specs.Counts.{IsPrefixLen};
 ghost use Rattle.files.specs.Files.{new_bytes, new_name};
 
 use crate::sizes;
@@ -16,9 +15,10 @@ pub fn lay(buffer: &mut [u8], at: usize, laid: &[u8])
 }
 
 // A file's name with `.new` behind it. Answers how long it is.
+#[tactic(auto, using(crate::proofs::Laws::new_name_lem, crate::proofs::Laws::new_long))]
 pub fn lay_new_name(new: &mut [u8], name: &[u8]) -> usize
     requires { length name.now + new_bytes ≤ length new.old }
-    ensures { (IsPrefixLen result new.new) × (take result new.new ≡ new_name name.now) }
+    ensures { (result ≤ length new.new) × (result ≡ length (take result new.new)) × (take result new.new ≡ new_name name.now) }
 {
     let end = name.len();
     lay(new, 0, name);
