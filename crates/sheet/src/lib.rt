@@ -43,6 +43,7 @@ fn tell_writing<P: Print>(rt: &P, given: Writing) -> io::Result<()> {
     Ok(())
 }
 
+#[tactic(auto, using(crate::proofs::Laws::files))]
 fn show<P: Print>(rt: &P, file: &[u8]) -> io::Result<()> {
     match of_file(file) {
         Fit::Good => tell_rows(rt, file),
@@ -66,6 +67,7 @@ fn show_file<R: Files + Print, E: Print>(rt: &R, errors: &E, name: &[u8]) -> io:
 }
 
 // A block behind the bytes in use; where it is refused, no file changes.
+#[tactic(auto, using(crate::proofs::Laws::files))]
 fn write_behind<R: Files + Print, E: Print>(
     rt: &R,
     errors: &E,
