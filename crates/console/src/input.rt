@@ -1,6 +1,6 @@
 // The reading of a script of any length: what is read ahead is taken line by line, and each line carried out. What is printed is kept, and written
 // before more is read: who types sees each answer at once.
-ghost use Rattle.std.specs.Prelude.{◌≡◌, ◌+◌, ◌<◌, ◌≤◌, length};
+ghost use Rattle.std.specs.Prelude.{◌≡◌, ◌+◌, ◌<◌, ◌≤◌, IfOk, length};
 ghost use Rattle.screen.specs.Sizes.{line_room};
 ghost use Rattle.lending.specs.Sizes.{buffer_words};
 ghost use Rattle.console.specs.Sizes.{ahead_bytes, output_bytes};
@@ -11,6 +11,9 @@ use crate::sizes;
 use model::map;
 use screen::kept::{room, write};
 use screen::lines::not_understood;
+use std::fs::Files;
+use std::io;
+use std::io::Read;
 
 // Where the reading is: what was read and not yet run are the bytes ahead from start to end; whether the line that they belong to has lost its
 // beginning, being too long; whether to go on; the line's number; how many words a call is lent; how many bytes of the output are kept.
@@ -26,21 +29,34 @@ struct Place {
 }
 
 // A line is carried out; there is room in the output for a line more.
-fn run_line(
+fn run_line<R: Files + Print, E: Print>(
+    rt: &R,
+    errors: &E,
     m: &mut [u8],
     old: &mut [u8],
     output: &mut [u8],
     line: &[u8],
     place: After,
     line_number: u64,
-) -> After
+) -> io::Result<After>
     requires { (length m.old ≡ buffer_words) × (length old.old ≡ buffer_words) × (place.lent ≤ buffer_words)
         × (place.kept + line_room ≤ length output.old) }
-    ensures { (result.lent ≤ buffer_words) × (result.kept ≤ length output.old) }
+    ensures { IfOk result (λ r. (r.lent ≤ buffer_words) × (r.kept ≤ length output.old)) }
 {
     let mut given = [0u16; script::sizes::MOST_NUMBERS];
     let order = script::parse(line, &mut given);
-    obey(m, old, output, line, &given, order, place, line_number)
+    obey(
+        rt,
+        errors,
+        m,
+        old,
+        output,
+        line,
+        &given,
+        order,
+        place,
+        line_number,
+    )
 }
 
 // The place of the first line feed from `at` on, or the end; `left` bytes are left.
@@ -71,43 +87,46 @@ fn shift(ahead: &mut [u8], from: usize, to: usize, count: usize)
 }
 
 // Reads behind the first `begun` bytes, and answers how many came.
-fn fill(input: i32, ahead: &mut [u8], begun: usize) -> usize
+fn fill<I: Read>(input: &mut I, ahead: &mut [u8], begun: usize) -> io::Result<usize>
     requires { begun ≤ length ahead.old }
-    ensures { begun + result ≤ length ahead.old }
+    ensures { IfOk result (λ r. begun + r ≤ length ahead.old) }
 {
-    let got = libc::read(input, &mut ahead[begun..]);
-    io::count(got, &ahead[begun..])
+    input.read(&mut ahead[begun..])
 }
 
 // The input has ended behind the first `begun` bytes: they are the last line, if there are any. Nothing was kept before it; answers what is then.
-fn last(
+fn last<R: Files + Print, E: Print>(
+    rt: &R,
+    errors: &E,
     m: &mut [u8],
     old: &mut [u8],
     output: &mut [u8],
     ahead: &[u8],
     begun: usize,
     place: Place,
-) -> usize
+) -> io::Result<usize>
     requires { (length m.old ≡ buffer_words) × (length old.old ≡ buffer_words) × (length output.old ≡ output_bytes) × (begun ≤ length ahead.now)
         × (place.lent ≤ buffer_words) }
-    ensures { result ≤ output_bytes }
+    ensures { IfOk result (λ r. r ≤ output_bytes) }
 {
     if place.long {
-        return not_understood(output, 0, place.line);
+        return Ok(not_understood(output, 0, place.line));
     }
     if begun == 0 {
-        return 0;
+        return Ok(0);
     }
     let lent = place.lent;
     let then = run_line(
+        rt,
+        errors,
         m,
         old,
         output,
         &ahead[0..begun],
         After { lent, kept: 0 },
         place.line,
-    );
-    then.kept
+    )?;
+    Ok(then.kept)
 }
 
 fn ended(kept: usize) -> Place
@@ -126,25 +145,28 @@ fn ended(kept: usize) -> Place
 }
 
 // What is kept is written; then more is read behind the first `begun` bytes.
-fn read_more(
-    input: i32,
+fn read_more<R: Files + Print, E: Print, I: Read>(
+    rt: &R,
+    errors: &E,
+    input: &mut I,
     m: &mut [u8],
     old: &mut [u8],
     output: &mut [u8],
     ahead: &mut [u8],
     begun: usize,
     place: Place,
-) -> Place
+) -> io::Result<Place>
     requires { (length m.old ≡ buffer_words) × (length old.old ≡ buffer_words) × (length output.old ≡ output_bytes) × (length ahead.old ≡ ahead_bytes)
         × (begun ≤ ahead_bytes) × (place.lent ≤ buffer_words) × (place.kept ≤ output_bytes) }
-    ensures { (result.start ≤ result.end) × (result.end ≤ ahead_bytes) × (result.lent ≤ buffer_words) × (result.kept ≤ output_bytes) }
+    ensures { IfOk result (λ r. (r.start ≤ r.end) × (r.end ≤ ahead_bytes) × (r.lent ≤ buffer_words) × (r.kept ≤ output_bytes)) }
 {
-    let none = write(output, place.kept);
-    let got = fill(input, ahead, begun);
+    let none = write(rt, output, place.kept)?;
+    let got = fill(input, ahead, begun)?;
     if got == 0 {
-        return ended(last(m, old, output, ahead, begun, place));
+        let kept = last(rt, errors, m, old, output, ahead, begun, place)?;
+        return Ok(ended(kept));
     }
-    Place {
+    Ok(Place {
         start: 0,
         end: begun + got,
         long: place.long,
@@ -152,32 +174,36 @@ fn read_more(
         line: place.line,
         lent: place.lent,
         kept: none,
-    }
+    })
 }
 
 // The line from start to `end` is carried out, with room for what it prints.
-fn next(
+fn next<R: Files + Print, E: Print>(
+    rt: &R,
+    errors: &E,
     m: &mut [u8],
     old: &mut [u8],
     output: &mut [u8],
     ahead: &[u8],
     end: usize,
     place: Place,
-) -> After
+) -> io::Result<After>
     requires { (length m.old ≡ buffer_words) × (length old.old ≡ buffer_words) × (length output.old ≡ output_bytes) × (place.start ≤ end)
         × (end ≤ length ahead.now) × (place.lent ≤ buffer_words) × (place.kept ≤ output_bytes) }
-    ensures { (result.lent ≤ buffer_words) × (result.kept ≤ output_bytes) }
+    ensures { IfOk result (λ r. (r.lent ≤ buffer_words) × (r.kept ≤ output_bytes)) }
 {
     let lent = place.lent;
-    let kept = room(output, place.kept);
+    let kept = room(rt, output, place.kept)?;
     if place.long {
-        return After {
+        return Ok(After {
             lent,
             kept: not_understood(output, kept, place.line),
-        };
+        });
     }
     let start = place.start;
     run_line(
+        rt,
+        errors,
         m,
         old,
         output,
@@ -188,36 +214,38 @@ fn next(
 }
 
 // One turn: a line that is there is carried out, else more is read. Of a line that fills the buffer only its number is kept.
-fn turn(
-    input: i32,
+fn turn<R: Files + Print, E: Print, I: Read>(
+    rt: &R,
+    errors: &E,
+    input: &mut I,
     m: &mut [u8],
     old: &mut [u8],
     output: &mut [u8],
     ahead: &mut [u8],
     place: Place,
-) -> Place
+) -> io::Result<Place>
     requires { (length m.old ≡ buffer_words) × (length old.old ≡ buffer_words) × (length output.old ≡ output_bytes) × (length ahead.old ≡ ahead_bytes)
         × (place.start ≤ place.end) × (place.end ≤ ahead_bytes) × (place.lent ≤ buffer_words) × (place.kept ≤ output_bytes) }
-    ensures { (result.start ≤ result.end) × (result.end ≤ ahead_bytes) × (result.lent ≤ buffer_words) × (result.kept ≤ output_bytes) }
+    ensures { IfOk result (λ r. (r.start ≤ r.end) × (r.end ≤ ahead_bytes) × (r.lent ≤ buffer_words) × (r.kept ≤ output_bytes)) }
 {
     let start = place.start;
     let end = place.end;
     let at = line_end(ahead, start, end - start);
     if at < end {
-        let then = next(m, old, output, ahead, at, place);
-        return Place {
+        let then = next(rt, errors, m, old, output, ahead, at, place)?;
+        return Ok(Place {
             start: at + 1,
             end,
             long: false,
             more: true,
-            line: std::num::wrapping_add_u64(place.line, 1),
+            line: place.line.wrapping_add(1),
             lent: then.lent,
             kept: then.kept,
-        };
+        });
     }
     let begun = end - start;
     if begun == sizes::AHEAD_BYTES {
-        return Place {
+        return Ok(Place {
             start: 0,
             end: 0,
             long: true,
@@ -225,23 +253,25 @@ fn turn(
             line: place.line,
             lent: place.lent,
             kept: place.kept,
-        };
+        });
     }
     shift(ahead, start, 0, begun);
-    read_more(input, m, old, output, ahead, begun, place)
+    read_more(rt, errors, input, m, old, output, ahead, begun, place)
 }
 
 // Turn after turn, to the end of the script; answers what is kept then.
-fn take_turns(
-    input: i32,
+fn take_turns<R: Files + Print, E: Print, I: Read>(
+    rt: &R,
+    errors: &E,
+    input: &mut I,
     m: &mut [u8],
     old: &mut [u8],
     output: &mut [u8],
     ahead: &mut [u8],
-) -> usize
+) -> io::Result<usize>
     requires { (length m.old ≡ buffer_words) × (length old.old ≡ buffer_words) × (length output.old ≡ output_bytes)
         × (length ahead.old ≡ ahead_bytes) }
-    ensures { result ≤ output_bytes }
+    ensures { IfOk result (λ r. r ≤ output_bytes) }
 {
     let mut turns = u64::MAX;
     let mut place = Place {
@@ -255,20 +285,29 @@ fn take_turns(
     };
     while 0 < turns {
         turns -= 1;
-        place = turn(input, m, old, output, ahead, place);
+        place = turn(rt, errors, input, m, old, output, ahead, place)?;
         if place.more {
             continue;
         }
-        return place.kept;
+        return Ok(place.kept);
     }
-    place.kept
+    Ok(place.kept)
 }
 
-// Runs the script that the descriptor `input` reads, to its end.
-pub fn run(input: i32, m: &mut [u8], old: &mut [u8], output: &mut [u8], ahead: &mut [u8])
+// Runs the script that `input` reads, to its end.
+pub fn run<R: Files + Print, E: Print, I: Read>(
+    rt: &R,
+    errors: &E,
+    input: &mut I,
+    m: &mut [u8],
+    old: &mut [u8],
+    output: &mut [u8],
+    ahead: &mut [u8],
+) -> io::Result<()>
     requires { (length m.old ≡ buffer_words) × (length old.old ≡ buffer_words) × (length output.old ≡ output_bytes)
         × (length ahead.old ≡ ahead_bytes) }
 {
-    let kept = take_turns(input, m, old, output, ahead);
-    write(output, kept);
+    let kept = take_turns(rt, errors, input, m, old, output, ahead)?;
+    write(rt, output, kept)?;
+    Ok(())
 }

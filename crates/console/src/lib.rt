@@ -7,39 +7,62 @@ mod memory;
 mod orders;
 mod sizes;
 
+use files::saying::{fail, path_of};
+use files::word_count;
 use input::run;
 use lending::sizes::BUFFER_WORDS;
-use libc::{STDERR_FILENO, STDIN_FILENO};
+use std::env::Env;
+use std::fs::{File, Files};
+use std::io;
+use std::io::Read;
 
-// Runs the script that the descriptor `input` reads.
-fn run_script(input: i32) {
+// Runs the script that `input` reads.
+fn run_script<R: Files + Print, E: Print, I: Read>(
+    rt: &R,
+    errors: &E,
+    input: &mut I,
+) -> io::Result<()> {
     let mut m = [0u8; BUFFER_WORDS];
     let mut old = [0u8; BUFFER_WORDS];
-    let mut output = io::buffer();
-    let mut ahead = io::buffer();
-    run(input, &mut m, &mut old, &mut output, &mut ahead);
+    let mut output = [0u8; sizes::OUTPUT_BYTES];
+    let mut ahead = [0u8; sizes::AHEAD_BYTES];
+    run(rt, errors, input, &mut m, &mut old, &mut output, &mut ahead)
+}
+
+fn open<R: Files>(rt: &R, name: &[u8]) -> io::Result<R::File> {
+    File::open(rt, path_of(name)?)
+}
+
+// Runs the script in the file with a name. What the system says of one that cannot be opened goes to `errors`, the standard error.
+fn run_named<R: Files + Print, E: Print>(rt: &R, errors: &E, name: &[u8]) -> io::Result<()> {
+    match open(rt, name) {
+        Ok(mut input) => run_script(rt, errors, &mut input),
+        Err(error) => {
+            fail(errors, name, error);
+            Ok(())
+        }
+    }
 }
 
 // Runs the script in the file that the program's argument names.
-fn run_file() {
-    let mut name = io::buffer();
-    let end = os::arg(1, &mut name);
-    let input = os::open_read(&name[..end]);
-    if input < 0 {
-        return os::fail(&name[..end]);
-    }
-    run_script(input);
-    libc::close(input);
+fn run_file<R: Env + Files + Print, E: Print>(rt: &R, errors: &E) -> io::Result<()> {
+    let mut name = [0u8; sizes::NAME_BYTES];
+    let end = match rt.arg(1, &mut name) {
+        Ok(end) => end,
+        Err(_) => 0,
+    };
+    run_named(rt, errors, &name[..end])
 }
 
 // Runs the script on standard input, or in the file named by the one argument; the program's name counts as a word.
-pub fn start() {
-    let count = os::arg_count();
+pub fn start<R: Env + Files + Input + Print, E: Print>(rt: &R, errors: &E) -> io::Result<()> {
+    let count = word_count(rt);
     if count < 2 {
-        return run_script(STDIN_FILENO);
+        return run_script(rt, errors, &mut rt.reader());
     }
     if count == 2 {
-        return run_file();
+        return run_file(rt, errors);
     }
-    io::write_all(STDERR_FILENO, b"usage: wik [SCRIPT]\n");
+    let _ = errors.write_all(b"usage: wik [SCRIPT]\n");
+    Ok(())
 }

@@ -1,6 +1,6 @@
 // What a script does to the program's 8,200 words between calls: the host's store, looks, what has changed, and how much is lent. What is printed
 // is kept at the start of the output, or written at once behind what is kept.
-ghost use Rattle.std.specs.Prelude.{◌≡◌, ◌+◌, ◌<◌, ◌≤◌, length};
+ghost use Rattle.std.specs.Prelude.{◌≡◌, ◌+◌, ◌<◌, ◌≤◌, IfOk, length};
 ghost use Rattle.script.specs.Sizes.{most_numbers};
 ghost use Rattle.screen.specs.Sizes.{line_room};
 ghost use Rattle.lending.specs.Sizes.{buffer_words};
@@ -12,6 +12,7 @@ use model::map;
 use screen::kept::write;
 use screen::lines::not_allowed;
 use screen::pieces::{number, text, word};
+use std::io;
 use words::{guarded, low};
 
 // What a line leaves: how many words a call is lent from then on, and how many bytes of the output are kept, to be written.
@@ -123,83 +124,96 @@ pub fn put(
 }
 
 // So many words from a place on, a space before each.
-fn tell_words(m: &[u8], at: usize, count: usize)
+fn tell_words<P: Print>(rt: &P, m: &[u8], at: usize, count: usize) -> io::Result<()>
     requires { at + count ≤ length m.now }
 {
     if count == 0 {
-        return;
+        return Ok(());
     }
-    text(b" ");
-    word(m[at]);
-    tell_words(m, at + 1, count - 1);
+    text(rt, b" ")?;
+    word(rt, m[at])?;
+    tell_words(rt, m, at + 1, count - 1)
 }
 
 // So many words, at least one, in a line.
-fn words_line(m: &[u8], at: usize, count: usize)
+fn words_line<P: Print>(rt: &P, m: &[u8], at: usize, count: usize) -> io::Result<()>
     requires { (0 < count) × (at + count ≤ length m.now) }
 {
-    word(m[at]);
-    tell_words(m, at + 1, count - 1);
-    text(b"\n");
+    word(rt, m[at])?;
+    tell_words(rt, m, at + 1, count - 1)?;
+    text(rt, b"\n")
 }
 
 // The words are written at once, behind what is kept.
-pub fn look(m: &[u8], output: &mut [u8], kept: usize, address: u16, count: u16) -> usize
+pub fn look<P: Print>(
+    rt: &P,
+    m: &[u8],
+    output: &mut [u8],
+    kept: usize,
+    address: u16,
+    count: u16,
+) -> io::Result<usize>
     requires { (length m.now ≡ buffer_words) × (kept + line_room ≤ length output.old) }
-    ensures { result ≤ length output.old }
+    ensures { IfOk result (λ r. r ≤ length output.old) }
 {
     let at = address as usize;
     let left = count as usize;
     if left == 0 {
-        return not_allowed(output, kept);
+        return Ok(not_allowed(output, kept));
     }
     if sizes::MOST_LOOKED_AT < left {
-        return not_allowed(output, kept);
+        return Ok(not_allowed(output, kept));
     }
     if BUFFER_WORDS < at + left {
-        return not_allowed(output, kept);
+        return Ok(not_allowed(output, kept));
     }
-    let none = write(output, kept);
-    words_line(m, at, left);
-    none
+    let none = write(rt, output, kept)?;
+    words_line(rt, m, at, left)?;
+    Ok(none)
 }
 
 // A word is compared with what it was, which it then becomes. Answers 1 where it differs.
-fn change(m: &[u8], old: &mut [u8], at: usize) -> u64
+fn change<P: Print>(rt: &P, m: &[u8], old: &mut [u8], at: usize) -> io::Result<u64>
     requires { (at < length m.now) × (at < length old.old) }
-    ensures { result ≤ 1 }
+    ensures { IfOk result (λ r. r ≤ 1) }
 {
     let was = old[at];
     let is = m[at];
     if was == is {
-        return 0;
+        return Ok(0);
     }
-    number(at as u64);
-    text(b" ");
-    word(was);
-    text(b" ");
-    word(is);
-    text(b"\n");
+    number(rt, at as u64)?;
+    text(rt, b" ")?;
+    word(rt, was)?;
+    text(rt, b" ")?;
+    word(rt, is)?;
+    text(rt, b"\n")?;
     store_word(old, at, is);
-    1
+    Ok(1)
 }
 
 // The words that have changed are written at once, behind what is kept.
-pub fn changes(m: &[u8], old: &mut [u8], output: &[u8], kept: usize) -> usize
+pub fn changes<P: Print>(
+    rt: &P,
+    m: &[u8],
+    old: &mut [u8],
+    output: &[u8],
+    kept: usize,
+) -> io::Result<usize>
     requires { (length m.now ≡ buffer_words) × (length old.old ≡ buffer_words) × (kept ≤ length output.now) }
-    ensures { result ≡ 0 }
+    ensures { IfOk result (λ r. r ≡ 0) }
 {
-    let none = write(output, kept);
+    let none = write(rt, output, kept)?;
     let mut at = 0;
     let mut changed = 0;
     while at < BUFFER_WORDS {
-        changed += change(m, old, at);
+        changed += change(rt, m, old, at)?;
         at += 1;
     }
-    text(b"changed ");
-    number(changed);
-    text(b"\n");
-    none
+    text(rt, b"changed ")?;
+    number(rt, changed)?;
+    text(rt, b"\n")?;
+    Ok(none)
 }
 
 // What is lent from now on.

@@ -1,6 +1,6 @@
 // The orders of a script, each on the program's 8,200 words m, of which a call is lent the first `lent`. What an order prints goes to the output,
 // behind the bytes that are kept there.
-ghost use Rattle.std.specs.Prelude.{◌≡◌, ◌+◌, ◌≤◌, length};
+ghost use Rattle.std.specs.Prelude.{◌≡◌, ◌+◌, ◌≤◌, IfOk, length};
 ghost use Rattle.script.specs.Sizes.{most_numbers};
 ghost use Rattle.files.specs.Files.{name_room};
 ghost use Rattle.screen.specs.Sizes.{line_room};
@@ -18,6 +18,8 @@ use screen::lines::{answer, held, not_allowed, not_understood, verdict, writing}
 use screen::pieces::{text, word};
 use screen::state;
 use script::{Order, Seven};
+use std::fs::Files;
+use std::io;
 
 fn fresh(m: &mut [u8], lent: usize, line: u16, divider: u16) -> Answer
     requires { lent ≤ length m.old }
@@ -89,40 +91,50 @@ fn judged(m: &[u8], lent: usize) -> Verdict
 }
 
 // A memory that is not lent whole has nothing to show.
-fn not_lent(refusal: u8) {
-    text(b"nothing to show: the length is not 8192 (refused ");
-    word(refusal);
-    text(b")\n");
+fn not_lent<P: Print>(rt: &P, refusal: u8) -> io::Result<()> {
+    text(rt, b"nothing to show: the length is not 8192 (refused ")?;
+    word(rt, refusal)?;
+    text(rt, b")\n")
 }
 
 // The state; of a memory that the judge refuses, whose lists could mislead, only what is broken. It is written at once, behind what is kept.
-fn show(m: &[u8], lent: usize, output: &[u8], kept: usize) -> usize
+fn show<P: Print>(rt: &P, m: &[u8], lent: usize, output: &[u8], kept: usize) -> io::Result<usize>
     requires { (length m.now ≡ buffer_words) × (lent ≤ buffer_words) × (kept ≤ length output.now) }
-    ensures { result ≡ 0 }
+    ensures { IfOk result (λ r. r ≡ 0) }
 {
-    let none = write(output, kept);
+    let none = write(rt, output, kept)?;
     match judged(m, lent) {
-        Verdict::WellFormed => state(&m[0..map::MEMORY_WORDS]),
-        Verdict::Refused(refusal) => not_lent(refusal),
-        Verdict::RefusedAt(refusal, place) => broken(refusal, place),
+        Verdict::WellFormed => state(rt, &m[0..map::MEMORY_WORDS])?,
+        Verdict::Refused(refusal) => not_lent(rt, refusal)?,
+        Verdict::RefusedAt(refusal, place) => broken(rt, refusal, place)?,
     }
-    none
+    Ok(none)
 }
 
 // The lent words go to the file with a name. Where the system refuses, it has said so on standard error, behind what was kept.
-fn save_as(name: &[u8], m: &[u8], lent: usize, output: &mut [u8], kept: usize) -> usize
+fn save_as<R: Files + Print, E: Print>(
+    rt: &R,
+    errors: &E,
+    name: &[u8],
+    m: &[u8],
+    lent: usize,
+    output: &mut [u8],
+    kept: usize,
+) -> io::Result<usize>
     requires { (length name.now ≤ name_room) × (lent ≤ length m.now) × (kept + line_room ≤ length output.old) }
-    ensures { result ≤ length output.old }
+    ensures { IfOk result (λ r. r ≤ length output.old) }
 {
-    let none = write(output, kept);
-    if replace(name, &m[0..lent]) {
-        return writing(output, none, Writing::Written(lent));
+    let none = write(rt, output, kept)?;
+    if replace(rt, errors, name, &m[0..lent]) {
+        return Ok(writing(output, none, Writing::Written(lent)));
     }
-    none
+    Ok(none)
 }
 
 // `save FILE`: the name stands in the line, between two places; that they lie there is tested, though `parse` gives no others.
-fn save(
+fn save<R: Files + Print, E: Print>(
+    rt: &R,
+    errors: &E,
     m: &[u8],
     lent: usize,
     output: &mut [u8],
@@ -130,24 +142,26 @@ fn save(
     line: &[u8],
     begin: usize,
     end: usize,
-) -> usize
+) -> io::Result<usize>
     requires { (lent ≤ length m.now) × (kept + line_room ≤ length output.old) }
-    ensures { result ≤ length output.old }
+    ensures { IfOk result (λ r. r ≤ length output.old) }
 {
     if end < begin {
-        return not_allowed(output, kept);
+        return Ok(not_allowed(output, kept));
     }
     if line.len() < end {
-        return not_allowed(output, kept);
+        return Ok(not_allowed(output, kept));
     }
     if script::sizes::LONGEST_LINE < end {
-        return not_allowed(output, kept);
+        return Ok(not_allowed(output, kept));
     }
-    save_as(&line[begin..end], m, lent, output, kept)
+    save_as(rt, errors, &line[begin..end], m, lent, output, kept)
 }
 
 // Carries out the order of a line, with the numbers given there. There is room in the output for a line.
-pub fn obey(
+pub fn obey<R: Files + Print, E: Print>(
+    rt: &R,
+    errors: &E,
     m: &mut [u8],
     old: &mut [u8],
     output: &mut [u8],
@@ -156,10 +170,10 @@ pub fn obey(
     order: Order,
     place: After,
     line_number: u64,
-) -> After
+) -> io::Result<After>
     requires { (length m.old ≡ buffer_words) × (length old.old ≡ buffer_words) × (length given.now ≡ most_numbers) × (place.lent ≤ buffer_words)
         × (place.kept + line_room ≤ length output.old) }
-    ensures { (result.lent ≤ buffer_words) × (result.kept ≤ length output.old) }
+    ensures { IfOk result (λ r. (r.lent ≤ buffer_words) × (r.kept ≤ length output.old)) }
 {
     let lent = place.lent;
     let kept = place.kept;
@@ -175,13 +189,13 @@ pub fn obey(
         Order::Judge => verdict(output, kept, judged(m, lent)),
         Order::Put(address, count) => put(m, output, kept, given, address, count),
         Order::Break(address, count) => put_anywhere(m, output, kept, given, address, count),
-        Order::Length(wanted) => return lend(output, kept, lent, wanted),
+        Order::Length(wanted) => return Ok(lend(output, kept, lent, wanted)),
         Order::Settings(address, long) => settings(m, lent, output, kept, address, long),
         Order::Write(wanted) => write_settings(m, output, kept, wanted),
-        Order::Save(begin, end) => save(m, lent, output, kept, line, begin, end),
-        Order::Words(address, count) => look(m, output, kept, address, count),
-        Order::Changes => changes(m, old, output, kept),
-        Order::Show => show(m, lent, output, kept),
+        Order::Save(begin, end) => save(rt, errors, m, lent, output, kept, line, begin, end)?,
+        Order::Words(address, count) => look(rt, m, output, kept, address, count)?,
+        Order::Changes => changes(rt, m, old, output, kept)?,
+        Order::Show => show(rt, m, lent, output, kept)?,
     };
-    After { lent, kept: then }
+    Ok(After { lent, kept: then })
 }

@@ -1,6 +1,8 @@
 // The program that compares two memories.
 #![tactic(auto)]
 
-fn main() {
-    report::start();
+use std::io;
+
+fn main(rt: HostRuntime) -> io::Result<()> {
+    report::start(&rt, &rt.stderr())
 }

@@ -11,7 +11,6 @@ ghost use Rattle.lending.specs.Sizes.{buffer_words};
 ghost use Rattle.lending.specs.Parts as Parts;
 ghost use Rattle.lending.specs.Lists as Lists;
 
-use bytes::copy;
 use files::laying::lay;
 use model::{Answer, Writing, map};
 use words::low;
@@ -22,7 +21,7 @@ fn copy_out(copied: &mut [u8], m: &[u8], at: usize, count: usize)
     ensures { copied.new ≡ Parts.part m.now at count ++ drop count copied.old }
 {
     let end = at + count;
-    copy(&m[at..end], copied);
+    copied[..count].copy_from_slice(&m[at..end]);
 }
 
 // The fresh start from the file in so many words from a place on.

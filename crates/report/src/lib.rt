@@ -3,14 +3,17 @@
 
 mod lines;
 
-ghost use Rattle.std.specs.Prelude.{◌≡◌, ◌≤◌, length};
+ghost use Rattle.std.specs.Prelude.{◌≡◌, ◌≤◌, IfOk, length};
 ghost use Rattle.report.specs.Sizes.{output_bytes};
 
 use comparing::{Cursor, Step, next};
-use files::{Got, name_of, read_file};
-use libc::STDERR_FILENO;
+use files::saying::fail_missing;
+use files::{Got, name_of, read_file, word_count};
 use lines::tell_line;
 use screen::kept::{room, write};
+use std::env::Env;
+use std::fs::Files;
+use std::io;
 
 // A file is read into so many bytes, the words of a memory.
 const FILE_ROOM: usize = 8192;
@@ -25,41 +28,48 @@ const SECOND: usize = 2;
 
 const WORDS: usize = 3;
 
+// A file's name has at most so many bytes.
+const NAME_ROOM: usize = 4096;
+
+// What is kept of the output until it is written.
+const OUTPUT_ROOM: usize = 4096;
+
 // The lines of two memories go to the output, one after the other, to the last. Answers what is kept then.
-fn tell_lines(first: &[u8], second: &[u8], output: &mut [u8]) -> usize
+fn tell_lines<P: Print>(rt: &P, first: &[u8], second: &[u8], output: &mut [u8]) -> io::Result<usize>
     requires { length output.old ≡ output_bytes }
-    ensures { result ≤ output_bytes }
+    ensures { IfOk result (λ r. r ≤ output_bytes) }
 {
     let mut kept = 0;
     let mut cursor = Cursor::Start;
     loop {
         match next(first, second, cursor) {
             Step::Tells(line, then) => {
-                let there = room(output, kept);
-                kept = tell_line(output, there, line);
+                let there = room(rt, output, kept)?;
+                kept = tell_line(rt, output, there, line)?;
                 cursor = then;
             }
-            Step::End => return kept,
+            Step::End => return Ok(kept),
         }
     }
 }
 
 // All that is printed of two memories, many lines by one write.
-fn tell(first: &[u8], second: &[u8]) {
-    let mut output = io::buffer();
-    let kept = tell_lines(first, second, &mut output);
-    write(&output, kept);
+fn tell<P: Print>(rt: &P, first: &[u8], second: &[u8]) -> io::Result<()> {
+    let mut output = [0u8; OUTPUT_ROOM];
+    let kept = tell_lines(rt, first, second, &mut output)?;
+    write(rt, &output, kept)?;
+    Ok(())
 }
 
 // Reads the file that a word of the command line names. Of one that is longer than the buffer nothing is lent: no bytes are as wrong a length as its own.
-fn read(number: usize, file: &mut [u8]) -> usize {
-    let mut name = io::buffer();
-    let end = name_of(number, &mut name);
-    match read_file(&name[..end], file) {
+fn read<R: Env + Files, E: Print>(rt: &R, errors: &E, number: usize, file: &mut [u8]) -> usize {
+    let mut name = [0u8; NAME_ROOM];
+    let end = name_of(rt, number, &mut name);
+    match read_file(rt, errors, &name[..end], file) {
         Got::Has(count) => count,
         Got::TooLong => 0,
         Got::Missing => {
-            os::fail(&name[..end]);
+            fail_missing(errors, &name[..end]);
             NOT_READ
         }
         Got::Failed => NOT_READ,
@@ -67,26 +77,33 @@ fn read(number: usize, file: &mut [u8]) -> usize {
 }
 
 // The first file is read: the second, and what is to be said.
-fn compare_with(first: &[u8]) {
+fn compare_with<R: Env + Files + Print, E: Print>(
+    rt: &R,
+    errors: &E,
+    first: &[u8],
+) -> io::Result<()> {
     let mut second = [0u8; FILE_ROOM];
-    let end = read(SECOND, &mut second);
+    let end = read(rt, errors, SECOND, &mut second);
     if end <= FILE_ROOM {
-        tell(first, &second[..end]);
+        return tell(rt, first, &second[..end]);
     }
+    Ok(())
 }
 
-fn compare() {
+fn compare<R: Env + Files + Print, E: Print>(rt: &R, errors: &E) -> io::Result<()> {
     let mut first = [0u8; FILE_ROOM];
-    let end = read(FIRST, &mut first);
+    let end = read(rt, errors, FIRST, &mut first);
     if end <= FILE_ROOM {
-        compare_with(&first[..end]);
+        return compare_with(rt, errors, &first[..end]);
     }
+    Ok(())
 }
 
 // Compares the two files that the command line names.
-pub fn start() {
-    if os::arg_count() == WORDS {
-        return compare();
+pub fn start<R: Env + Files + Print, E: Print>(rt: &R, errors: &E) -> io::Result<()> {
+    if word_count(rt) == WORDS {
+        return compare(rt, errors);
     }
-    io::write_all(STDERR_FILENO, b"usage: differ FIRST SECOND\n");
+    let _ = errors.write_all(b"usage: differ FIRST SECOND\n");
+    Ok(())
 }

@@ -1,11 +1,12 @@
 // The lines of two memories as they are printed. They are kept, to be written with others; where a line begins there is room for one.
-ghost use Rattle.std.specs.Prelude.{◌≤◌, ◌+◌, length};
+ghost use Rattle.std.specs.Prelude.{◌≤◌, ◌+◌, IfOk, length};
 ghost use Rattle.screen.specs.Sizes.{line_room};
 ghost use Rattle.report.specs.Sizes.{side_room, name_room, parts_room};
 
 use model::{Answer, Line, Parts, Said, Side};
 use screen::kept::{address, room, text, word};
 use screen::lines::answer;
+use std::io;
 
 // Which of the two.
 fn side(output: &mut [u8], kept: usize, given: Side) -> usize
@@ -32,14 +33,20 @@ fn word_line(output: &mut [u8], kept: usize, at: u16, first: u8, second: u8) -> 
 }
 
 // The refusal of one of the two, as that of a call.
-fn refusal(output: &mut [u8], kept: usize, of: Side, given: Answer) -> usize
+fn refusal<P: Print>(
+    rt: &P,
+    output: &mut [u8],
+    kept: usize,
+    of: Side,
+    given: Answer,
+) -> io::Result<usize>
     requires { kept + line_room ≤ length output.old }
-    ensures { result ≤ length output.old }
+    ensures { IfOk result (λ r. r ≤ length output.old) }
 {
     let named = side(output, kept, of);
     let parted = text(output, named, b": ");
-    let there = room(output, parted);
-    answer(output, there, given)
+    let there = room(rt, output, parted)?;
+    Ok(answer(output, there, given))
 }
 
 // The beginning of a processor's line.
@@ -106,15 +113,15 @@ fn processor_line(output: &mut [u8], kept: usize, name: u8, said: Said) -> usize
     }
 }
 
-pub fn tell_line(output: &mut [u8], kept: usize, line: Line) -> usize
+pub fn tell_line<P: Print>(rt: &P, output: &mut [u8], kept: usize, line: Line) -> io::Result<usize>
     requires { kept + line_room ≤ length output.old }
-    ensures { result ≤ length output.old }
+    ensures { IfOk result (λ r. r ≤ length output.old) }
 {
     match line {
-        Line::Word(at, first, second) => word_line(output, kept, at, first, second),
-        Line::Refused(of, n) => refusal(output, kept, of, Answer::Refused(n)),
-        Line::RefusedAt(of, n, place) => refusal(output, kept, of, Answer::RefusedAt(n, place)),
-        Line::Processor(name, said) => processor_line(output, kept, name, said),
-        Line::Same => text(output, kept, b"same\n"),
+        Line::Word(at, first, second) => Ok(word_line(output, kept, at, first, second)),
+        Line::Refused(of, n) => refusal(rt, output, kept, of, Answer::Refused(n)),
+        Line::RefusedAt(of, n, place) => refusal(rt, output, kept, of, Answer::RefusedAt(n, place)),
+        Line::Processor(name, said) => Ok(processor_line(output, kept, name, said)),
+        Line::Same => Ok(text(output, kept, b"same\n")),
     }
 }

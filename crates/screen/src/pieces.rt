@@ -1,40 +1,40 @@
 // Pieces of what is printed: a text, numbers as they are, and numbers at the right of some places.
-use libc::STDOUT_FILENO;
+use std::io;
 
-pub fn text(characters: &[u8]) {
-    io::write_all(STDOUT_FILENO, characters);
+pub fn text<P: Print>(rt: &P, characters: &[u8]) -> io::Result<()> {
+    rt.write_all(characters)
 }
 
-pub fn number(value: u64) {
-    io::print_decimal(STDOUT_FILENO, value);
+pub fn number<P: Print>(rt: &P, value: u64) -> io::Result<()> {
+    rt.print(value)
 }
 
-pub fn word(value: u8) {
-    number(value as u64);
+pub fn word<P: Print>(rt: &P, value: u8) -> io::Result<()> {
+    number(rt, value as u64)
 }
 
-pub fn address(value: u16) {
-    number(value as u64);
+pub fn address<P: Print>(rt: &P, value: u16) -> io::Result<()> {
+    number(rt, value as u64)
 }
 
 // A number at the right of two, three, four places.
-pub fn two(value: u16) {
+pub fn two<P: Print>(rt: &P, value: u16) -> io::Result<()> {
     if value < 10 {
-        text(b" ");
+        text(rt, b" ")?;
     }
-    address(value);
+    address(rt, value)
 }
 
-pub fn three(value: u16) {
+pub fn three<P: Print>(rt: &P, value: u16) -> io::Result<()> {
     if value < 100 {
-        text(b" ");
+        text(rt, b" ")?;
     }
-    two(value);
+    two(rt, value)
 }
 
-pub fn four(value: u16) {
+pub fn four<P: Print>(rt: &P, value: u16) -> io::Result<()> {
     if value < 1000 {
-        text(b" ");
+        text(rt, b" ")?;
     }
-    three(value);
+    three(rt, value)
 }

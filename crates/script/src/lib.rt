@@ -156,6 +156,7 @@ fn save(line: &[u8], end: usize) -> Order
 }
 
 // The orders by their words; the line has one between two places, `given` has the numbers behind it, so many.
+#[tactic(auto, unfolding(crate::specs::Script::host_order))]
 fn host_order(line: &[u8], at: usize, end: usize, given: &[u16], count: usize) -> Order
     requires { (at ≤ end) × (end ≤ length line.now) × (length given.now ≡ most_numbers) }
     ensures { result ≡ Script.host_order line.now at end given.now count }
@@ -172,6 +173,7 @@ fn host_order(line: &[u8], at: usize, end: usize, given: &[u16], count: usize) -
     Order::NotUnderstood
 }
 
+#[tactic(auto, unfolding(crate::specs::Script::save_order))]
 fn save_order(line: &[u8], at: usize, end: usize, given: &[u16], count: usize) -> Order
     requires { (at ≤ end) × (end ≤ length line.now) × (length given.now ≡ most_numbers) }
     ensures { result ≡ Script.save_order line.now at end given.now count }
@@ -182,6 +184,7 @@ fn save_order(line: &[u8], at: usize, end: usize, given: &[u16], count: usize) -
     host_order(line, at, end, given, count)
 }
 
+#[tactic(auto, unfolding(crate::specs::Script::file_order))]
 fn file_order(line: &[u8], at: usize, end: usize, given: &[u16], count: usize) -> Order
     requires { (at ≤ end) × (end ≤ length line.now) × (length given.now ≡ most_numbers) }
     ensures { result ≡ Script.file_order line.now at end given.now count }
@@ -199,6 +202,7 @@ fn file_order(line: &[u8], at: usize, end: usize, given: &[u16], count: usize) -
     save_order(line, at, end, given, count)
 }
 
+#[tactic(auto, unfolding(crate::specs::Script::store_order))]
 fn store_order(line: &[u8], at: usize, end: usize, given: &[u16], count: usize) -> Order
     requires { (at ≤ end) × (end ≤ length line.now) × (length given.now ≡ most_numbers) }
     ensures { result ≡ Script.store_order line.now at end given.now count }
@@ -216,6 +220,7 @@ fn store_order(line: &[u8], at: usize, end: usize, given: &[u16], count: usize) 
     file_order(line, at, end, given, count)
 }
 
+#[tactic(auto, unfolding(crate::specs::Script::look_order))]
 fn look_order(line: &[u8], at: usize, end: usize, given: &[u16], count: usize) -> Order
     requires { (at ≤ end) × (end ≤ length line.now) × (length given.now ≡ most_numbers) }
     ensures { result ≡ Script.look_order line.now at end given.now count }
@@ -235,6 +240,7 @@ fn look_order(line: &[u8], at: usize, end: usize, given: &[u16], count: usize) -
     store_order(line, at, end, given, count)
 }
 
+#[tactic(auto, unfolding(crate::specs::Script::call_order))]
 fn call_order(line: &[u8], at: usize, end: usize, given: &[u16], count: usize) -> Order
     requires { (at ≤ end) × (end ≤ length line.now) × (length given.now ≡ most_numbers) }
     ensures { result ≡ Script.call_order line.now at end given.now count }

@@ -168,6 +168,10 @@ module _ (l l₁ w : List ℕ) (n : ℕ) where
       length-append (take n l) p ∙ ap (λ (k : ℕ). k + length p) (length-take-le n l (omega arith)) ∙ ap (λ (k : ℕ). n + k) t in
       rw (le-ltb label_bytes (length w) h, stands_in l₁ (n + label_bytes) o, e, take_at (take n l ++ p) (drop (n + length p) l) (n + label_bytes) a, ep)
 
+pub label_laid : (w p : List ℕ) (k : ℕ) → k ≡ letters w → p ≡ take k w → p ++ drop k (replicate label_bytes 0) ≡ labelled w
+unfolding Words.labelled
+label_laid w p k ek ep = rw (ep, ek, drop_zeros (letters w) label_bytes) refl
+
 pub ruleset laying = (label_is, label_wrong, label_more)
 
 -- ---- what was written stands in the buffer

@@ -6,7 +6,6 @@ ghost use Rattle.model.specs.Layout.{label_bytes};
 ghost use Rattle.sheet.specs.Words as Words;
 
 use crate::sizes;
-use bytes::copy;
 use files::laying::lay;
 use model::layout;
 use script::reading::digits;
@@ -145,7 +144,7 @@ fn label_of(word: &[u8]) -> [u8; layout::LABEL_BYTES]
 {
     let end = letters(word);
     let mut label = [0u8; layout::LABEL_BYTES];
-    copy(&word[0..end], &mut label);
+    label[..end].copy_from_slice(&word[..end]);
     label
 }
 

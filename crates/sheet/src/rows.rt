@@ -3,12 +3,12 @@ ghost use Rattle.std.specs.Prelude.{◌≡◌, true, ◌<◌, ◌≤◌, length}
 ghost use Rattle.model.specs.Layout as Layout;
 ghost use Rattle.sheet.specs.Rows as Rows;
 
-use bytes::scan::find;
 use model::{Entry, layout};
 use screen::pieces::{address, text, word};
 use settings::block::head_bytes;
 use settings::entries::{Cursor, Read, entry_at};
 use settings::file::newest;
+use std::io;
 
 // A row, or that there is none.
 #[derive(Clone, Copy)]
@@ -91,76 +91,78 @@ fn row_of(file: &[u8], number: u8) -> Row
     row_at(newest(file), number)
 }
 
-fn tell(name: &[u8], value: u8) {
-    text(name);
-    word(value);
-    text(b"\n");
+fn tell<P: Print>(rt: &P, name: &[u8], value: u8) -> io::Result<()> {
+    text(rt, name)?;
+    word(rt, value)?;
+    text(rt, b"\n")
 }
 
-fn tell_processor(e: Entry) {
-    text(b"processor ");
-    word(e.name);
-    text(b" priority ");
-    word(e.priority);
-    tell_start(e.w, e.address);
+fn tell_processor<P: Print>(rt: &P, e: Entry) -> io::Result<()> {
+    text(rt, b"processor ")?;
+    word(rt, e.name)?;
+    text(rt, b" priority ")?;
+    word(rt, e.priority)?;
+    tell_start(rt, e.w, e.address)
 }
 
-fn tell_start(w: u8, at: u16) {
-    text(b" W ");
-    word(w);
-    text(b" at ");
-    address(at);
-    text(b"\n");
+fn tell_start<P: Print>(rt: &P, w: u8, at: u16) -> io::Result<()> {
+    text(rt, b" W ")?;
+    word(rt, w)?;
+    text(rt, b" at ")?;
+    address(rt, at)?;
+    text(rt, b"\n")
 }
 
 // The letters of a label, up to the first zero; `-` where it has none.
-fn tell_letters(block: &[u8])
+fn tell_letters<P: Print>(rt: &P, block: &[u8]) -> io::Result<()>
     requires { 17 ≤ length block.now }
 {
-    let end = find(block, layout::LABEL, layout::LABELLED_HEAD, 0);
-    if end == layout::LABEL {
-        return text(b"-");
+    let label = &block[layout::LABEL..layout::LABELLED_HEAD];
+    let end = label.iter().take_while(|b| **b != 0).count();
+    if end == 0 {
+        return text(rt, b"-");
     }
-    text(&block[layout::LABEL..end]);
+    text(rt, &label[..end])
 }
 
-fn tell_label(file: &[u8])
+fn tell_label<P: Print>(rt: &P, file: &[u8]) -> io::Result<()>
     requires { Layout.is_good (Layout.of_file file.now) ≡ true }
 {
     let block = newest(file);
-    text(b"label ");
+    text(rt, b"label ")?;
     if layout::LABELLED_HEAD <= block.len() {
-        tell_letters(block);
+        tell_letters(rt, block)?;
     }
-    text(b"\n");
+    text(rt, b"\n")
 }
 
 // The line of a row. Answers whether there was one.
-fn tell_row(file: &[u8], row: Row) -> bool
+fn tell_row<P: Print>(rt: &P, file: &[u8], row: Row) -> io::Result<bool>
     requires { Layout.is_good (Layout.of_file file.now) ≡ true }
 {
     match row {
-        Row::Version(value) => tell(b"version ", value),
-        Row::Line(value) => tell(b"line ", value),
-        Row::Divider(value) => tell(b"divider ", value),
-        Row::Site(value) => tell(b"site ", value),
-        Row::Label => tell_label(file),
-        Row::Processor(e) => tell_processor(e),
-        Row::Nothing => return false,
+        Row::Version(value) => tell(rt, b"version ", value)?,
+        Row::Line(value) => tell(rt, b"line ", value)?,
+        Row::Divider(value) => tell(rt, b"divider ", value)?,
+        Row::Site(value) => tell(rt, b"site ", value)?,
+        Row::Label => tell_label(rt, file)?,
+        Row::Processor(e) => tell_processor(rt, e)?,
+        Row::Nothing => return Ok(false),
     }
-    true
+    Ok(true)
 }
 
 // The rows of a good file, from the first on.
-pub fn tell_rows(file: &[u8])
+pub fn tell_rows<P: Print>(rt: &P, file: &[u8]) -> io::Result<()>
     requires { Layout.is_good (Layout.of_file file.now) ≡ true }
 {
     let mut number = 0;
     while number < MOST_ROWS {
-        if tell_row(file, row_of(file, number)) {
+        if tell_row(rt, file, row_of(file, number))? {
             number += 1;
             continue;
         }
-        return;
+        return Ok(());
     }
+    Ok(())
 }

@@ -22,3 +22,12 @@ pub const FILE_ROOM: usize = 8192;
 
 // The first word of a block, behind the program's own name and the file's.
 pub const FIRST_WORD: usize = 2;
+
+// A file's name has at most so many bytes.
+pub const NAME_ROOM: usize = 4096;
+
+// A word of the command line that has more is no word of a block.
+pub const WORD_ROOM: usize = 65536;
+
+// Room for the line of an answer.
+pub const OUTPUT_ROOM: usize = 4096;

@@ -1,6 +1,8 @@
 // The technician's program.
 #![tactic(auto)]
 
-fn main() {
-    sheet::start();
+use std::io;
+
+fn main(rt: HostRuntime) -> io::Result<()> {
+    sheet::start(&rt, &rt.stderr())
 }

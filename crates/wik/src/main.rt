@@ -1,6 +1,8 @@
 // The script program.
 #![tactic(auto)]
 
-fn main() {
-    console::start();
+use std::io;
+
+fn main(rt: HostRuntime) -> io::Result<()> {
+    console::start(&rt, &rt.stderr())
 }
