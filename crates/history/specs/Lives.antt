@@ -16,7 +16,7 @@ use Rattle.laws.specs.Words.{Small}
 use Rattle.laws.specs.Fits.{good_is}
 use Rattle.laws.specs.Calls as Calls
 use Rattle.laws.specs.Calls.{Sound, Host, Act, after, Reached, reached_sound}
-use Rattle.laws.specs.Calls.Act.{fresh_start, fresh_from_lem, instruct, signal, signals, set, read, judge_it}
+use Rattle.laws.specs.Calls.Act.{fresh_start, fresh_from, instruct, signal, signals, set, read, judge_it}
 use Rattle.history.specs.Order.{only, only_append}
 use Rattle.history.specs.Letter.{Letter, key, waiting_for}
 use Rattle.history.specs.Put.{Mailed, nothing, of, mailed}
@@ -75,7 +75,7 @@ grown m m' e h = record {
 -- a call puts and reads nothing unless it is an instruction
 unfoldable pub mail_by : Act → List ℕ → Mailed
 mail_by (fresh_start line d) m = nothing
-mail_by (fresh_from_lem f) m = nothing
+mail_by (fresh_from f) m = nothing
 mail_by instruct m = mailed m
 mail_by (signal k c) m = nothing
 mail_by (signals l) m = nothing
@@ -86,7 +86,7 @@ mail_by judge_it m = nothing
 -- a fresh start that is not refused ends all lives
 unfoldable pub restarts : Act → Bool
 restarts (fresh_start line d) = startable line d
-restarts (fresh_from_lem f) = is_good (of_file f)
+restarts (fresh_from f) = is_good (of_file f)
 restarts instruct = false
 restarts (signal k c) = false
 restarts (signals l) = false
@@ -152,7 +152,7 @@ passing_lawful {m' = m'} t = record { told = t.told; stands = stands_none m'; tr
 pub call_lawful : {m : List ℕ} → Sound m → (a : Act) → restarts a ≡ false → Lawful m (after a m) (mail_by a m)
 unfolding Calls.after mail_by restarts
 call_lawful k (fresh_start line d) e = passing_lawful (refused_passes k line d e)
-call_lawful k (fresh_from_lem f) e = passing_lawful (unsettled_passes k f e)
+call_lawful k (fresh_from f) e = passing_lawful (unsettled_passes k f e)
 call_lawful k instruct e = instruction_lawful k
 call_lawful k (signal n c) e = passing_lawful (interrupt_passes k n c)
 call_lawful k (signals l) e = passing_lawful (burst_passes k l)
@@ -166,7 +166,7 @@ module _ (P : List ℕ → Past → Type 0) (begins : (m : List ℕ) → ((p : �
   restart_has : {m : List ℕ} → Sound m → (a : Act) → restarts a ≡ true → P (after a m) none_yet
   unfolding Calls.after restarts
   restart_has {m} k (fresh_start line d) e = begins (memory_of (fresh m line d)) (fresh_empty m line d k.size e)
-  restart_has {m} k (fresh_from_lem f) e = begins (memory_of (from_settings m f)) (settings_empty m f k.size k.small (good_is (of_file f) e))
+  restart_has {m} k (fresh_from f) e = begins (memory_of (from_settings m f)) (settings_empty m f k.size k.small (good_is (of_file f) e))
   restart_has k instruct e = let z : ◌≡◌ {A = ℕ} 0 1 = cc in absurd (omega arith)
   restart_has k (signal n c) e = let z : ◌≡◌ {A = ℕ} 0 1 = cc in absurd (omega arith)
   restart_has k (signals l) e = let z : ◌≡◌ {A = ℕ} 0 1 = cc in absurd (omega arith)

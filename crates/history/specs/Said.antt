@@ -22,7 +22,7 @@ use Rattle.laws.specs.Words.{either}
 use Rattle.laws.specs.Sentences.{◌and◌}
 use Rattle.laws.specs.Calls as Calls
 use Rattle.laws.specs.Calls.{Sound, Host, Act, after, unsettled_same}
-use Rattle.laws.specs.Calls.Act.{fresh_start, fresh_from_lem}
+use Rattle.laws.specs.Calls.Act.{fresh_start, fresh_from}
 use Rattle.history.specs.Order.{only, only_nil, only_yes, only_no, only_append}
 use Rattle.history.specs.Letter.{Letter, key, waiting_for, and_true}
 use Rattle.history.specs.Put.{Mailed, nothing, found, of, sme_mail, rme_mail, dep_mail, run_mail, argued_mail, exi_mail, fetched_mail, mailed, code_run}
@@ -246,7 +246,7 @@ pub fresh_begins : (m : List ℕ) (h : Past) (line d : ℕ) → startable line d
 unfolding later restarts
 fresh_begins m h line d e = rw e
 
-pub settings_begin : (m : List ℕ) (h : Past) (f : List ℕ) → of_file f ≡ Good → later (fresh_from_lem f) m h ≡ none_yet
+pub settings_begin : (m : List ℕ) (h : Past) (f : List ℕ) → of_file f ≡ Good → later (fresh_from f) m h ≡ none_yet
 unfolding later restarts Layout.is_good
 settings_begin m h f e = rw e
 
@@ -263,9 +263,9 @@ unfolding mail_by restarts Calls.after Call.fresh Answer.memory_of
 refused_keeps {m} k h line d e = idle_keeps (fresh_start line d) m e (rw (eq-eqb (length m) memory_size k.size, e)) refl h
 
 pub unsettled_keeps : {m : List ℕ} → Sound m → (h : Past) (f : List ℕ) → is_good (of_file f) ≡ false → (p : ℕ) → 1 ≤ count p (processors m)
-    → ((later (fresh_from_lem f) m h).put p ≡ h.put p) × ((later (fresh_from_lem f) m h).read p ≡ h.read p)
+    → ((later (fresh_from f) m h).put p ≡ h.put p) × ((later (fresh_from f) m h).read p ≡ h.read p)
 unfolding mail_by restarts Calls.after
-unsettled_keeps {m} k h f e = idle_keeps (fresh_from_lem f) m e (unsettled_same k.size f e) refl h
+unsettled_keeps {m} k h f e = idle_keeps (fresh_from f) m e (unsettled_same k.size f e) refl h
 
 -- a life keeps its name
 pub name_stays : {m : List ℕ} → Sound m → (a : Act) → restarts a ≡ false → (p : ℕ) → 1 ≤ count p (processors m) → 1 ≤ count p (processors (after a m))

@@ -194,7 +194,7 @@ host_sound k h = sound (kept_keeps (host_kept k) (well h)) k.small
 -- ---- any calls, and changes by the host between them, from a fresh start on, be it from settings or not
 pub data Act : Type 0 where
   fresh_start : ℕ → ℕ → Act
-  fresh_from_lem : List ℕ → Act
+  fresh_from : List ℕ → Act
   instruct : Act
   signal : ℕ → ℕ → Act
   signals : List ℕ → Act
@@ -204,7 +204,7 @@ pub data Act : Type 0 where
 
 unfoldable pub after : Act → List ℕ → List ℕ
 after (fresh_start line d) m = memory_of (fresh m line d)
-after (fresh_from_lem f) m = memory_of (from_settings m f)
+after (fresh_from f) m = memory_of (from_settings m f)
 after instruct m = memory_of (instruction m)
 after (signal k c) m = memory_of (interrupt m k c)
 after (signals l) m = memory_of (burst m l)
@@ -221,7 +221,7 @@ pub data Reached : List ℕ → Type 0 where
 after_sound : {m : List ℕ} → Sound m → (a : Act) → Sound (after a m)
 unfolding after
 after_sound h (fresh_start line d) = fresh_sound h line d
-after_sound h (fresh_from_lem f) = settings_sound h f
+after_sound h (fresh_from f) = settings_sound h f
 after_sound h instruct = instruction_sound h
 after_sound h (signal k c) = interrupt_sound h k c
 after_sound h (signals l) = burst_sound h l

@@ -20,7 +20,7 @@ use Rattle.model.specs.Bytes as Model
 use Rattle.laws.specs.Words.{Small}
 use Rattle.laws.specs.Calls as Calls
 use Rattle.laws.specs.Calls.{Act, after}
-use Rattle.laws.specs.Calls.Act.{fresh_start, fresh_from_lem, instruct, signal, signals, set, read, judge_it}
+use Rattle.laws.specs.Calls.Act.{fresh_start, fresh_from, instruct, signal, signals, set, read, judge_it}
 use Rattle.history.specs.Lives.{Past, Run, none_yet, later}
 use Rattle.history.specs.Lives.Run.{start, settle, call}
 
@@ -39,9 +39,9 @@ pub fresh_begins : (m n : List ℕ) (r : Answer) (line d : ℕ) → gives r n �
     → startable line d ≡ true → Run n none_yet
 fresh_begins m n r line d e s l t = subst (λ (x : List ℕ). Run x none_yet) (leaves e) (start m line d l s t)
 
-pub settings_go : (m n : List ℕ) (r : Answer) (f : List ℕ) → gives r n ≡ Model.from_settings m f → (h : Past) → Run m h → Run n (later (fresh_from_lem f) m h)
+pub settings_go : (m n : List ℕ) (r : Answer) (f : List ℕ) → gives r n ≡ Model.from_settings m f → (h : Past) → Run m h → Run n (later (fresh_from f) m h)
 unfolding Calls.after
-settings_go m n r f e = goes (fresh_from_lem f) m n (leaves e)
+settings_go m n r f e = goes (fresh_from f) m n (leaves e)
 
 pub settings_begin : (m n : List ℕ) (r : Answer) (f : List ℕ) → gives r n ≡ Model.from_settings m f → Small m → length m ≡ memory_size → of_file f ≡ Good
     → Run n none_yet

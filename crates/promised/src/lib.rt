@@ -8,7 +8,7 @@ ghost use Rattle.model.specs.declared.Fit.TheVariants.{Good};
 ghost use Rattle.model.specs.Fresh.{startable};
 ghost use Rattle.model.specs.Layout.{of_file};
 ghost use Rattle.laws.specs.Words.{Small};
-ghost use Rattle.laws.specs.Calls.Act.{fresh_start, fresh_from_lem, instruct, signal, signals, set, read, judge_it};
+ghost use Rattle.laws.specs.Calls.Act.{fresh_start, fresh_from, instruct, signal, signals, set, read, judge_it};
 ghost use Rattle.history.specs.Lives.{Past, Run, none_yet, later};
 
 use model::{Answer, Held, Registers, Verdict};
@@ -34,7 +34,7 @@ pub fn fresh(m: &mut [u8], line: u16, divider: u16) -> Answer
 
 // So does the fresh start from settings, where the file is good.
 pub fn fresh_from_settings(m: &mut [u8], file: &[u8]) -> Answer
-    ensures run { (h : Past) → Run m.old h → Run m.new (later (fresh-from file.now) m.old h) }
+    ensures run { (h : Past) → Run m.old h → Run m.new (later (fresh_from file.now) m.old h) }
     ensures run_2 { length m.old ≡ memory_size → of_file file.now ≡ Good → Run m.new none_yet }
 {
     lent(m);
@@ -72,7 +72,7 @@ pub fn set_registers(m: &mut [u8], r: Registers) -> Answer
 }
 
 pub fn judge(m: &[u8]) -> Verdict
-    ensures { (h : Past) → Run m.now h → Run m.now (later judge-it m.now h) }
+    ensures { (h : Past) → Run m.now h → Run m.now (later judge_it m.now h) }
 {
     kernel::judge(m)
 }

@@ -16,7 +16,7 @@ use Rattle.model.specs.Lists.{count}
 use Rattle.model.specs.Bytes.{fresh, from_settings, instruction, priority, processors, queue, running, name, at, unmarked, is_notice}
 use Rattle.laws.specs.Words.{Small}
 use Rattle.laws.specs.Calls.{Act, Host, Reached, after, reached_sound}
-use Rattle.laws.specs.Calls.Act.{fresh_start, fresh_from_lem}
+use Rattle.laws.specs.Calls.Act.{fresh_start, fresh_from}
 use Rattle.history.specs.Letter.{Letter, mail_of, of_sender_and_flag, waiting_for}
 use Rattle.history.specs.Put.{nothing, of, mailed, puts, reads, code_run, only_notices}
 use Rattle.history.specs.Went.{went_to}
@@ -82,11 +82,11 @@ pub nothing_waits_then : (m f : List ℕ) → length m ≡ memory_size → Small
     → waiting_for (memory_of (from_settings m f)) p ≡ []
 nothing_waits_then = settings_empty
 
-pub settings_begin_anew : (m : List ℕ) (h : Past) (f : List ℕ) → of_file f ≡ Good → later (fresh_from_lem f) m h ≡ none_yet
+pub settings_begin_anew : (m : List ℕ) (h : Past) (f : List ℕ) → of_file f ≡ Good → later (fresh_from f) m h ≡ none_yet
 settings_begin_anew = Said.settings_begin
 
 pub refused_settings_keep_the_past : {m : List ℕ} → Reached m → (h : Past) (f : List ℕ) → is_good (of_file f) ≡ false → (p : ℕ) → Living m p
-    → ((later (fresh_from_lem f) m h).put p ≡ h.put p) × ((later (fresh_from_lem f) m h).read p ≡ h.read p)
+    → ((later (fresh_from f) m h).put p ≡ h.put p) × ((later (fresh_from f) m h).read p ≡ h.read p)
 refused_settings_keep_the_past {m} r = Said.unsettled_keeps (reached_sound m r)
 
 -- ---- NOTICES TO A NAMESAKE (document 02, 3/13). A life is a page and the call in which it began: who is deleted and made again under its name is another

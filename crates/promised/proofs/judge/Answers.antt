@@ -1,0 +1,6 @@
+use Rattle.std.proofs.Common.{rules}
+use Rattle.promised.proofs.Laws.{goings}
+use Rattle.promised.proofs.judge.Goals as goal
+
+pub returns : goal.returns
+returns c = search (rules, goings)
