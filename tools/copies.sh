@@ -90,7 +90,9 @@ unread() {
     { sed -nE 's/^(\.\/)?((src|specs)\/[^ :]+:[0-9]+:[0-9]+: error: )/\2/p' "$unread_log"
     for unread_file; do grep -F "$unread_file:" "$unread_log" | grep -E '^[^ ]+:[0-9]+:[0-9]+: error: '; done; } |
         awk '{
-            said = $0; sub(/^[^ ]+: error: /, "", said); named = said ~ /^`[^`]*`: /; gsub(/`[^`]*`/, "", said)
+            said = $0; sub(/^[^ ]+: error: /, "", said)
+            if (said ~ /^[0-9]+ declarations? that depends? on /) next
+            named = said ~ /^`[^`]*`: /; gsub(/`[^`]*`/, "", said)
             if (!named || said ~ /is not in scope|has no field|is no name|operand is missing|expected the end|cannot continue/) { print; exit }
         }'
 }
