@@ -30,16 +30,6 @@ parts() {
     for checked_part in src specs proofs; do [ ! -d "$here/crates/$1/$checked_part" ] || linked "$here/crates/$1/$checked_part" "$2/$checked_part"; done
 }
 
-# list ROOM: the room is a repository of the crates that stand in it.
-list() {
-    mkdir -p "$1/.git"
-    while IFS= read -r listed; do
-        listed_name=${listed%%:*} && listed_name=${listed_name%% *}
-        case $listed in [a-z]*:*) [ ! -d "$1/crates/$listed_name" ] || printf '%s\n' "$listed" ;; esac
-    done <"$here/crates.txt" >"$1/crates.txt"
-    [ ! -f "$here/HANDLES" ] || cp "$here/HANDLES" "$1"
-}
-
 # bring CRATE ROOM: the crate stands there, as it is, over what its proof left; and what it stands on, built. What stood there of it is gone.
 bring() {
     rm -rf "$2/crates/$1"
