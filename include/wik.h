@@ -1,4 +1,4 @@
-/* The kernel for hosts in C: eight calls on one memory of 8,192 words and one on a file of settings, proved in crates/kernel and exported by crates/host.
+/* The kernel for hosts in C: eight calls on one memory of 8,192 words and one on a file of settings, proved in crates/kernel and exported by crates/host_c.
  *
  * `./host --library` builds the library for x86-64 Linux and leaves it, with this header, in build/:
  *     gcc -std=c11 -I build -o HOST HOST.c build/libhost.a

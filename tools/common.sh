@@ -4,7 +4,7 @@ me=${0##*/}
 say() { printf '%s: %s\n' "$me" "$*" >&2; }
 
 # ---- what is made on the way
-# One folder for it all, also for what rt and rattle make. rt runs programs as nobody, who must be able to pass through.
+# One folder for it all, also for what rt makes on the way. rt runs programs as nobody, who must be able to pass through.
 work=$(mktemp -d) || exit 1
 chmod 711 "$work"
 TMPDIR=$work
@@ -59,12 +59,11 @@ end_all() {
 }
 
 # ---- many at a time
-# Two for each processor, since what is started together waits for its last, and as far as memory goes: a proof takes up to 1 GB, and ./test has half as
-# many beside. RT_JOBS, which rt knows too, says another number.
-lanes=${RT_JOBS:-$(awk -v n=$(($(nproc) * 2)) '/^MemAvailable:/ { m = int($2 / 1572864) } END { n = m < n ? m : n; print n < 1 ? 1 : n }' /proc/meminfo)}
+# One for each processor, as far as memory goes: a proof takes up to 2 GB. RT_JOBS, which rt knows too, says another number.
+lanes=${RT_JOBS:-$(awk -v n="$(nproc)" '/^MemAvailable:/ { m = int($2 / 2097152) } END { n = m < n ? m : n; print n < 1 ? 1 : n }' /proc/meminfo)}
 case $lanes in '' | *[!0-9]* | 0) say "RT_JOBS is a number, 1 or more"; exit 2 ;; esac
 
-# each COMMAND ITEM..: runs the command on every item, in lanes; a lane that is free takes the next item.
+# each COMMAND ITEM..: runs the command on every item, in lanes; a lane that is free takes the next item. In it, `lane` is the number of its lane.
 each() {
     each_command=$1
     shift
@@ -88,12 +87,12 @@ each() {
 since() { printf '%d:%02d min' $((($(date +%s) - $1) / 60)) $((($(date +%s) - $1) % 60)); }
 
 # ---- one checkout
-# lock -x: target/ is this command's alone from here on, to build in; lock -s: it is shared with those that run what is built. Who comes later waits, and
-# is told for whom. The system gives the lock up with the last process that has it; a command that another one runs has the other one's.
+# lock -x: what is built is this command's alone from here on, to build it anew; lock -s: it is shared with those that run it. Who comes later waits, and is
+# told for whom. The system gives the lock up with the last process that has it; a command that another one runs has the other one's.
 lock() {
     lock_now "$1" && return
     holder=$(cat "$here/build/lock")
-    say "waits for ${holder:-a program that runs from target/}"
+    say "waits for ${holder:-a program that still runs}"
     run flock "$1" 9 || exit 1
     sign "$1"
 }
@@ -179,3 +178,6 @@ need() {
     say "there is no $needed here, and it could not be installed"
     return 1
 }
+
+# compile ARGUMENT..: C to a program.
+compile() { need gcc gcc libc6-dev && run gcc -std=c11 -O2 "$@"; }

@@ -7,7 +7,7 @@ import sys
 
 SPECS = 'crates/model/specs/'
 # the files that compute cases, and what they open beside the model
-CASES = {'crates/table/specs/Script.antt': 'sameWords writes looks', 'crates/history/specs/Example.antt': 'writes'}
+CASES = {'crates/table/specs/Script.antt': 'same_words writes looks', 'crates/history/specs/Example.antt': 'writes'}
 FILES = [line.split()[-1] for line in open(SPECS + 'Lib.antt') if line.startswith('pub mod')]
 TYPES = {
     'Registers': 'declared.Registers', 'Arguments': 'declared.Arguments', 'Held': 'declared.Held', 'Verdict': 'declared.Verdict', 'Finding': 'declared.Finding',
@@ -34,42 +34,44 @@ def short_names():
         parts = re.split(r'^module _ (.*) where$', open(SPECS + file + '.antt').read(), flags=re.M)
         found = []
         for params, text in zip(parts[1::2], parts[2::2]):
-            if '(m : S .M)' not in params:
+            if '(m : S.M)' not in params:
                 found += re.findall(r'^  (?:unfoldable|abbrev) pub (\S+) : (.*)$', text, re.M)
         if file == 'Judge':
-            found = [('wellFormed', 'S .M → List ℕ → Lists → Rule'), ('judged', 'S .M → Bool')]
+            found = [('well_formed', 'S.M → List ℕ → Lists → Rule'), ('judged', 'S.M → Bool')]
         if file == 'Classes':
-            found = [('toldOf', 'S .M → Finding')]
+            found = [('told_of', 'S.M → Finding')]
         for name, type_ in found:
             if name in seen:
                 sys.exit('%s stands in %s and in %s' % (name, seen[name], file))
             seen[name] = file
             if name == 'Step':
                 continue
-            type_ = type_.replace('S .M', 'Memory').replace('(Memory)', 'Memory')
+            type_ = type_.replace('S.M', 'Memory').replace('(Memory)', 'Memory')
             type_ = re.sub(r'\bStep S\b', 'Step', type_)
             body.append('abbrev pub %s : %s\n%s = %s.%s bytes\n' % (name, type_, name, file, name))
         if found:
-            uses.append('use Rattle·model·specs.specs.%s as %s' % (file, file))
+            uses.append('use Rattle.model.specs.%s as %s' % (file, file))
     text = '\n'.join(body)
-    types = ['use Rattle·model·specs.specs.%s.{%s}' % (TYPES[t], t) for t in TYPES if re.search(r'\b%s\b' % t, text)]
+    types = ['use Rattle.model.specs.%s.{%s}' % (TYPES[t], t) for t in TYPES if re.search(r'\b%s\b' % t, text)]
     head = [
         '-- The model at the memory that the code has, by short names: what contracts and laws cite. Written by tools/short_names.py.',
-        'use Prim.Native.Nat.{ℕ}', 'use mathlib.Core.Bool.{Bool}', 'use mathlib.Core.List.{List}',
-    ] + types + ['use Rattle·model·specs.specs.Store.{bytes}'] + uses
-    memory = ['', 'abbrev pub Memory : Type 0', 'Memory = bytes .M', '', 'abbrev pub Step : Type 0', 'Step = Answer.Step bytes', '']
+        'use Rattle.std.specs.Prelude.{ℕ, Bool, List}',
+    ] + types + ['use Rattle.model.specs.Store.{bytes}'] + uses
+    memory = ['', 'abbrev pub Memory : Type 0', 'Memory = bytes.M', '', 'abbrev pub Step : Type 0', 'Step = Answer.Step bytes', '']
     return '\n'.join(head + memory) + '\n' + text
 
 
 def opened(file):
-    """the file with its line of definitions to open written anew"""
+    """the file with its line of definitions to open written anew, if it names others than it must"""
     text = open(file).read()
     found = re.search(r'^( *)unfolding\n(?:\1    \S.*\n)+', text, re.M)
     if not found:
         sys.exit('%s has no line of definitions to open' % file)
-    indent = found.group(1)
+    indent, names = found.group(1), unfolding() + CASES[file].split()
+    if found.group().split()[1:] == names:
+        return text
     lines, line = [], indent + '    '
-    for name in unfolding() + CASES[file].split():
+    for name in names:
         if len(line) + len(name) > 148:
             lines.append(line.rstrip())
             line = indent + '    '
