@@ -20,7 +20,6 @@ use Rattle.laws.specs.Aside.{aside_hand, Aside}
 use Rattle.laws.specs.Who.{listed, busy}
 use Rattle.laws.specs.Create.{made, only, below, label_is, created_base, created_word, nobody}
 use Rattle.history.specs.Letter.{Same, Posts, posts, posts_on, posts_then, agrees, waiting_for, label_same, waits_same, procs_same}
-use Rattle.history.specs.Letter.Mine.{page}
 use Rattle.history.specs.Put.{nothing}
 use Rattle.history.specs.Calm.{calm_only, mine_high, mine_hand, mine_proc}
 use Rattle.history.specs.Told.{of_none, stands_none, calm_done, runs_in}

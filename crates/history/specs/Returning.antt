@@ -1,12 +1,12 @@
 -- What a deletion puts, as a list of notices. A page given back and a notice delivered: what waits for each processor grows at the end of its Q1 by the notices
 -- to it, and no processor's name changes. Assumes nothing.
-use Rattle.std.specs.Prelude.{◌≡◌, ◌≢◌, ◌⊎◌, Bool, cond, List, [], ◌∷◌, ◌++◌, ℕ, ◌%◌, ◌≤◌}
+use Rattle.std.specs.Prelude.{◌≡◌, ◌≢◌, ◌⊎◌, Bool, cond, List, [], ◌∷◌, ◌++◌, ℕ, ◌≤◌}
 use Rattle.std.proofs.Math.Path.{refl}
 use Rattle.std.proofs.Common.{sym, ap, ◌∙◌, inl, inr, append-nil, append_assoc, arith}
 use Rattle.std.proofs.Math.Bool.{true, false}
 use Rattle.std.proofs.Math.Dec.{eqb}
-use Rattle.model.specs.Map.{label, lower, note, notice, place, q1, q2, size}
-use Rattle.model.specs.Bytes.{name, word}
+use Rattle.model.specs.Map.{label, note, notice, place, q1, q2, size}
+use Rattle.model.specs.Bytes.{word}
 use Rattle.model.specs.Bytes.{give_back, deliver, make_notice, queue}
 use Rattle.model.specs.Lists.{count, Lists}
 use Rattle.laws.specs.Count.{hit_or}

@@ -41,7 +41,7 @@ use Rattle.history.specs.Order.{only, only_nil, only_yes, only_no}
 use Rattle.history.specs.Letter.{Letter, mail_of, words, key, waiting_for, Same, posts, posts_then, agrees, waits_same, procs_same, words_moved, held}
 use Rattle.history.specs.Letter.{held_same, label_same, Posts, texts_same, queue_same, mail_same}
 use Rattle.history.specs.Ways.{sme_both, sent_both}
-use Rattle.history.specs.Put.{Mailed, of, only_notices, nothing, sending, notice_from, posting, page_taken, sme_sends, sme_mail}
+use Rattle.history.specs.Put.{Mailed, of, only_notices, sending, notice_from, posting, page_taken, sme_sends, sme_mail}
 use Rattle.history.specs.Calm.{calm_only}
 use Rattle.history.specs.Told.{Told, Stands, told_as, of_none, of_here, of_other, calm_done, runs_in}
 use Rattle.history.specs.Traced.{Each, Waited, Origin, About, Stood, Turned, Lawful, posts_waited, turned_none, lawful_same}

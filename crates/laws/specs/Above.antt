@@ -10,7 +10,6 @@ use Rattle.model.specs.Answer as Answer
 use Rattle.model.specs.Answer.{answer_of, numbers, done_number, waits_number, bad_argument, above_itself, name_exists}
 use Rattle.model.specs.Fault as Faults
 use Rattle.model.specs.Call as Call
-use Rattle.model.specs.Bytes as Model
 use Rattle.model.specs.Bytes.{Step, at, code_at, kind, direct, pointed, indexed, is_foreign, argument_fault, crp, crp_page, fault, fetched, instruction}
 use Rattle.model.specs.Bytes.{lr, name, page_of, priority, running, take_page}
 use Rattle.laws.specs.Words.{either}

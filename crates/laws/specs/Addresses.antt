@@ -1,5 +1,5 @@
 -- Say what is broken: whatever the memory, an address told is one of its 8,192 words. Assumes nothing.
-use Rattle.std.specs.Prelude.{◌≡◌, ◌≢◌, ◌⊎◌, Bool, true, false, cond, List, [], ◌∷◌, ℕ, ◌-◌, ◌/◌, ◌≤◌, ◌<◌, leb}
+use Rattle.std.specs.Prelude.{◌≡◌, ◌≢◌, ◌⊎◌, Bool, true, false, cond, List, [], ◌∷◌, ℕ, ◌/◌, ◌≤◌, ◌<◌, leb}
 use Rattle.std.proofs.Common.{inl, inr}
 use native.Mathlib.Omega.{arith}
 use Rattle.model.specs.Map as Map

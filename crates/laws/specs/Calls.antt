@@ -16,7 +16,6 @@ use Rattle.model.specs.declared.Finding.TheVariants.{Nothing}
 use Rattle.model.specs.declared.Checked.{Checked}
 use Rattle.model.specs.declared.Checked.TheVariants.{Good, Bad}
 use Rattle.model.specs.declared.Fit.{Fit}
-use Rattle.model.specs.declared.Fit.TheVariants as Fit
 use Rattle.model.specs.Address as Address
 use Rattle.model.specs.Address.{guarded}
 use Rattle.model.specs.Answer as Answer

@@ -1,7 +1,7 @@
 -- Which sentences of the invariant stay when lists of uses change, when a page in hand changes, when a counter, a code or page 9 changes.
 -- Assumes nothing.
 use Rattle.std.specs.Prelude.{◌≡◌, ◌≢◌, ◌⊎◌, false, List, ℕ, ◌+◌, ◌≤◌, ◌<◌, length}
-use Rattle.std.proofs.Common.{sym, ap, ◌∙◌, inl, inr, arith, subst}
+use Rattle.std.proofs.Common.{sym, ap, ◌∙◌, inl, inr, arith}
 use Rattle.model.specs.Map.{free_list, free_semaphore, grant_for, header_after, interrupts, less, lower, own_queue, own_semaphore, page_queue, page_size}
 use Rattle.model.specs.Map.{place, processor_list, q1, q2, running_page, semaphore_after, upper, wait_in, zeros_in}
 use Rattle.model.specs.Mail.{fits}

@@ -1,7 +1,7 @@
 -- Say what is broken: where no class has an offending address, the invariant holds, of the lists that are met. Assumes nothing.
 use Rattle.std.proofs.Math.Path.{◌≡◌, refl, sym, ap}
 use Rattle.std.proofs.Common.{◌∙◌, inl, inr}
-use Rattle.std.specs.Prelude.{◌≢◌, ◌⊎◌, true, List, [], ◌∷◌, ℕ, suc, ◌-◌, ◌/◌, ◌≤◌, ◌<◌}
+use Rattle.std.specs.Prelude.{◌≢◌, ◌⊎◌, true, List, ℕ, suc, ◌-◌, ◌/◌, ◌≤◌, ◌<◌}
 use native.Mathlib.Omega.{arith}
 use Rattle.std.proofs.Math.ListN.{length, get_or}
 use Rattle.std.proofs.lemmas.Bool.{eqb-false}
@@ -11,7 +11,7 @@ use Rattle.model.specs.Map.{processor_list, running_page, running_label, zero_wo
 use Rattle.model.specs.Map.{grant_for, first_control, control_pages, last_name}
 use Rattle.model.specs.Store.{bytes}
 use Rattle.model.specs.Bytes.{word}
-use Rattle.model.specs.Lists.{count, sum, each_of, some, link_of, range, mails, uses, queues, is_grant}
+use Rattle.model.specs.Lists.{count, sum, some, link_of, range, mails, uses, queues, is_grant}
 use Rattle.model.specs.Judge as Judge
 use Rattle.model.specs.Classes as Classes
 use Rattle.model.specs.Walks.{last_cell}

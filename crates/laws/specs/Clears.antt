@@ -9,7 +9,6 @@ use Rattle.model.specs.Map.{last_flag, page_size, place, upper, lower, less, wai
 use Rattle.model.specs.Map.{free_list, free_semaphore, page_queue, processor_list, running_page, running_label, zero_word, code_word, all_codes}
 use Rattle.model.specs.Map.{built_in_codes, first_unused, entries, grants, grants_end, grant_for, first_control, last_control, control_pages}
 use Rattle.model.specs.Map.{own_semaphore, own_queue, q1, last_name}
-use Rattle.model.specs.Store.{bytes}
 use Rattle.model.specs.Mail.{fits}
 use Rattle.model.specs.Bytes.{word}
 use Rattle.model.specs.Lists.{count, Lists, sum, some, link_of, range, mails, owns, uses, queues, is_grant}
@@ -19,7 +18,7 @@ use Rattle.model.specs.Walks.{last_cell, gather}
 use Rattle.model.specs.Classes.{chains, holders, used, controls, lines}
 use Rattle.laws.specs.Count.{hit_self, hit_other, hit_or, count_append, zero_or, bearer_of}
 use Rattle.laws.specs.Sentences.{◌and◌}
-use Rattle.laws.specs.Heads.{one, page_one, sum_ext, range1_of, range2_of, mails_of, owns_of, Place, queues_place}
+use Rattle.laws.specs.Heads.{page_one, sum_ext, range1_of, range2_of, mails_of, owns_of, Place, queues_place}
 use Rattle.laws.specs.Heads.Place.{int, three, grant, slot}
 use Rattle.laws.specs.Uses.{Among, Sep, proc_page, list_short}
 use Rattle.laws.specs.Met.{met, Pointer, met_path, met_some, met_none, some_pos, path_chain, chain_last, gather_of, used_uses, spare}

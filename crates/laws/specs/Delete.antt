@@ -18,7 +18,7 @@ use Rattle.laws.specs.Chain.{Page, Chain, NoDup, chain_move, chain_leave, leave_
 use Rattle.laws.specs.Queues.{upd_same}
 use Rattle.laws.specs.Heads.{one_le}
 use Rattle.laws.specs.Uses.{proc_page}
-use Rattle.laws.specs.Inv.{Base, Facts, Message, View, no_one, view}
+use Rattle.laws.specs.Inv.{Base, Facts, Message, View, no_one}
 use Rattle.laws.specs.Judged.{WellFormed}
 use Rattle.laws.specs.Frames.{other, only_refl, only_set}
 use Rattle.laws.specs.Views.{retold}

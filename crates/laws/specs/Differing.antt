@@ -18,7 +18,6 @@ use Rattle.model.specs.Lists.{count}
 use Rattle.model.specs.Differ as Differ
 use Rattle.model.specs.Differ.{same_words, same_messages, same_state, differs_in}
 use Rattle.model.specs.Bytes.{at, page_of, priority, differing, word_lines, state_of, messages, same_mail, differences, said_of, said}
-use Rattle.model.specs.Bytes.{queue}
 use Rattle.laws.specs.Count.{hit_self, hit_other, hit_or}
 
 -- ---- "every differing address in rising order .., no more and no fewer"

@@ -15,7 +15,7 @@ use Rattle.model.specs.Page.{Taken}
 use Rattle.model.specs.Page.Taken.{took}
 use Rattle.model.specs.Lists.{hit, count, Lists, sum, each_of, some, uses, queues}
 use Rattle.laws.specs.Count.{hit_self, hit_other, hit_or, one_hit}
-use Rattle.laws.specs.Chain.{Page, Chain}
+use Rattle.laws.specs.Chain.{Chain}
 use Rattle.laws.specs.Queues.{upd, upd_same, upd_other, upd_swap}
 use Rattle.laws.specs.Heads.{sum_one, sum_skip}
 use Rattle.laws.specs.Uses.{Sep, proc_page, proc_once}

@@ -12,7 +12,6 @@ use Rattle.laws.specs.Count.{hit_self, hit_other, hit_or, one_hit, count_append}
 use Rattle.laws.specs.Chain.{Page, Chain, last, last_not, join_is, off_page}
 use Rattle.laws.specs.Queues.{upd, upd_same, upd_other, link_procs, rep_join}
 use Rattle.laws.specs.Heads.{sum_upd, sum_ext, sum_skip, sum_pos, seat_of}
-use Rattle.laws.specs.Heads.Seat.{page, own}
 use Rattle.laws.specs.Uses.{Among, Head, Sep, proc_page, list_short, good, apart, single}
 use Rattle.laws.specs.Places.{in_uses, in_queues, in_procs, in_free, in_asking, in_own, in_q, in_grant, int_queue, grant_low}
 use Rattle.laws.specs.Inv.{View, bearers, Label, Message, Waits, stock, stock_else, Facts, Mem, Base}

@@ -14,7 +14,6 @@ use Rattle.model.specs.Mail.{fits}
 use Rattle.model.specs.Page as Page
 use Rattle.model.specs.Lists.{hit, count, Lists, sum, uses, queues}
 use Rattle.laws.specs.Count.{hit_self, hit_other, hit_or, count_append}
-use Rattle.laws.specs.Chain.{Page}
 use Rattle.laws.specs.Queues.{upd, upd_same, upd_other}
 use Rattle.laws.specs.Heads.{one}
 use Rattle.laws.specs.Uses.{Head, Sep, proc_page, list_short}

@@ -25,7 +25,7 @@ use Rattle.laws.specs.Queues.{upd, upd_same}
 use Rattle.laws.specs.Heads.{sum_one, sum_two}
 use Rattle.laws.specs.Uses.{Sep, proc_page, proc_once, list_short}
 use Rattle.laws.specs.Places.{in_queues, int_queue, own_once, wait_page, queue_at}
-use Rattle.laws.specs.Inv.{View, view, Clock, Facts, Base}
+use Rattle.laws.specs.Inv.{View, Clock, Facts, Base}
 use Rattle.laws.specs.Judged.{WellFormed, well_formed_lem, invariant}
 use Rattle.laws.specs.Frames.{Kept, kept_refl, kept_set, quiet_word, base_kept}
 use Rattle.laws.specs.Views.{put1, put1_same, put1_other, with_reason, with_low}

@@ -1,7 +1,7 @@
 -- Settings that survive a box swap: "creation of the entries in order, processor 1's LR staying". What an entry makes is what CRP leaves behind its tests, when
 -- it is done, with the LR of the one that runs put back: so the memory is well-formed, and one processor more is on the list, stopped. Of CRP's tests it is
 -- only that of its own priority which an entry need not pass: "A fresh start from settings isn't bound by this rule." Assumes nothing.
-use Rattle.std.specs.Prelude.{◌≡◌, ◌≢◌, ◌⊎◌, List, [], ◌∷◌, ◌++◌, ℕ, suc, ◌+◌, ◌≤◌, ◌<◌, length, get_or, set}
+use Rattle.std.specs.Prelude.{◌≡◌, ◌≢◌, ◌⊎◌, List, [], ◌∷◌, ◌++◌, ℕ, suc, ◌≤◌, ◌<◌, length, get_or, set}
 use Rattle.std.proofs.Common.{sym, ap, ◌∙◌, inl, inr, arith, get_or-set_same, set-set}
 use Rattle.std.proofs.lemmas.List.{set-get_or, set_comm}
 use borrow.Author.Tests.{ne_eqb}

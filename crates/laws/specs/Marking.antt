@@ -1,6 +1,6 @@
 -- Deleting, 3/13: "marks every message it sent that is still unread, by 64 added in word 2". What a mark is to one word, that a walk marks the messages it
 -- meets and leaves every other word, and that lists, uses and sentences stay: a mark moves nothing. Assumes nothing.
-use Rattle.std.specs.Prelude.{◌≡◌, refl, ◌≢◌, ◌⊎◌, Bool, true, false, cond, List, [], ◌∷◌, ◌++◌, ℕ, zero, suc, ◌+◌, ◌≤◌, ◌<◌, get_or, eqb}
+use Rattle.std.specs.Prelude.{◌≡◌, refl, ◌≢◌, ◌⊎◌, Bool, true, false, cond, List, [], ◌∷◌, ◌++◌, ℕ, zero, suc, ◌≤◌, ◌<◌, get_or, eqb}
 use Rattle.std.proofs.Common.{ap, ◌∙◌, inl, inr, append_assoc, arith, length-set, get_or-set_same, eqb-true, ltb-true, ltb-false}
 use Rattle.std.proofs.Math.ListN.{length}
 use Rattle.std.proofs.lemmas.Bool.{eqb-false}

@@ -1,6 +1,6 @@
 -- Say what is broken: walks that end at the first word that is no control page. What they meet, that it is the list where a list ends by 0, and which
 -- heads the ruling counts. Assumes nothing.
-use Rattle.std.specs.Prelude.{◌≡◌, refl, ◌≢◌, ◌⊎◌, Bool, true, false, ◌&&◌, List, [], ◌∷◌, ◌++◌, ℕ, zero, suc, ◌+◌, ◌-◌, ◌≤◌, ◌<◌, length, get_or, leb}
+use Rattle.std.specs.Prelude.{◌≡◌, refl, ◌≢◌, ◌⊎◌, Bool, true, false, ◌&&◌, List, [], ◌∷◌, ◌++◌, ℕ, zero, suc, ◌≤◌, ◌<◌, length, get_or, leb}
 use Rattle.std.proofs.Common.{sym, ap, ◌∙◌, inl, inr, arith, leb-true, le-leb}
 use Rattle.model.specs.Map.{page_size, place, grants, grant_for, first_control, last_control, control_pages, last_name}
 use Rattle.model.specs.Store.{bytes}

@@ -13,9 +13,7 @@ use Rattle.model.specs.declared.Registers.{Registers}
 use Rattle.model.specs.declared.Answer.{Answer}
 use Rattle.model.specs.declared.Answer.TheVariants.{Done, Waits, HandedOut, Fault, Refused, RefusedAt}
 use Rattle.model.specs.declared.Held.{Held}
-use Rattle.model.specs.declared.Held.TheVariants as Held
 use Rattle.model.specs.declared.Verdict.{Verdict}
-use Rattle.model.specs.declared.Verdict.TheVariants as Verdict
 use Rattle.model.specs.declared.Finding.{Finding}
 use Rattle.model.specs.declared.Finding.TheVariants.{Nothing, WrongLength, Broken}
 use Rattle.model.specs.declared.Fit.TheVariants as Fit

@@ -9,7 +9,6 @@ use native.Mathlib.Omega.{arith}
 use Rattle.std.proofs.Math.Dec.{eqb}
 use Rattle.std.proofs.lemmas.Bool.{lt-leb}
 use Rattle.model.specs.declared.Said.TheVariants.{Nothing}
-use Rattle.model.specs.declared.Line.TheVariants.{Processor}
 use Rattle.model.specs.Map as Map
 use Rattle.model.specs.Map.{memory_size, place, first_name, last_name, processor_list, running_page, page_queue, interrupts, header_after, semaphore_after}
 use Rattle.model.specs.Map.{free_semaphore, control_pages, first_control, last_control, link, own_semaphore, own_queue, q1, q2, note}
@@ -22,7 +21,7 @@ use Rattle.model.specs.Wait as Wait
 use Rattle.model.specs.Lists.{count, queues, is_grant}
 use Rattle.model.specs.Differ as Differ
 use Rattle.model.specs.Differ.{or_same, queue_at, for_message}
-use Rattle.model.specs.Bytes.{at, page_of, priority, word_lines, state_of, messages, said}
+use Rattle.model.specs.Bytes.{at, page_of, word_lines, state_of, messages, said}
 use Rattle.model.specs.Bytes.{names_lines, lines}
 use Rattle.model.specs.Bytes.{word, walk, processors, queue, running, is_named, queued, seat, length_of, queue_of, words_from, message_of, lists}
 use Rattle.laws.specs.Count.{hit_self, hit_other, hit_or}

@@ -1,6 +1,6 @@
 -- Say what is broken: once over all rows. A class has no offending address exactly if its rules hold; the address told offends, and none lower does.
 -- Assumes nothing.
-use Rattle.std.specs.Prelude.{◌≡◌, refl, ◌≢◌, ◌⊎◌, Bool, true, false, List, [], ◌∷◌, ◌++◌, ℕ, min, ◌-◌, ◌+◌, ◌≤◌}
+use Rattle.std.specs.Prelude.{◌≡◌, refl, ◌≢◌, ◌⊎◌, Bool, true, false, List, [], ◌∷◌, ◌++◌, ℕ, min, ◌≤◌}
 use Rattle.std.proofs.Common.{◌∙◌, inl, inr, arith}
 use Rattle.model.specs.Rule.{Rule, holds}
 use Rattle.model.specs.Lists.{count}

@@ -1,5 +1,5 @@
 -- Memory map: words read and written, "An address is 13 bits", "Protected".
-use Rattle.std.specs.Prelude.{ℕ, zero, suc, ◌+◌, ◌*◌, ◌/◌, ◌%◌, Bool, true, false, cond, ltb, leb}
+use Rattle.std.specs.Prelude.{ℕ, zero, suc, ◌+◌, ◌%◌, Bool, true, false, cond, ltb, leb}
 use Rattle.model.specs.Store.{Store}
 use Rattle.model.specs.Map.{memory_size, place, joined, guarded_end, guarded_from, guarded_to, guarded_last}
 

@@ -4,9 +4,7 @@ use Rattle.std.specs.Prelude.{ℕ, Bool, true, false, cond, eqb, ltb}
 use Rattle.model.specs.declared.Registers.{Registers}
 use Rattle.model.specs.declared.Answer.TheVariants.{Done, Refused, RefusedAt}
 use Rattle.model.specs.declared.Held.{Held}
-use Rattle.model.specs.declared.Held.TheVariants as Held
 use Rattle.model.specs.declared.Verdict.{Verdict}
-use Rattle.model.specs.declared.Verdict.TheVariants as Verdict
 use Rattle.model.specs.declared.Finding.{Finding}
 use Rattle.model.specs.declared.Finding.TheVariants.{Nothing, WrongLength, Broken}
 use Rattle.model.specs.Store.{Store}

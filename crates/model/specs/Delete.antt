@@ -1,7 +1,7 @@
 -- Deleting, with document 02's 3/13, notices to a namesake: "Now deleting a processor marks every message it sent that is still unread".
 -- Every message leaves its queue before it is returned, and the deleted one has left the processor list before: so no page is granted to it.
 -- Its own mail to itself is marked first, and then given back.
-use Rattle.std.specs.Prelude.{ℕ, zero, suc, ◌+◌, ◌*◌, ◌/◌, ◌%◌, Bool, true, false, cond, eqb}
+use Rattle.std.specs.Prelude.{ℕ, zero, suc, Bool, true, false, cond, eqb}
 use Rattle.model.specs.Store.{Store}
 use Rattle.model.specs.Map.{place, link, list_link, q1, q2, size, mark_added, grant_for, processor_list, control_pages}
 use Rattle.model.specs.Address.{word, store, at, write, unless}

@@ -1,5 +1,5 @@
 -- Instructions: "EXI runs another instruction by the same rules". Refusals and faults: "Order", from the word at LR on.
-use Rattle.std.specs.Prelude.{ℕ, zero, suc, ◌+◌, ◌-◌, ◌*◌, ◌/◌, ◌%◌, Bool, true, false, cond, List, [], ◌∷◌, eqb, get_or}
+use Rattle.std.specs.Prelude.{ℕ, zero, suc, ◌-◌, Bool, true, false, cond, [], ◌∷◌, eqb, get_or}
 use Rattle.model.specs.declared.Arguments.{Arguments}
 use Rattle.model.specs.declared.Answer.TheVariants.{HandedOut}
 use Rattle.model.specs.Store.{Store}

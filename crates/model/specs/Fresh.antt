@@ -1,5 +1,5 @@
 -- Fresh start and well-formed memory: "Fresh takes clock line and divider, clears .., then: ..".
-use Rattle.std.specs.Prelude.{ℕ, zero, suc, ◌+◌, ◌-◌, ◌*◌, ◌/◌, ◌%◌, Bool, true, false, cond, eqb, ltb}
+use Rattle.std.specs.Prelude.{ℕ, zero, suc, ◌+◌, ◌-◌, ◌*◌, Bool, true, false, cond, eqb, ltb}
 use Rattle.model.specs.Store.{Store}
 use Rattle.model.specs.Map.{place, page_size, pair, topped, a_word, interrupt_page, kernel_pages, first_control, control_pages, link, label}
 use Rattle.model.specs.Map.{clock_line, divider, free_list, free_semaphore, processor_list, code_word, built_in_codes, first_unused, first_outer}

@@ -1,6 +1,6 @@
 -- Instructions: "Word n is 224; n+1 has the code and a four-bit field." The table of lengths and argument counts, and the arguments of each
 -- code, direct and for EXI.
-use Rattle.std.specs.Prelude.{ℕ, zero, suc, ◌+◌, ◌*◌, ◌/◌, ◌%◌, Bool, true, false, cond, List, [], ◌∷◌, leb, get_or}
+use Rattle.std.specs.Prelude.{ℕ, zero, suc, ◌+◌, ◌*◌, Bool, true, false, cond, List, [], ◌∷◌, leb, get_or}
 use Rattle.model.specs.declared.Arguments.{Arguments}
 use Rattle.model.specs.Store.{Store}
 use Rattle.model.specs.Map.{upper, lower, low_three, top, topped, high, low, is_indexed, index_number, four_bits, three_bits, five_bits, a_word, code_word}

@@ -1,5 +1,5 @@
 -- Interrupts.
-use Rattle.std.specs.Prelude.{ℕ, zero, suc, ◌+◌, ◌*◌, ◌%◌, Bool, true, false, cond, eqb, ltb}
+use Rattle.std.specs.Prelude.{ℕ, zero, suc, Bool, true, false, cond, eqb, ltb}
 use Rattle.model.specs.Store.{Store}
 use Rattle.model.specs.Map.{raised, lowered, link, reason, word_a, semaphore_of, header_of, clock_line, c0, c1, c2, c3, divider, control_pages}
 use Rattle.model.specs.Map.{first_classed, last_outer, c0_interrupt, c1_interrupt, c2_interrupt, c3_interrupt, c1_end, c2_end, c3_end}

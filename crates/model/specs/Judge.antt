@@ -1,5 +1,5 @@
 -- Fresh start and well-formed memory: "Well-formed: ..", a rule for each sentence, in its order.
-use Rattle.std.specs.Prelude.{ℕ, zero, suc, ◌+◌, ◌-◌, ◌*◌, ◌/◌, ◌%◌, Bool, List, [], ◌∷◌, ◌++◌, length, eqb}
+use Rattle.std.specs.Prelude.{ℕ, suc, ◌+◌, Bool, List, ◌++◌, length, eqb}
 use Rattle.model.specs.Store.{Store}
 use Rattle.model.specs.Map as Map
 use Rattle.model.specs.Map.{place, page_size, upper, lower, top, less, zeros_in, a_word, free_list, free_semaphore, page_queue, processor_list}

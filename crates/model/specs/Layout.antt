@@ -1,7 +1,7 @@
 -- Settings that survive a box swap (document 02, 5/13): "The exact layout goes to docs/". Blocks, trailers and files, as lists of bytes, and which of them
 -- are good. "After 20, in this order: a version above the reader's own is refused by 29 with that version, any other break of layout in trailer or newest
 -- block (over 14 entries too) by 28, a name twice, the name 1 or a field out of range by 26, memory untouched."
-use Rattle.std.specs.Prelude.{ℕ, zero, suc, ◌+◌, ◌-◌, ◌*◌, ◌/◌, ◌%◌, Bool, true, false, cond, List, [], ◌∷◌, eqb, ltb, leb, length, get_or, take, drop}
+use Rattle.std.specs.Prelude.{ℕ, zero, suc, ◌+◌, ◌-◌, ◌*◌, Bool, true, false, cond, List, [], ◌∷◌, eqb, ltb, leb, length, get_or, take, drop}
 use Rattle.model.specs.declared.Entry.{Entry}
 use Rattle.model.specs.declared.Trailer.{Trailer}
 use Rattle.model.specs.declared.Fit.{Fit}

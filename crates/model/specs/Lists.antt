@@ -1,6 +1,6 @@
 -- Fresh start and well-formed memory: "every control page is used once". Lists of pages, how often a number stands in them, and which cells
 -- head them.
-use Rattle.std.specs.Prelude.{ℕ, zero, suc, ◌+◌, ◌*◌, Bool, true, false, cond, ◌&&◌, List, [], ◌∷◌, ◌++◌, leb, ltb, eqb}
+use Rattle.std.specs.Prelude.{ℕ, zero, suc, ◌+◌, Bool, true, false, cond, ◌&&◌, List, [], ◌∷◌, ◌++◌, leb, ltb, eqb}
 use Rattle.model.specs.Store.{Store}
 use Rattle.model.specs.Map.{place, page_size, processor_list, free_list, page_queue, own_queue, q1, q2, grants, grants_end, interrupts, header_after}
 use Rattle.model.specs.Map.{control_pages}

@@ -1,9 +1,9 @@
 -- Memory map: "Message page". Instructions: "Sending", and the moves of mail.
-use Rattle.std.specs.Prelude.{ℕ, zero, suc, ◌+◌, ◌*◌, ◌/◌, ◌%◌, Bool, true, false, cond, eqb}
+use Rattle.std.specs.Prelude.{ℕ, zero, suc, Bool, true, false, cond, eqb}
 use Rattle.model.specs.Store.{Store}
 use Rattle.model.specs.Map.{place, pair, upper, lower, length_in, link, reason, own_semaphore, own_queue, q1, q2, note, size, text, notice}
 use Rattle.model.specs.Map.{head_words, is_unmarked}
-use Rattle.model.specs.Address.{word, store, at, write, wrapped, copy}
+use Rattle.model.specs.Address.{word, store, write, wrapped, copy}
 use Rattle.model.specs.Queue.{first, queue, join, leave}
 use Rattle.model.specs.Processor.{name, running}
 use Rattle.model.specs.Wait.{wake}

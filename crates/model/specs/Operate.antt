@@ -1,6 +1,6 @@
 -- Instructions: the table's effects, in its order (ST1, STP and DEP share their faults and stand together); faults in the order of "Order".
 -- len is what LR grows by: the instruction's own length, or EXI's.
-use Rattle.std.specs.Prelude.{ℕ, zero, suc, ◌+◌, ◌*◌, ◌/◌, ◌%◌, Bool, true, false, cond, List, [], ◌∷◌, eqb, ltb, get_or}
+use Rattle.std.specs.Prelude.{ℕ, ◌+◌, ◌/◌, cond, [], ◌∷◌, eqb, ltb, get_or}
 use Rattle.std.specs.Int.Bits.{bit_and}
 use Rattle.model.specs.Store.{Store}
 use Rattle.model.specs.Map.{word_values, place, page_size, pair, high, low, raised, p_set, indirect, index_part, label, high_lr, word_a, list_link}

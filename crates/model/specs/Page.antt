@@ -1,5 +1,5 @@
 -- Pages: "SME and CRP use the page granted to them, else the first free one"; "A page given back goes to the first waiter".
-use Rattle.std.specs.Prelude.{ℕ, zero, suc, ◌+◌, ◌*◌, ◌/◌, ◌%◌, Bool, true, false, cond, eqb}
+use Rattle.std.specs.Prelude.{ℕ, cond, eqb}
 use Rattle.model.specs.Store.{Store}
 use Rattle.model.specs.Map.{raised, lowered, link, grant_for, free_list, free_semaphore, page_queue}
 use Rattle.model.specs.Address.{at, write}

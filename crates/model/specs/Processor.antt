@@ -1,5 +1,5 @@
 -- Memory map: "Processor page". What the kernel covers: "reading and setting the running processor's registers".
-use Rattle.std.specs.Prelude.{ℕ, zero, suc, ◌+◌, ◌*◌, ◌/◌, ◌%◌, Bool, true, false, cond, List, [], ◌∷◌, eqb, leb, ltb}
+use Rattle.std.specs.Prelude.{ℕ, ◌+◌, Bool, false, cond, eqb, leb, ltb}
 use Rattle.model.specs.declared.Registers.{Registers}
 use Rattle.model.specs.Store.{Store}
 use Rattle.model.specs.Map.{last_address, upper, lower, high, low, joined, p_in, z_in, ci_in, three_flags, flags_kept, is_stopped, is_ready, stop_in}

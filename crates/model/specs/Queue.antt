@@ -1,6 +1,6 @@
 -- Memory map: "A header holds the first page, a link the next, 0 ends." A cell is the address of a word that points to a page, a header or a
 -- link alike; a walk along cells has twenty pages left at most.
-use Rattle.std.specs.Prelude.{ℕ, zero, suc, ◌+◌, ◌*◌, Bool, true, false, List, [], ◌∷◌, eqb}
+use Rattle.std.specs.Prelude.{ℕ, zero, suc, Bool, true, false, List, [], ◌∷◌, eqb}
 use Rattle.model.specs.Store.{Store}
 use Rattle.model.specs.Map.{place, link, list_link, processor_list, control_pages}
 use Rattle.model.specs.Address.{word, store, at, write}

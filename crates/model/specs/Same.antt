@@ -1,12 +1,11 @@
 -- `trees` is `bytes`: what is computed of the one holds of the other. By univalence: one path between the two records, and no
 -- lemma for any function of the model. Assumes nothing.
-use Rattle.std.specs.Prelude.{◌≡◌, refl, ◌⊎◌, Bool, true, false, not, List, [], ◌∷◌, ◌++◌, ℕ, zero, suc, ◌+◌, ◌-◌, ◌*◌, ◌^◌, ◌≤◌, ◌<◌, min, get_or, set, replicate, length, take, drop, ltb}
-use Rattle.std.proofs.Common.{sym, ap, ◌∙◌, subst, inl, inr, suc-add, zero-add, add-sub_of_le, arith, length-set, length-append, length-take, length-drop, take-append-drop, get_or-append-add, take_at, drop_at, ltb-true, ltb-false}
-use Rattle.std.proofs.Math.Nat.{suc_inj}
+use Rattle.std.specs.Prelude.{◌≡◌, refl, ◌⊎◌, Bool, true, false, List, [], ◌∷◌, ◌++◌, ℕ, zero, suc, ◌+◌, ◌-◌, ◌^◌, ◌≤◌, get_or, set, replicate, length, take, drop, ltb}
+use Rattle.std.proofs.Common.{sym, ap, ◌∙◌, subst, inl, inr, suc-add, zero-add, arith, length-append, length-take, length-drop, take-append-drop, get_or-append-add, take_at, drop_at, ltb-true, ltb-false}
 use Rattle.std.proofs.Math.Decide.{ℕ_discrete}
 use Rattle.std.proofs.Math.ListN.{get_or-append}
 use Rattle.std.proofs.lemmas.List.{replicate-append-replicate, set-append_left}
-use std.Equiv.{Iso, ◌≃◌, iso_to_equiv, id_equiv}
+use std.Equiv.{◌≃◌, iso_to_equiv, id_equiv}
 use std.Univalence.{equiv_j}
 use Rattle.model.specs.Store.{Store, bytes, Tree, tget, tput, tzero, Odd, get_t, put_t, size_t, trees}
 

@@ -6,7 +6,6 @@ use Rattle.model.specs.declared.Entry.{Entry}
 use Rattle.model.specs.declared.Fit.{Fit}
 use Rattle.model.specs.declared.Fit.TheVariants.{Good, Refused, RefusedAt}
 use Rattle.model.specs.declared.Writing.{Writing}
-use Rattle.model.specs.declared.Writing.TheVariants as Writing
 use Rattle.model.specs.Store.{Store}
 use Rattle.model.specs.Map.{memory_size, word_values}
 use Rattle.model.specs.Address.{unless}

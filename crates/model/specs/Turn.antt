@@ -1,5 +1,5 @@
 -- Who runs.
-use Rattle.std.specs.Prelude.{ℕ, zero, suc, ◌+◌, ◌*◌, ◌/◌, ◌%◌, Bool, true, false, cond, List, [], ◌∷◌, eqb, ltb, get_or}
+use Rattle.std.specs.Prelude.{ℕ, zero, suc, Bool, true, cond, List, [], ◌∷◌, eqb, ltb, get_or}
 use Rattle.model.specs.declared.Context.{Context}
 use Rattle.model.specs.Store.{Store}
 use Rattle.model.specs.Map.{label, running_page, running_label, zero_place, keeps, kept_count}

@@ -2,7 +2,7 @@
 -- A wait queue is known by the address s of its semaphore: its header is the next word, for interrupts, for the page queue and for a
 -- processor's own message wait alike. So "The free semaphore is the free count less the waiters; an interrupt's is minus its waiters; a
 -- processor's own is -1 while it waits for a message, else 0" holds by one step: who joins lowers it, who leaves raises it.
-use Rattle.std.specs.Prelude.{ℕ, zero, suc, ◌+◌, ◌*◌, ◌/◌, ◌%◌, Bool, true, false, cond, eqb}
+use Rattle.std.specs.Prelude.{ℕ, zero, suc, ◌+◌, Bool, true, false, cond, eqb}
 use Rattle.model.specs.Store.{Store}
 use Rattle.model.specs.Map.{place, raised, lowered, wait_set, wait_cleared, link, reason, state, own_semaphore, free_semaphore, semaphore_after}
 use Rattle.model.specs.Map.{interrupts}

@@ -9,7 +9,7 @@ use Rattle.model.specs.Map.{memory_size, start_address}
 use Rattle.model.specs.Answer.{answer_of, memory_of, numbers, writing_numbers, done_number, written_number}
 use Rattle.model.specs.Answer.Outcome.{gives}
 use Rattle.model.specs.Layout.{labelled, label_place, label_bytes}
-use Rattle.model.specs.Layout.{trailer_bytes, most_entries, own_version, version_of, count_of, trailer_place, trailer_in, newest, of_block, of_file}
+use Rattle.model.specs.Layout.{trailer_bytes, most_entries, own_version, version_of, trailer_place, trailer_in, newest, of_block, of_file}
 use Rattle.model.specs.Settings.{place_for, new_length, written, weight, of_used, write_settings}
 use Rattle.model.specs.Bytes.{from_settings, settled, lr, running, priority, page_of, crp, crp_page}
 use Rattle.laws.specs.Words.{Small}

@@ -3,17 +3,16 @@ use Prim.Native.Nat.{ℕ, zero, suc, ◌+◌, ◌-◌, ◌*◌, ◌≤◌, ◌<�
 use mathlib.Core.Path.{◌≡◌, refl, sym, ap, ◌∙◌}
 use mathlib.Core.Bool.{Bool, true, false, cond}
 use mathlib.Core.List.{List, [], ◌∷◌}
-use lib.Dec.{eqb, ltb, leb}
+use lib.Dec.{eqb, ltb}
 use lib.ListN.{length, get_or, take, drop, length-drop}
 use lib.Seq.{length-take-le}
-use borrow.Author.Tests.{eqb-true, eqb-false, eq-eqb, ne_eqb, ltb-true, ltb-false, lt-ltb, le-ltb, le-leb, lt-leb}
+use borrow.Author.Tests.{eq-eqb, ne_eqb, ltb-true, lt-ltb, le-ltb}
 use native.Mathlib.Numerals.{sub-one}
 use native.Mathlib.Omega.{arith}
 use Rattle.model.specs.declared.Entry.{Entry}
 use Rattle.model.specs.declared.Trailer.{Trailer}
 use Rattle.model.specs.declared.Fit.{Fit}
 use Rattle.model.specs.declared.Fit.TheVariants.{Good, Refused, RefusedAt}
-use Rattle.model.specs.Address.{unless}
 use Rattle.model.specs.Answer.{broken_layout, too_new, out_of_range}
 use Rattle.model.specs.Fresh.{startable}
 use Rattle.model.specs.Layout as Layout
@@ -23,7 +22,6 @@ use Rattle.model.specs.Layout.{trailer_in, back, newest, begins, points_back, is
 use Rattle.laws.specs.Fits.{laid_of, laid_least, ends_of, points_of, good_is}
 use Rattle.settings.specs.declared.entries.Cursor.{Cursor}
 use Rattle.settings.specs.declared.entries.Read.{Read}
-use Rattle.settings.specs.declared.entries.Read.TheVariants as Read
 use Rattle.settings.specs.Cursors as Cursors
 use Rattle.settings.specs.Cursors.{read, behind}
 

@@ -3,16 +3,15 @@ use Prim.Native.Nat.{ℕ, ◌+◌, ◌-◌, ◌/◌, ◌%◌, ◌≤◌, ◌<◌
 use mathlib.Core.Path.{◌≡◌, refl, sym, ap, ◌∙◌}
 use mathlib.Core.Bool.{Bool, true, false}
 use mathlib.Core.List.{List, [], ◌∷◌, ◌++◌, append_assoc, append-nil}
-use lib.Dec.{eqb, ltb}
+use lib.Dec.{ltb}
 use lib.ListN.{length, get_or, take, drop, length-append, length-drop, drop_of_length-le}
-use lib.Seq.{take-length, take_all, length-take-le, drop-drop, take-append-add, drop-append-add, take_at, drop_at}
+use lib.Seq.{take-length, take_all, length-take-le, drop-drop, drop-append-add, take_at}
 use borrow.Author.Tests.{eq-eqb, ne_eqb, ltb-false, lt-ltb, le-ltb}
 use native.Mathlib.Omega.{arith}
 use Rattle.model.specs.declared.Fit.{Fit}
 use Rattle.model.specs.declared.Fit.TheVariants.{Good, Refused, RefusedAt}
 use Rattle.model.specs.declared.Writing.{Writing}
-use Rattle.model.specs.declared.Writing.TheVariants as Writing
-use Rattle.model.specs.Answer.{Outcome, no_room}
+use Rattle.model.specs.Answer.{no_room}
 use Rattle.model.specs.Answer.Outcome.{gives}
 use Rattle.model.specs.Layout.{of_block, of_file}
 use Rattle.laws.specs.Fits.{Laid, laid_least, laid_most, block_of, block_each}

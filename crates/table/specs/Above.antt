@@ -1,6 +1,6 @@
 -- No creating above yourself: what CRP with a priority is answered, and what stands afterwards. Document 02's 6/13, or its ruling, quoted at each row. In the
 -- paper's numbers, as every row.
-use Rattle.std.specs.Prelude.{ℕ, ◌+◌, ◌*◌, ◌/◌, ◌%◌, ◌≡◌, refl, Bool, true, List, [], ◌∷◌, ◌++◌}
+use Rattle.std.specs.Prelude.{◌+◌, ◌*◌, ◌/◌, ◌%◌, ◌≡◌, refl, true, [], ◌∷◌, ◌++◌}
 use Rattle.model.specs.Store.{bytes}
 use Rattle.model.specs.Same.{by_trees}
 use Rattle.table.specs.Program.{win, sme, rme, st1, st2, crp, exi}

@@ -1,6 +1,6 @@
 -- A burst from the line card: lists of bytes, number and class number in turn, with the answer and the words to be found afterwards. In the paper's numbers,
 -- as every row.
-use Rattle.std.specs.Prelude.{ℕ, zero, suc, ◌+◌, ◌*◌, ◌≡◌, refl, Bool, true, List, [], ◌∷◌, ◌++◌}
+use Rattle.std.specs.Prelude.{ℕ, zero, suc, ◌+◌, ◌*◌, ◌≡◌, refl, true, List, [], ◌∷◌, ◌++◌}
 use Rattle.model.specs.Store.{bytes}
 use Rattle.model.specs.Same.{by_trees}
 use Rattle.table.specs.Program.{win, st1, crp}

@@ -1,13 +1,11 @@
 -- Which words differ: two memories, each made by a script of calls, and the lines that are told of them. Document 02's 7/13, or its ruling, quoted at each row.
 -- In the paper's numbers, as every row.
-use Rattle.std.specs.Prelude.{ℕ, zero, suc, ◌+◌, ◌*◌, ◌/◌, ◌%◌, ◌≡◌, refl, Bool, true, false, List, [], ◌∷◌, ◌++◌, map}
+use Rattle.std.specs.Prelude.{ℕ, ◌+◌, ◌*◌, ◌≡◌, refl, Bool, true, false, List, [], ◌∷◌, ◌++◌, map}
 use Rattle.model.specs.Store.{Store}
 use Rattle.model.specs.Store.{bytes}
 use Rattle.model.specs.Same.{by_trees}
 use Rattle.model.specs.declared.Side.{Side}
 use Rattle.model.specs.declared.Side.TheVariants.{First, Second}
-use Rattle.model.specs.declared.Parts.{Parts}
-use Rattle.model.specs.declared.Said.{Said}
 use Rattle.model.specs.declared.Said.TheVariants.{Nothing, OnlyIn, DiffersIn}
 use Rattle.model.specs.declared.Line.{Line}
 use Rattle.model.specs.declared.Line.TheVariants.{Word, Refused, RefusedAt, Processor, Same}

@@ -1,6 +1,6 @@
 -- Rows that refute wrong models: one for each edit of crates/*/slips that no worked sum and no other row refutes, by the edit's name. On the model as it is
 -- each holds; with the edit it does not.
-use Rattle.std.specs.Prelude.{ℕ, ◌+◌, ◌*◌, ◌/◌, ◌%◌, ◌≡◌, refl, Bool, true, List, [], ◌∷◌, ◌++◌}
+use Rattle.std.specs.Prelude.{◌+◌, ◌*◌, ◌/◌, ◌%◌, ◌≡◌, refl, true, [], ◌∷◌, ◌++◌}
 use Rattle.model.specs.Store.{bytes}
 use Rattle.model.specs.Same.{by_trees}
 use Rattle.table.specs.Program.{win, sme, wnm, rme, tme, st1, crp, dep, exi}

@@ -1,6 +1,6 @@
 -- The table: document 01's "Worked sums" (a)-(h), with (c), (d) and (e) on both sides, and one statement over them: every row runs as it says, by
 -- the definitions, at the memory that the code has.
-use Rattle.std.specs.Prelude.{ℕ, ◌+◌, ◌*◌, ◌/◌, ◌%◌, ◌≡◌, refl, Bool, true, List, [], ◌∷◌, ◌++◌}
+use Rattle.std.specs.Prelude.{◌+◌, ◌*◌, ◌/◌, ◌%◌, ◌≡◌, refl, true, List, [], ◌∷◌, ◌++◌}
 use Rattle.model.specs.Store.{bytes}
 use Rattle.model.specs.Same.{by_trees}
 use Rattle.table.specs.Program.{win, sme, wnm, rme, st1, stp, dep, code}

@@ -1,6 +1,6 @@
 -- Settings that survive a box swap: files with the answer and the words to be found afterwards, and buffers before and after a block is written. In the paper's
 -- numbers, as every row.
-use Rattle.std.specs.Prelude.{ℕ, zero, suc, ◌+◌, ◌*◌, ◌≡◌, refl, Bool, true, List, [], ◌∷◌, ◌++◌}
+use Rattle.std.specs.Prelude.{ℕ, zero, suc, ◌+◌, ◌*◌, ◌≡◌, refl, true, List, [], ◌∷◌, ◌++◌}
 use Rattle.model.specs.Store.{bytes}
 use Rattle.model.specs.Same.{by_trees}
 use Rattle.table.specs.Program.{st1}

@@ -1,6 +1,6 @@
 -- Say what is broken: the memory of worked sum (b), with one rule broken or several, and the class and the address that the judge tells. In the paper's
 -- numbers, as every row.
-use Rattle.std.specs.Prelude.{ℕ, ◌+◌, ◌*◌, ◌≡◌, refl, Bool, true, List, [], ◌∷◌, ◌++◌}
+use Rattle.std.specs.Prelude.{◌+◌, ◌*◌, ◌≡◌, refl, true, List, [], ◌∷◌}
 use Rattle.model.specs.Store.{bytes}
 use Rattle.model.specs.Same.{by_trees}
 use Rattle.table.specs.Script as Script

@@ -1,6 +1,6 @@
 use borrow.Author.Rules.{rules}
 use Rattle.arguments.proofs.Laws.{arguing}
-use Prim.Native.Nat.{ℕ, ◌<◌, ◌+◌}
+use Prim.Native.Nat.{ℕ, ◌<◌}
 use borrow.Fn.PlainCycle.{Measures, is, falls, and}
 use Rattle.arguments.proofs.within.Reads as own
 use Rattle.arguments.proofs.within.Kinds as kinds

@@ -1,6 +1,6 @@
 use borrow.Author.Rules.{rules}
 use Rattle.deleting.proofs.Laws.{empties, walk_none, walk_end, emptied_on}
-use Prim.Native.Nat.{ℕ, ◌<◌, ◌+◌}
+use Prim.Native.Nat.{ℕ, ◌<◌}
 use borrow.Fn.PlainCycle.{Measures, is, falls, and}
 use Rattle.deleting.proofs.empty.Reads as own
 use Rattle.deleting.proofs.empty.Kinds as kinds

@@ -1,6 +1,6 @@
 use borrow.Author.Rules.{rules}
 use Rattle.deleting.proofs.Laws.{marks_processors, walk_none, walk_end, walk_on}
-use Prim.Native.Nat.{ℕ, ◌<◌, ◌+◌}
+use Prim.Native.Nat.{ℕ, ◌<◌}
 use borrow.Fn.PlainCycle.{Measures, is, falls, and}
 use Rattle.deleting.proofs.mark_all.Reads as own
 use Rattle.deleting.proofs.mark_all.Kinds as kinds

@@ -1,6 +1,6 @@
 use borrow.Author.Rules.{rules}
 use Rattle.deleting.proofs.Laws.{marks_messages, walk_none, walk_end, walk_on}
-use Prim.Native.Nat.{ℕ, ◌<◌, ◌+◌}
+use Prim.Native.Nat.{ℕ, ◌<◌}
 use borrow.Fn.PlainCycle.{Measures, is, falls, and}
 use Rattle.deleting.proofs.mark_from.Reads as own
 use Rattle.deleting.proofs.mark_from.Kinds as kinds

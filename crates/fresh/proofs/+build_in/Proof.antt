@@ -1,6 +1,6 @@
 use borrow.Author.Rules.{rules}
 use Rattle.fresh.proofs.Laws.{freshly}
-use Prim.Native.Nat.{ℕ, ◌<◌, ◌+◌}
+use Prim.Native.Nat.{ℕ, ◌<◌}
 use borrow.Fn.PlainCycle.{Measures, is, falls, and}
 use Rattle.fresh.proofs.build_in.Reads as own
 use Rattle.fresh.proofs.build_in.Kinds as kinds

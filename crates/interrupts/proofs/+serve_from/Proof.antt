@@ -1,6 +1,6 @@
 use borrow.Author.Rules.{rules}
 use Rattle.interrupts.proofs.Laws.{interrupts}
-use Prim.Native.Nat.{ℕ, ◌<◌, ◌+◌}
+use Prim.Native.Nat.{ℕ, ◌<◌}
 use borrow.Fn.PlainCycle.{Measures, is, falls, and}
 use Rattle.interrupts.proofs.serve_from.Reads as own
 use Rattle.interrupts.proofs.serve_from.Kinds as kinds

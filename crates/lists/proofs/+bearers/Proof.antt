@@ -1,6 +1,6 @@
 use borrow.Author.Rules.{rules}
 use Rattle.lists.proofs.Folds.{folds}
-use Prim.Native.Nat.{ℕ, ◌<◌, ◌+◌}
+use Prim.Native.Nat.{ℕ, ◌<◌}
 use borrow.Fn.PlainCycle.{Measures, is, falls, and}
 use Rattle.lists.proofs.bearers.Reads as own
 use Rattle.lists.proofs.bearers.Kinds as kinds

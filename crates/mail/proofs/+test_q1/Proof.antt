@@ -1,6 +1,6 @@
 use borrow.Author.Rules.{rules}
 use Rattle.mail.proofs.Laws.{mails}
-use Prim.Native.Nat.{ℕ, ◌<◌, ◌+◌}
+use Prim.Native.Nat.{ℕ, ◌<◌}
 use borrow.Fn.PlainCycle.{Measures, is, falls, and}
 use Rattle.mail.proofs.test_q1.Reads as own
 use Rattle.mail.proofs.test_q1.Kinds as kinds

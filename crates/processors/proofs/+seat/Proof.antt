@@ -1,6 +1,6 @@
 use borrow.Author.Rules.{rules}
 use Rattle.processors.proofs.Laws.{waiting}
-use Prim.Native.Nat.{ℕ, ◌<◌, ◌+◌}
+use Prim.Native.Nat.{ℕ, ◌<◌}
 use borrow.Fn.PlainCycle.{Measures, is, falls, and}
 use Rattle.processors.proofs.seat.Reads as own
 use Rattle.processors.proofs.seat.Kinds as kinds

@@ -1,6 +1,6 @@
 use borrow.Author.Rules.{rules}
 use Rattle.queues.proofs.Laws.{walks}
-use Prim.Native.Nat.{ℕ, ◌<◌, ◌+◌}
+use Prim.Native.Nat.{ℕ, ◌<◌}
 use borrow.Fn.PlainCycle.{Measures, is, falls, and}
 use Rattle.queues.proofs.cell_of.Reads as own
 use Rattle.queues.proofs.cell_of.Kinds as kinds

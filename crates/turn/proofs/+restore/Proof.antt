@@ -1,6 +1,6 @@
 use borrow.Author.Rules.{rules}
 use Rattle.turn.proofs.Laws.{turns}
-use Prim.Native.Nat.{ℕ, ◌<◌, ◌+◌}
+use Prim.Native.Nat.{ℕ, ◌<◌}
 use borrow.Fn.PlainCycle.{Measures, is, falls, and}
 use Rattle.turn.proofs.restore.Reads as own
 use Rattle.turn.proofs.restore.Kinds as kinds

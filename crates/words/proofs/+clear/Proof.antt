@@ -1,6 +1,6 @@
 use borrow.Author.Rules.{rules}
 use Rattle.words.proofs.Laws.{words}
-use Prim.Native.Nat.{ℕ, ◌<◌, ◌+◌}
+use Prim.Native.Nat.{ℕ, ◌<◌}
 use borrow.Fn.PlainCycle.{Measures, is, falls, and}
 use Rattle.words.proofs.clear.Reads as own
 use Rattle.words.proofs.clear.Kinds as kinds

@@ -1,6 +1,6 @@
 use borrow.Author.Rules.{rules}
 use Rattle.judge.proofs.Laws.{walks}
-use Prim.Native.Nat.{ℕ, ◌<◌, ◌+◌}
+use Prim.Native.Nat.{ℕ, ◌<◌}
 use borrow.Fn.PlainCycle.{Measures, is, falls, and}
 use Rattle.judge.proofs.records.all_zero_bits.Reads as own
 use Rattle.judge.proofs.records.all_zero_bits.Kinds as kinds
