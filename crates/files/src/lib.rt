@@ -131,12 +131,11 @@ fn rename<R: Files>(rt: &R, new: &[u8], name: &[u8]) -> io::Result<()> {
 // The contents reach the disk in the new file, which then takes the place of the one with the name.
 fn put_in_place<R: Files>(
     rt: &R,
-    output: R::File,
+    mut output: R::File,
     new: &[u8],
     name: &[u8],
     contents: &[u8],
 ) -> io::Result<()> {
-    let mut output = output;
     store(&mut output, contents)?;
     drop(output);
     rename(rt, new, name)

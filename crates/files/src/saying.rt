@@ -1,4 +1,6 @@
 // Files' names as the system takes them, and what it says of a file, in its own words.
+ghost use Rattle.std.specs.Prelude.{◌≡◌, IfOk};
+
 use std::io;
 use std::io::{Cursor, Error, Write};
 
@@ -21,7 +23,9 @@ const WORDS_ROOM: usize = 128;
 const NUMBER: &str = " (os error ";
 
 // A file's name as the system takes it.
-pub fn path_of(name: &[u8]) -> io::Result<&str> {
+pub fn path_of(name: &[u8]) -> io::Result<&str>
+    ensures { IfOk result (λ path. path.now ≡ name.now) }
+{
     if LONGEST_PATH < name.len() {
         return Err(Error::from_raw_os_error(NAME_TOO_LONG));
     }

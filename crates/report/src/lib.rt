@@ -35,6 +35,7 @@ const NAME_ROOM: usize = 4096;
 const OUTPUT_ROOM: usize = 4096;
 
 // The lines of two memories go to the output, one after the other, to the last. Answers what is kept then.
+#[tactic(auto, using(crate::proofs::Laws::fewer_left))]
 fn tell_lines<P: Print>(rt: &P, first: &[u8], second: &[u8], output: &mut [u8]) -> io::Result<usize>
     requires { length output.old ≡ output_bytes }
     ensures { IfOk result (λ r. r ≤ output_bytes) }

@@ -13,7 +13,6 @@ use native.Mathlib.Omega.{arith}
 use Rattle.model.specs.declared.Fit.{Fit}
 use Rattle.model.specs.declared.Fit.TheVariants.{Good, Refused, RefusedAt}
 use Rattle.model.specs.declared.Writing.{Writing}
-use Rattle.model.specs.declared.Writing.TheVariants as Writing
 use Rattle.model.specs.Answer.{no_room}
 use Rattle.model.specs.Answer.Outcome.{gives}
 use Rattle.model.specs.Map.{a_word, word_values}

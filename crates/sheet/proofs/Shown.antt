@@ -14,7 +14,6 @@ use Rattle.model.specs.Layout as Layout
 use Rattle.model.specs.Layout.{head_bytes, of_block, of_file, is_good, newest}
 use Rattle.settings.specs.declared.entries.Cursor.{Cursor}
 use Rattle.settings.specs.declared.entries.Read.{Read}
-use Rattle.settings.specs.declared.entries.Read.TheVariants as Read
 use Rattle.settings.specs.Cursors.{read}
 use Rattle.settings.proofs.Laws.{had_entry, not_short}
 use Rattle.laws.specs.Fits.{Laid, good_is, laid_least, block_of, ends_of}

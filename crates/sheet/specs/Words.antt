@@ -1,6 +1,6 @@
 -- What the words behind FILE build: "VERSION LINE DIVIDER [SITE [LABEL]] NAME PRIORITY W ADDRESS ..". A word is a list of bytes, w; b are the bytes of the
 -- block that the words before it have built. The number of entries stands there as 0 until the last word is taken.
-use Rattle.std.specs.Prelude.{ℕ, ◌+◌, ◌-◌, ◌/◌, ◌%◌, cond, List, [], ◌∷◌, ◌++◌, eqb, ltb, leb, length, get_or, set, take, replicate}
+use Rattle.std.specs.Prelude.{ℕ, ◌-◌, ◌/◌, ◌%◌, cond, List, [], ◌∷◌, ◌++◌, eqb, ltb, leb, length, get_or, set, take, replicate}
 use Rattle.model.specs.Map.{a_word, word_values}
 use Rattle.model.specs.Layout.{entry_bytes, label_place, label_bytes, version_of, head_bytes}
 use Rattle.script.specs.Sizes.{largest_number, no_number}
