@@ -2,24 +2,21 @@
 -- is asked of a page by its mark.
 use Prim.Native.Nat.{ℕ, zero, suc, min, ◌+◌, ◌-◌, ◌*◌, ◌/◌, ◌%◌, ◌^◌, ◌≤◌, ◌<◌}
 use mathlib.Core.Path.{◌≡◌, refl, sym, ap, ◌∙◌}
-use mathlib.Core.Logic.{◌⊎◌, inl, inr}
 use mathlib.Core.Bool.{Bool, true, false, cond, ◌&&◌}
 use mathlib.Core.List.{List, [], ◌∷◌, ◌++◌}
 use native.Mathlib.Omega.{arith}
 use lib.Dec.{eqb, leb, ltb}
 use lib.Pow.{pow-lt, pow_pos}
 use borrow.Author.Tests.{eq-eqb, ne_eqb, eqb-true, eqb-false, lt-ltb, le-ltb, ltb-true, ltb-false, le-leb, lt-leb, leb-true, leb-false}
-use Rattle.model.specs.Map.{first_control, last_control, last_name, place, list_link, own_queue, q1, q2, free_list, grant_for, header_after, interrupts}
+use Rattle.model.specs.Map.{first_control, last_name, place, list_link, own_queue, q1, q2, free_list, grant_for, header_after, interrupts}
 use Rattle.model.specs.Map.{page_queue, processor_list, label}
 use Rattle.model.specs.Map.{last_priority, state}
 use Rattle.model.specs.Store.{bytes}
 use Rattle.model.specs.Rule.{same, among, holds, most as at_most}
 use Rattle.model.specs.Judge as Judge
 use Rattle.model.specs.Classes as Classes
-use Rattle.lists.proofs.Folds.{both_is, both_and, same_is, most_is, unless_yes, unless_no}
+use Rattle.lists.proofs.Folds.{both_is, same_is, most_is, unless_yes, unless_no}
 use Rattle.model.specs.Lists.{Lists, hit, count, sum, each_of, range, mails, owns, queues, link_of, reach}
-use Rattle.model.specs.Walks as Walks
-use Rattle.model.specs.Walks.{is_control}
 use Rattle.model.specs.Classes.{used}
 use Rattle.model.specs.Bytes.{Memory, at, word, name, path, met}
 use Rattle.laws.specs.Chain.{Pages}
@@ -29,7 +26,7 @@ use Rattle.telling.specs.Met as Met
 use Rattle.telling.specs.Met.{most, times, marked, marked_all, marked_lists, title, titles, used_marks, wait_marks, list_marks, name_marks, Single}
 use Rattle.telling.proofs.Digits.{digit, digit_is, digit_same, digit_other, digit_below}
 use Rattle.telling.proofs.Lows.{fold_none, fold_on, range_end, range_next, walked_out, walked_end, walked_on}
-use Rattle.telling.proofs.Walking.{path_none, path_end, path_on, met_is, met_empty, processors_met}
+use Rattle.telling.proofs.Walking.{met_is, processors_met}
 
 -- ---- what a mark weighs, as it is shifted
 pub unit_is : (x k r : ℕ) → first_control ≤ x → x < 256 → k ≡ 2 * (x - first_control) → r ≡ (1 * 2 ^ k) % 2 ^ 64

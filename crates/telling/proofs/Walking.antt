@@ -1,24 +1,22 @@
 -- A law for each way through the walks: a walk ends at the first word that is no control page, and the list of a head is a walk.
-use Prim.Native.Nat.{ℕ, zero, suc, ◌+◌, ◌-◌, ◌≤◌}
+use Prim.Native.Nat.{ℕ, zero, suc, ◌-◌, ◌≤◌}
 use mathlib.Core.Path.{◌≡◌, refl, sym, ap, ◌∙◌}
 use mathlib.Core.Bool.{Bool, true, false, cond, ◌&&◌}
-use mathlib.Core.List.{List, [], ◌∷◌, ◌++◌}
+use mathlib.Core.List.{List, [], ◌∷◌}
 use native.Mathlib.Omega.{arith}
 use native.Mathlib.Numerals.{sub-one}
 use lib.ListN.{length}
 use lib.Dec.{leb}
 use borrow.Author.Tests.{leb-true}
-use Rattle.model.specs.Map.{place, first_control, free_list, grant_for, header_after, interrupts, last_control, last_name, list_link, own_queue, page_queue}
-use Rattle.model.specs.Map.{processor_list, q1}
+use Rattle.model.specs.Map.{place, first_control, last_control, list_link}
+use Rattle.model.specs.Map.{processor_list}
 use Rattle.model.specs.Rule.{Rule, most, each, among, holds}
 use Rattle.model.specs.Lists as Lists
 use Rattle.model.specs.Lists.{Lists, count, link_of, reach, is_grant}
 use Rattle.model.specs.Walks as Walks
 use Rattle.model.specs.Walks.{is_control, last_cell}
-use Rattle.model.specs.Classes.{used}
 use Rattle.model.specs.Bytes.{Memory, at, path, met}
-use Rattle.lists.specs.Heads.{heads_of}
-use Rattle.lists.proofs.Folds.{both_and, each_bad, mails_heads, owns_heads}
+use Rattle.lists.proofs.Folds.{both_and, each_bad}
 use Rattle.telling.specs.Rows as Rows
 use Rattle.telling.specs.Rows.{control_at}
 

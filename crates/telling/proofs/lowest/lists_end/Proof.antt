@@ -1,6 +1,5 @@
 use borrow.Author.Rules.{rules}
 use Rattle.telling.proofs.Lows.{turns}
-use Rattle.telling.proofs.Walking.{control_low}
 use Rattle.telling.specs.Rows.{lowest_end}
 use Rattle.model.specs.Lists.{range}
 use lib.ListN.{length}

@@ -1,6 +1,5 @@
 use borrow.Author.Rules.{rules}
 use Rattle.telling.proofs.Meeting.{marchings}
-use Rattle.telling.proofs.Walking.{control_low}
 use Rattle.model.specs.Bytes as Model
 use Rattle.model.specs.Lists.{range}
 use lib.ListN.{length}

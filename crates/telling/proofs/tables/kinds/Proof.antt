@@ -1,6 +1,5 @@
 use borrow.Author.Rules.{rules}
 use Rattle.telling.proofs.Lows.{turns}
-use Rattle.telling.proofs.Walking.{control_low}
 use Rattle.model.specs.Judge as Judge
 use Rattle.model.specs.Map as Map
 use Rattle.model.specs.Store.{bytes}

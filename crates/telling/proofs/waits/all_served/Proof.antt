@@ -1,6 +1,5 @@
 use borrow.Author.Rules.{rules}
 use Rattle.telling.proofs.Lows.{turns}
-use Rattle.telling.proofs.Walking.{control_low}
 use Rattle.model.specs.Classes as Classes
 use Rattle.model.specs.Judge as Judge
 use Rattle.model.specs.Bytes as Model
