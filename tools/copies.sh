@@ -5,6 +5,7 @@ whole=''
 
 # have_proved [CRATE..]: these are proved as they are, or else all that crates.txt lists, as many at a time as there are lanes.
 have_proved() {
+    need_rt
     lock_all -x
     if [ $# -eq 0 ]; then
         run rt all check --jobs "$lanes" >"$work/proved" 2>&1 || { grep -vE ': ok$' "$work/proved" | tail -n 12 && give_up "without any edit not all is proved"; }
