@@ -5,6 +5,7 @@ whole=''
 
 # have_proved [CRATE..]: these are proved as they are, or else all that crates.txt lists, as many at a time as there are lanes.
 have_proved() {
+    need_rt
     lock_all -x
     if [ $# -eq 0 ]; then
         run rt all check --jobs "$lanes" >"$work/proved" 2>&1 || { grep -vE ': ok$' "$work/proved" | tail -n 12 && give_up "without any edit not all is proved"; }
@@ -15,10 +16,10 @@ have_proved() {
     done
 }
 
-# linked FROM TO: a copy by links, or where there can be none a plain one. Whoever changes such a file replaces it.
+# linked FROM TO: a copy of what rt made by links, or where there can be none a plain one. rt never writes into such a file, but replaces it.
 linked() { cp -Rl "$1" "$2" 2>/dev/null || { rm -rf "$2" && cp -R "$1" "$2"; }; }
 
-# kept FROM TO: a copy of what a proof left. rt replaces the files of checked modules, and may write into the others.
+# kept FROM TO: the same of what a proof left, of which that holds for the checked modules alone.
 kept() {
     linked "$1" "$2"
     find "$2" -type f ! -name '*.oantt' | while IFS= read -r kept_file; do cp -p "$kept_file" "$kept_file.own" && mv "$kept_file.own" "$kept_file"; done
@@ -27,7 +28,7 @@ kept() {
 # parts CRATE FOLDER: a copy of what is checked of a crate.
 parts() {
     mkdir -p "$2"
-    for checked_part in src specs proofs; do [ ! -d "$here/crates/$1/$checked_part" ] || linked "$here/crates/$1/$checked_part" "$2/$checked_part"; done
+    for checked_part in src specs proofs; do [ ! -d "$here/crates/$1/$checked_part" ] || cp -R "$here/crates/$1/$checked_part" "$2/$checked_part"; done
 }
 
 # bring CRATE ROOM: the crate stands there, as it is, over what its proof left; and what it stands on, built. What stood there of it is gone.

@@ -1,4 +1,4 @@
-// The public calls for hosts in C: each takes the memory as a pointer with a length, and answers with one number (specs/Encoded.antt, include/wik.h).
+// The public calls for hosts in C: each is lent the memory, and answers with one number (specs/Encoded.antt). `host_c` exports them (include/wik.h).
 #![tactic(auto)]
 
 ghost use Rattle.std.specs.Prelude.{◌≡◌, ◌<◌};
@@ -87,63 +87,55 @@ fn encode_writing(w: Writing) -> u64
     }
 }
 
-#[unsafe(no_mangle)]
-pub extern "C" fn wik_fresh(memory: &mut [u8], line: u16, divider: u16) -> u64
+pub fn wik_fresh(memory: &mut [u8], line: u16, divider: u16) -> u64
     ensures value { result ≡ encoded (answer_of (Model.fresh memory.old line divider)) }
     ensures memory_after { memory.new ≡ memory_of (Model.fresh memory.old line divider) }
 {
     encode(fresh(memory, line, divider))
 }
 
-#[unsafe(no_mangle)]
-pub extern "C" fn wik_fresh_from_settings(memory: &mut [u8], file: &[u8]) -> u64
+pub fn wik_fresh_from_settings(memory: &mut [u8], file: &[u8]) -> u64
     ensures value { result ≡ encoded (answer_of (Model.from_settings memory.old file.now)) }
     ensures memory_after { memory.new ≡ memory_of (Model.from_settings memory.old file.now) }
 {
     encode(fresh_from_settings(memory, file))
 }
 
-#[unsafe(no_mangle)]
-pub extern "C" fn wik_write_settings(file: &mut [u8], used: usize, block: &[u8]) -> u64
+pub fn wik_write_settings(file: &mut [u8], used: usize, block: &[u8]) -> u64
     ensures value { result ≡ encoded_writing (answer_of (Settings.write_settings file.old used block.now)) }
     ensures file_after { file.new ≡ memory_of (Settings.write_settings file.old used block.now) }
 {
     encode_writing(write_settings(file, used, block))
 }
 
-#[unsafe(no_mangle)]
-pub extern "C" fn wik_instruction(memory: &mut [u8]) -> u64
+pub fn wik_instruction(memory: &mut [u8]) -> u64
     ensures value { result ≡ encoded (answer_of (Model.instruction memory.old)) }
     ensures memory_after { memory.new ≡ memory_of (Model.instruction memory.old) }
 {
     encode(instruction(memory))
 }
 
-#[unsafe(no_mangle)]
-pub extern "C" fn wik_interrupt(memory: &mut [u8], number: u16, class: u16) -> u64
+pub fn wik_interrupt(memory: &mut [u8], number: u16, class: u16) -> u64
     ensures value { result ≡ encoded (answer_of (Model.interrupt memory.old number class)) }
     ensures memory_after { memory.new ≡ memory_of (Model.interrupt memory.old number class) }
 {
     encode(interrupt(memory, number, class))
 }
 
-#[unsafe(no_mangle)]
-pub extern "C" fn wik_burst(memory: &mut [u8], list: &[u8]) -> u64
+pub fn wik_burst(memory: &mut [u8], list: &[u8]) -> u64
     ensures value { result ≡ encoded (answer_of (Model.burst memory.old list.now)) }
     ensures memory_after { memory.new ≡ memory_of (Model.burst memory.old list.now) }
 {
     encode(burst(memory, list))
 }
 
-#[unsafe(no_mangle)]
-pub extern "C" fn wik_read_registers(memory: &[u8]) -> u64
+pub fn wik_read_registers(memory: &[u8]) -> u64
     ensures { result ≡ encoded_held (answer_of (Model.read_registers memory.now)) }
 {
     encode_held(read_registers(memory))
 }
 
-#[unsafe(no_mangle)]
-pub extern "C" fn wik_set_registers(
+pub fn wik_set_registers(
     memory: &mut [u8],
     a: u16,
     s: u16,
@@ -169,8 +161,7 @@ pub extern "C" fn wik_set_registers(
     encode(set_registers(memory, r))
 }
 
-#[unsafe(no_mangle)]
-pub extern "C" fn wik_judge(memory: &[u8]) -> u64
+pub fn wik_judge(memory: &[u8]) -> u64
     ensures { result ≡ encoded_verdict (answer_of (Model.judge memory.now)) }
 {
     encode_verdict(judge(memory))
