@@ -60,8 +60,8 @@ pub execute-returns-in-8 : goal.execute-returns-in-8
 unfolding Execute.run
 execute-returns-in-8 t c =
     elim c.in-8-1.branch [
-      execute-in-12-1 w ↦ search (rules, run_12)
-    | execute-in_default+then-code-lt10 w ↦ search (rules, run_low)
+      | execute-in-12-1 w ↦ search (rules, run_12)
+      | execute-in_default+then-code-lt10 w ↦ search (rules, run_low)
     ]
 
 pub exi_step-returns-then-depth-eq0 : goal.exi_step-returns-then-depth-eq0
