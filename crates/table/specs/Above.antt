@@ -5,7 +5,7 @@ use Rattle.model.specs.Store.{bytes}
 use Rattle.model.specs.Same.{by_trees}
 use Rattle.table.specs.Program.{win, sme, rme, st1, st2, crp, exi}
 use Rattle.table.specs.Script as Script
-use Rattle.table.specs.Script.{plays_from_zero, Script, ok, put_to_wait_lem, begins, begins_with_2, faulty, mailed}
+use Rattle.table.specs.Script.{plays_from_zero, Script, ok, put_to_wait, begins, begins_with_2, faulty, mailed}
 use Rattle.table.specs.Script.Line.{settles, step, signal, judges, host, made, has}
 
 -- ---- "CRP with a priority higher than that of the processor running it is now fault 13": by one, and the highest; nothing is created
@@ -119,18 +119,18 @@ tested_anew =
     (host 3000 (win 20 1 ++ rme 2 1 3300 ++ win 20 1 ++ st2 1 2800 ++ win 20 1)
     ∷ host 2800 (sme 1 5 3200)
     ∷ step ok
-    ∷ step put_to_wait_lem
+    ∷ step put_to_wait
     ∷ made (7 * 32 + 20) (0 ∷ 0 ∷ 0 ∷ [])
     ∷ made (237 * 32 + 6) (238 ∷ [])
     ∷ mailed 17 238
     (judges ok
-    ∷ step put_to_wait_lem
+    ∷ step put_to_wait
     ∷ has (7 * 32 + 20) (0 ∷ 255 ∷ 236 ∷ [])
     ∷ host 2756 ((2 * 16 + 0) ∷ [])
     ∷ signal 20 0 ok
     ∷ step ok
     ∷ has (10 * 32 + 1) (238 ∷ [])
-    ∷ step put_to_wait_lem
+    ∷ step put_to_wait
     ∷ has (7 * 32 + 24) (236 ∷ 17 ∷ [])
     ∷ step (13 ∷ 1 ∷ [])
     ∷ has (10 * 32 + 1) (238 ∷ [])
@@ -138,7 +138,7 @@ tested_anew =
     ∷ judges ok
     ∷ signal 20 0 ok
     ∷ step ok
-    ∷ step put_to_wait_lem
+    ∷ step put_to_wait
     ∷ step ok
     ∷ has (236 * 32 + 5) (238 ∷ [])
     ∷ has (238 * 32 + 0) (0 ∷ (1 * 16 + 5) ∷ 0 ∷ [])

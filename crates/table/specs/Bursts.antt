@@ -5,7 +5,7 @@ use Rattle.model.specs.Store.{bytes}
 use Rattle.model.specs.Same.{by_trees}
 use Rattle.table.specs.Program.{win, st1, crp}
 use Rattle.table.specs.Script as Script
-use Rattle.table.specs.Script.{plays_from_zero, Script, ok, put_to_wait_lem, begins}
+use Rattle.table.specs.Script.{plays_from_zero, Script, ok, put_to_wait, begins}
 use Rattle.table.specs.Script.Line.{step, signals, host, made, has}
 
 -- ---- what rows are made of
@@ -18,7 +18,7 @@ pairs (suc n) k c l = k ∷ c ∷ pairs n k c l
 abbrev pub two_wait : ℕ → ℕ → ℕ → ℕ → Script → Script
 two_wait k x j y s =
     begins (crp 2 1 0 3000 ++ st1 2 ++ win k x)
-    (host 3000 (win j y) ∷ step ok ∷ step ok ∷ step put_to_wait_lem ∷ step put_to_wait_lem ∷ has (7 * 32 + 24) (0 ∷ 0 ∷ []) ∷ s)
+    (host 3000 (win j y) ∷ step ok ∷ step ok ∷ step put_to_wait ∷ step put_to_wait ∷ has (7 * 32 + 24) (0 ∷ 0 ∷ []) ∷ s)
 
 -- ---- "who runs included": 2 is woken first and runs; 1, its equal and before it on the list, does not take over
 unfoldable pub who_after_each : Script

@@ -12,7 +12,7 @@ use Rattle.model.specs.declared.Line.TheVariants.{Word, Refused, RefusedAt, Proc
 use Rattle.model.specs.Differ.{lines, names_lines}
 use Rattle.table.specs.Program.{win, sme, wnm, rme, st1, crp}
 use Rattle.table.specs.Script as Script
-use Rattle.table.specs.Script.{Script, ok, put_to_wait_lem, registers, begins, begins_with_2, times, repeated, same_words, leads}
+use Rattle.table.specs.Script.{Script, ok, put_to_wait, registers, begins, begins_with_2, times, repeated, same_words, leads}
 use Rattle.table.specs.Script.Line.{step, sets, judges, host, made}
 
 -- ---- a line by numbers: of a word the address and both values; of all else a number over every address first
@@ -87,8 +87,8 @@ cleared = host 2752 (0 ∷ 0 ∷ 0 ∷ 0 ∷ 0 ∷ 0 ∷ 0 ∷ 0 ∷ 0 ∷ 0 ∷
 
 unfoldable pub one_output : Pair
 one_output = record {
-  first = both_begin (win 17 1) (step put_to_wait_lem ∷ host 3000 (2 ∷ []) ∷ cleared);
-  second = both_begin (sme 2 4 3100 ++ crp 3 1 0 3200 ++ win 18 1) (step ok ∷ step ok ∷ step put_to_wait_lem ∷ host 3000 (5 ∷ []) ∷ cleared);
+  first = both_begin (win 17 1) (step put_to_wait ∷ host 3000 (2 ∷ []) ∷ cleared);
+  second = both_begin (sme 2 4 3100 ++ crp 3 1 0 3200 ++ win 18 1) (step ok ∷ step ok ∷ step put_to_wait ∷ host 3000 (5 ∷ []) ∷ cleared);
   lines =
       (163 ∷ 255 ∷ 0 ∷ []) ∷ (164 ∷ 236 ∷ 0 ∷ []) ∷ (165 ∷ 0 ∷ 255 ∷ []) ∷ (166 ∷ 0 ∷ 236 ∷ []) ∷ (244 ∷ 239 ∷ 241 ∷ []) ∷ (245 ∷ 17 ∷ 15 ∷ [])
       ∷ (3000 ∷ 2 ∷ 5 ∷ []) ∷ (7563 ∷ 207 ∷ 216 ∷ []) ∷ (7585 ∷ 0 ∷ 240 ∷ []) ∷ (7616 ∷ 0 ∷ 239 ∷ []) ∷ (7648 ∷ 240 ∷ 0 ∷ []) ∷ (7649 ∷ 0 ∷ 20 ∷ [])
@@ -185,12 +185,12 @@ in_order_holds = by_trees (λ S. says S in_order) refl
 abbrev pub one_sent : Script
 one_sent = begins (sme 1 3 3100 ++ sme 1 4 3100) (host 3100 (1 ∷ 77 ∷ []) ∷ step ok ∷ [])
 
-unfoldable pub one_more_lem : Pair
-one_more_lem = record { first = one_sent; second = two_sent 3 4; lines = differs 1 0 0 1 0 ∷ [] }
+unfoldable pub one_more : Pair
+one_more = record { first = one_sent; second = two_sent 3 4; lines = differs 1 0 0 1 0 ∷ [] }
 
-pub one_more_holds : says bytes one_more_lem ≡ true
-unfolding says one_more_lem
-one_more_holds = by_trees (λ S. says S one_more_lem) refl
+pub one_more_holds : says bytes one_more ≡ true
+unfolding says one_more
+one_more_holds = by_trees (λ S. says S one_more) refl
 
 unfoldable pub one_fewer : Pair
 one_fewer = record { first = two_sent 3 4; second = one_sent; lines = differs 1 0 0 1 0 ∷ [] }
@@ -212,13 +212,13 @@ unfolding says each_by_itself
 each_by_itself_holds = by_trees (λ S. says S each_by_itself) refl
 
 -- ---- "its word 1 (sender, flag)": mail for 1 on page 238, by its word 1, its word 2 and its text
-abbrev pub mail_of_lem : ℕ → ℕ → List ℕ → Script
-mail_of_lem v w ws =
+abbrev pub mail_of : ℕ → ℕ → List ℕ → Script
+mail_of v w ws =
     begins_with_2 []
     (made (7 * 32 + 20) (239 ∷ 17 ∷ []) ∷ made (236 * 32 + 5) (238 ∷ []) ∷ made (238 * 32) (0 ∷ v ∷ w ∷ ws) ∷ [])
 
 unfoldable pub other_sender : Pair
-other_sender = record { first = mail_of_lem (2 * 16 + 3) 1 (77 ∷ []); second = mail_of_lem (1 * 16 + 3) 1 (77 ∷ []); lines = differs 1 0 0 1 0 ∷ [] }
+other_sender = record { first = mail_of (2 * 16 + 3) 1 (77 ∷ []); second = mail_of (1 * 16 + 3) 1 (77 ∷ []); lines = differs 1 0 0 1 0 ∷ [] }
 
 pub other_sender_holds : says bytes other_sender ≡ true
 unfolding says other_sender
@@ -226,7 +226,7 @@ other_sender_holds = by_trees (λ S. says S other_sender) refl
 
 -- "its word 2 whole (length, notice, and the mark ..)"
 abbrev pub mail_from_2 : ℕ → List ℕ → Script
-mail_from_2 w ws = mail_of_lem (2 * 16 + 3) w ws
+mail_from_2 w ws = mail_of (2 * 16 + 3) w ws
 
 unfoldable pub marked : Pair
 marked = record { first = mail_from_2 1 (77 ∷ []); second = mail_from_2 65 (77 ∷ []); lines = differs 1 0 0 1 0 ∷ [] }
@@ -283,20 +283,20 @@ unfolding says started
 started_holds = by_trees (λ S. says S started) refl
 
 -- "whether it is the one that runs": 1 and 2, both ready and of one priority; 2 runs in the second
-unfoldable pub who_runs_lem : Pair
-who_runs_lem = record {
+unfoldable pub who_runs : Pair
+who_runs = record {
   first = begins (crp 2 1 0 3000 ++ st1 2) (step ok ∷ step ok ∷ []);
   second = begins (crp 2 1 0 3000 ++ st1 2) (step ok ∷ step ok ∷ made (7 * 32 + 24) (237 ∷ 18 ∷ []) ∷ []);
   lines = differs 1 1 0 0 0 ∷ differs 2 1 0 0 0 ∷ [];
 }
 
-pub who_runs_holds : says bytes who_runs_lem ≡ true
-unfolding says who_runs_lem
-who_runs_holds = by_trees (λ S. says S who_runs_lem) refl
+pub who_runs_holds : says bytes who_runs ≡ true
+unfolding says who_runs
+who_runs_holds = by_trees (λ S. says S who_runs) refl
 
 -- "the queue it waits in (interrupt 1-54 ..) and its reason, word 2"
 abbrev pub waits : ℕ → ℕ → Script
-waits k c = begins (win k c) (step put_to_wait_lem ∷ [])
+waits k c = begins (win k c) (step put_to_wait ∷ [])
 
 unfoldable pub other_queue : Pair
 other_queue = record { first = waits 17 1; second = waits 18 1; lines = differs 1 1 0 0 0 ∷ [] }
@@ -316,41 +316,41 @@ other_reason_holds = by_trees (λ S. says S other_reason) refl
 abbrev pub two_wait : ℕ → ℕ → Script
 two_wait n o =
     begins (crp n 1 0 3000 ++ crp o 1 0 3000 ++ st1 n ++ st1 o ++ wnm 0 0)
-    (host 3000 (wnm 0 0) ∷ step ok ∷ step ok ∷ step ok ∷ step ok ∷ step put_to_wait_lem ∷ step put_to_wait_lem ∷ step put_to_wait_lem ∷ [])
+    (host 3000 (wnm 0 0) ∷ step ok ∷ step ok ∷ step ok ∷ step ok ∷ step put_to_wait ∷ step put_to_wait ∷ step put_to_wait ∷ [])
 
-unfoldable pub message_wait_lem : Pair
-message_wait_lem = record { first = two_wait 2 3; second = two_wait 3 2; lines = [] }
+unfoldable pub message_wait : Pair
+message_wait = record { first = two_wait 2 3; second = two_wait 3 2; lines = [] }
 
-pub message_wait_holds : says bytes message_wait_lem ≡ true
-unfolding says message_wait_lem
-message_wait_holds = by_trees (λ S. says S message_wait_lem) refl
+pub message_wait_holds : says bytes message_wait ≡ true
+unfolding says message_wait
+message_wait_holds = by_trees (λ S. says S message_wait) refl
 
 -- "for a page": no page is left; 2 asks for one in the first, and waits for any message in the second, both with reason 0
 abbrev pub none_left : List ℕ → Script
 none_left ws =
     begins (crp 2 1 0 3000 ++ st1 2 ++ repeated 18 (sme 1 3 3100) ++ win 17 1)
-    (host 3000 ws ∷ step ok ∷ step ok ∷ (times 18 (step ok ∷ []) ++ (step put_to_wait_lem ∷ step put_to_wait_lem ∷ [])))
+    (host 3000 ws ∷ step ok ∷ step ok ∷ (times 18 (step ok ∷ []) ++ (step put_to_wait ∷ step put_to_wait ∷ [])))
 
-unfoldable pub page_wait_lem : Pair
+unfoldable pub page_wait : Pair
 unfolding times repeated
-page_wait_lem = record { first = none_left (sme 1 3 3100); second = none_left (wnm 0 0); lines = differs 2 1 0 0 0 ∷ [] }
+page_wait = record { first = none_left (sme 1 3 3100); second = none_left (wnm 0 0); lines = differs 2 1 0 0 0 ∷ [] }
 
-pub page_wait_holds : says bytes page_wait_lem ≡ true
-unfolding says page_wait_lem
-page_wait_holds = by_trees (λ S. says S page_wait_lem) refl
+pub page_wait_holds : says bytes page_wait ≡ true
+unfolding says page_wait
+page_wait_holds = by_trees (λ S. says S page_wait) refl
 
 -- "Not the place in that queue": 1 and 2 wait for interrupt 17, the other way round
 unfoldable pub other_place : Pair
 other_place = record {
   first =
-      begins (crp 2 1 0 3000 ++ st1 2 ++ win 17 1) (host 3000 (win 17 1) ∷ step ok ∷ step ok ∷ step put_to_wait_lem ∷ step put_to_wait_lem ∷ []);
+      begins (crp 2 1 0 3000 ++ st1 2 ++ win 17 1) (host 3000 (win 17 1) ∷ step ok ∷ step ok ∷ step put_to_wait ∷ step put_to_wait ∷ []);
   second =
       begins (crp 2 1 0 3000 ++ st1 2 ++ win 17 1)
       (host 3000 (win 17 1)
       ∷ step ok
       ∷ step ok
-      ∷ step put_to_wait_lem
-      ∷ step put_to_wait_lem
+      ∷ step put_to_wait
+      ∷ step put_to_wait
       ∷ made (5 * 32 + 4) (237 ∷ [])
       ∷ made (236 * 32) (0 ∷ [])
       ∷ made (237 * 32) (236 ∷ [])
@@ -386,8 +386,8 @@ unfolding says only_in_one
 only_in_one_holds = by_trees (λ S. says S only_in_one) refl
 
 -- 15 is the last name: all that is printed, with its page
-unfoldable pub last_name_lem : Pair
-last_name_lem = record {
+unfoldable pub last_name : Pair
+last_name = record {
   first = begins (crp 15 1 0 3000) [];
   second = begins (crp 15 1 0 3000) (step ok ∷ []);
   lines =
@@ -395,9 +395,9 @@ last_name_lem = record {
       ∷ (7594 ∷ 0 ∷ 11 ∷ []) ∷ (7595 ∷ 0 ∷ 184 ∷ []) ∷ (7596 ∷ 0 ∷ 128 ∷ []) ∷ only_in 15 Second ∷ [];
 }
 
-pub last_name_holds : prints bytes last_name_lem ≡ true
-unfolding prints last_name_lem
-last_name_holds = by_trees (λ S. prints S last_name_lem) refl
+pub last_name_holds : prints bytes last_name ≡ true
+unfolding prints last_name
+last_name_holds = by_trees (λ S. prints S last_name) refl
 
 -- ---- "if either file isn't 8,192 bytes, only 20 and which file": none and one word; none and 8,192; and the other way round
 abbrev pub sizes : List (List (List ℕ))

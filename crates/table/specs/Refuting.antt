@@ -5,7 +5,7 @@ use Rattle.model.specs.Store.{bytes}
 use Rattle.model.specs.Same.{by_trees}
 use Rattle.table.specs.Program.{win, sme, wnm, rme, tme, st1, crp, dep, exi}
 use Rattle.table.specs.Script as Script
-use Rattle.table.specs.Script.{plays_from_zero, Script, ok, put_to_wait_lem, registers, begins, begins_with_2, mailed}
+use Rattle.table.specs.Script.{plays_from_zero, Script, ok, put_to_wait, registers, begins, begins_with_2, mailed}
 use Rattle.table.specs.Script.Line.{step, signal, sets, judges, host, made, has}
 
 -- ---- deleting
@@ -130,16 +130,16 @@ unfolding Script.plays_from_zero saved_words
 saved_words_holds = by_trees (λ S. plays_from_zero S saved_words) refl
 
 -- "The processor list links through word 1, all else through word 0."
-unfoldable pub list_link_lem : Script
-list_link_lem = begins (crp 2 1 0 3000) (step ok ∷ has (236 * 32 + 0) (0 ∷ 237 ∷ []) ∷ [])
+unfoldable pub list_link : Script
+list_link = begins (crp 2 1 0 3000) (step ok ∷ has (236 * 32 + 0) (0 ∷ 237 ∷ []) ∷ [])
 
-pub list_link_holds : plays_from_zero bytes list_link_lem ≡ true
-unfolding Script.plays_from_zero list_link_lem
-list_link_holds = by_trees (λ S. plays_from_zero S list_link_lem) refl
+pub list_link_holds : plays_from_zero bytes list_link ≡ true
+unfolding Script.plays_from_zero list_link
+list_link_holds = by_trees (λ S. plays_from_zero S list_link) refl
 
 -- "an interrupt's is minus its waiters"
 unfoldable pub forgets_semaphore : Script
-forgets_semaphore = begins (win 20 1) (step put_to_wait_lem ∷ signal 20 0 ok ∷ has (4 * 32 + (2 * 20 + 1)) (0 ∷ 0 ∷ []) ∷ [])
+forgets_semaphore = begins (win 20 1) (step put_to_wait ∷ signal 20 0 ok ∷ has (4 * 32 + (2 * 20 + 1)) (0 ∷ 0 ∷ []) ∷ [])
 
 pub forgets_semaphore_holds : plays_from_zero bytes forgets_semaphore ≡ true
 unfolding Script.plays_from_zero forgets_semaphore

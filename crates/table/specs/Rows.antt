@@ -5,7 +5,7 @@ use Rattle.model.specs.Store.{bytes}
 use Rattle.model.specs.Same.{by_trees}
 use Rattle.table.specs.Program.{win, sme, wnm, rme, st1, stp, dep, code}
 use Rattle.table.specs.Script as Script
-use Rattle.table.specs.Script.{plays_all, Script, ok, put_to_wait_lem, begins, begins_with_2, times, repeated, faulty}
+use Rattle.table.specs.Script.{plays_all, Script, ok, put_to_wait, begins, begins_with_2, times, repeated, faulty}
 use Rattle.table.specs.Script.Line.{fresh_start, step, reads, judges, host, has}
 
 -- (a) "Fresh, line 16, divider 5: page 7 words 15-27 are 16,0,0,0,0,237,19,0,236,236,17,0,5; page 236 words 7-12 are 17,0,0,10,192,0."
@@ -84,7 +84,7 @@ row_d1 =
 unfoldable pub row_e54 : Script
 row_e54 =
     begins (win 54 2)
-    (step put_to_wait_lem
+    (step put_to_wait
     ∷ has (236 * 32 + 2) (2 ∷ 0 ∷ 0 ∷ [])
     ∷ has (236 * 32 + 10) (10 ∷ 196 ∷ 64 ∷ [])
     ∷ has (4 * 32 + (2 * 54 + 1)) (255 ∷ 236 ∷ [])

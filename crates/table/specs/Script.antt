@@ -157,8 +157,8 @@ module _ (S : Store) where
 abbrev pub ok : List ℕ
 ok = 0 ∷ []
 
-abbrev pub put_to_wait_lem : List ℕ
-put_to_wait_lem = 60 ∷ []
+abbrev pub put_to_wait : List ℕ
+put_to_wait = 60 ∷ []
 
 abbrev pub registers : ℕ → ℕ → ℕ → ℕ → ℕ → ℕ → ℕ → Registers
 registers a s p z c l w = record { a = a; s = s; p = p; z = z; ci = c; lr = l; w = w; stopped = 0 }
