@@ -43,7 +43,8 @@ bring() {
         mkdir "$2/crates/$lower/out"
         linked "$here/crates/$lower/out/rlib" "$2/crates/$lower/out/rlib"
     done
-    list "$2"
+    # another crate may stand there without those that it stands on
+    list "$2" "$1"
 }
 
 # check CRATE ROOM LOG [COMMAND]: checks the crate of that room, or has rt do something else with it. What is said goes to the log.
