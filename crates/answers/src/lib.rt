@@ -7,14 +7,14 @@ ghost use Rattle.model.specs.Map as Map;
 ghost use Rattle.model.specs.Answer.Outcome.{gives};
 ghost use Rattle.model.specs.Bytes as Model;
 
-use model::{Answer, Name, map, wide};
+use model::{Answer, Memory, Name, map, wide};
 use processors::{advance, name, put_to_wait, running, set_lr, stop};
 use turn::who_runs;
 use words::{at, write};
 
 // LR grows by the length.
-pub fn done(m: &mut [u8], length: u16) -> Answer
-    requires { (List.length m.old ≡ 8192) × (length < 8192) }
+pub fn done(m: &mut Memory, length: u16) -> Answer
+    requires { length < 8192 }
     ensures { gives result m.new ≡ Model.done m.old length }
 {
     advance(m, length);
@@ -23,8 +23,7 @@ pub fn done(m: &mut [u8], length: u16) -> Answer
 }
 
 // LR becomes the address.
-pub fn jump(m: &mut [u8], address: u16) -> Answer
-    requires { List.length m.old ≡ 8192 }
+pub fn jump(m: &mut Memory, address: u16) -> Answer
     ensures { gives result m.new ≡ Model.jumps m.old address }
 {
     let p = running(m);
@@ -34,8 +33,8 @@ pub fn jump(m: &mut [u8], address: u16) -> Answer
 }
 
 // The runner waits in the queue of the semaphore, for a reason.
-pub fn wait(m: &mut [u8], semaphore: u16, reason: u8) -> Answer
-    requires { (List.length m.old ≡ 8192) × (semaphore < 8191) }
+pub fn wait(m: &mut Memory, semaphore: u16, reason: u8) -> Answer
+    requires { semaphore < 8191 }
     ensures { gives result m.new ≡ Model.waits m.old semaphore reason }
 {
     let p = running(m);
@@ -45,16 +44,14 @@ pub fn wait(m: &mut [u8], semaphore: u16, reason: u8) -> Answer
 }
 
 // The runner waits for a page, LR staying.
-pub fn wait_for_page(m: &mut [u8]) -> Answer
-    requires { List.length m.old ≡ 8192 }
+pub fn wait_for_page(m: &mut Memory) -> Answer
     ensures { gives result m.new ≡ Model.waits_for_page m.old }
 {
     wait(m, map::FREE_SEMAPHORE, 0)
 }
 
 // "Page 9": the entry is made while there is room.
-fn enter(m: &mut [u8], entry: u8)
-    requires { List.length m.old ≡ 8192 }
+fn enter(m: &mut Memory, entry: u8)
     ensures { m.new ≡ Model.entered m.old entry }
 {
     let n = at(m, map::FIRST_UNUSED);
@@ -65,8 +62,8 @@ fn enter(m: &mut [u8], entry: u8)
 }
 
 // The runner is stopped, and the fault is entered on page 9; its name.
-fn stop_runner(m: &mut [u8], number: u8) -> Name
-    requires { (List.length m.old ≡ 8192) × (number < 16) }
+fn stop_runner(m: &mut Memory, number: u8) -> Name
+    requires { number < 16 }
     ensures { (m.new ≡ Model.entered (Model.stop m.old (Model.running m.old)) (Map.pair result.0 number))
         × (result.0 ≡ Model.name m.old (Model.running m.old)) }
 {
@@ -79,8 +76,8 @@ fn stop_runner(m: &mut [u8], number: u8) -> Name
 }
 
 // A fault: who runs is looked at, and the answer gives its number and the name.
-pub fn fault(m: &mut [u8], number: u8) -> Answer
-    requires { (List.length m.old ≡ 8192) × (number < 16) }
+pub fn fault(m: &mut Memory, number: u8) -> Answer
+    requires { number < 16 }
     ensures { gives result m.new ≡ Model.fault m.old number }
 {
     let n = stop_runner(m, number);

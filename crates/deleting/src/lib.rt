@@ -6,15 +6,14 @@ ghost use Rattle.std.specs.Prelude.{◌≡◌, ◌<◌, length, eqb};
 ghost use Rattle.model.specs.Bytes as Model;
 
 use mail::{deliver, make_notice};
-use model::{ControlPage, Name, map, wide};
+use model::{ControlPage, Memory, Name, map, wide};
 use pages::give_back;
 use processors::{leave_wait, name, page_of};
 use queues::leave;
 use words::{at, write};
 
 // The processor of the page leaves any wait queue, not woken, and the processor list.
-fn unlist(m: &mut [u8], page: ControlPage)
-    requires { length m.old ≡ 8192 }
+fn unlist(m: &mut Memory, page: ControlPage)
     ensures { m.new ≡ Model.unlisted m.old page.0 }
 {
     leave_wait(m, page);
@@ -22,8 +21,7 @@ fn unlist(m: &mut [u8], page: ControlPage)
 }
 
 // Whether the message has that name as its sender.
-fn is_from(m: &[u8], name: Name, message: ControlPage) -> bool
-    requires { length m.now ≡ 8192 }
+fn is_from(m: &Memory, name: Name, message: ControlPage) -> bool
     ensures { result ≡ eqb (Model.sender m.now message.0) name.0 }
 {
     let note = message.word(m, map::NOTE);
@@ -31,8 +29,7 @@ fn is_from(m: &[u8], name: Name, message: ControlPage) -> bool
 }
 
 // The message is marked, if it is unmarked mail with that name as its sender.
-fn mark(m: &mut [u8], name: Name, message: ControlPage)
-    requires { length m.old ≡ 8192 }
+fn mark(m: &mut Memory, name: Name, message: ControlPage)
     ensures { m.new ≡ Model.marked m.old name.0 message.0 }
 {
     let size = message.word(m, map::SIZE);
@@ -44,8 +41,8 @@ fn mark(m: &mut [u8], name: Name, message: ControlPage)
 }
 
 // Every message that hangs from the cell.
-fn mark_from(m: &mut [u8], name: Name, cell: u16, left: u8)
-    requires { (length m.old ≡ 8192) × (cell < 8192) }
+fn mark_from(m: &mut Memory, name: Name, cell: u16, left: u8)
+    requires { cell < 8192 }
     ensures { m.new ≡ Model.marked_from left m.old name.0 cell }
 {
     if left == 0 {
@@ -60,8 +57,7 @@ fn mark_from(m: &mut [u8], name: Name, cell: u16, left: u8)
 }
 
 // Every message of Q1 and Q2 of the processor of the page.
-fn mark_mail(m: &mut [u8], name: Name, page: ControlPage)
-    requires { length m.old ≡ 8192 }
+fn mark_mail(m: &mut Memory, name: Name, page: ControlPage)
     ensures { m.new ≡ Model.mail_marked m.old name.0 page.0 }
 {
     mark_from(m, name, page.place(map::Q1), map::CONTROL_PAGES);
@@ -69,8 +65,8 @@ fn mark_mail(m: &mut [u8], name: Name, page: ControlPage)
 }
 
 // Of every processor that hangs from the cell.
-fn mark_all(m: &mut [u8], name: Name, cell: u16, left: u8)
-    requires { (length m.old ≡ 8192) × (cell < 8192) }
+fn mark_all(m: &mut Memory, name: Name, cell: u16, left: u8)
+    requires { cell < 8192 }
     ensures { m.new ≡ Model.all_marked left m.old name.0 cell }
 {
     if left == 0 {
@@ -85,8 +81,7 @@ fn mark_all(m: &mut [u8], name: Name, cell: u16, left: u8)
 }
 
 // Every message that the name sent: of all processors on the list, and of the one of the page, which has left it.
-fn mark_sent(m: &mut [u8], name: Name, page: ControlPage)
-    requires { length m.old ≡ 8192 }
+fn mark_sent(m: &mut Memory, name: Name, page: ControlPage)
     ensures { m.new ≡ Model.sent_marked m.old name.0 page.0 }
 {
     mark_all(m, name, map::PROCESSOR_LIST, map::CONTROL_PAGES);
@@ -95,8 +90,8 @@ fn mark_sent(m: &mut [u8], name: Name, page: ControlPage)
 
 // The message becomes a notice from that name to its sender.
 #[tactic(auto, unfolding(model::specs::Delete::noticed))]
-fn notify(m: &mut [u8], name: Name, message: ControlPage, sender: ControlPage)
-    requires { (length m.old ≡ 8192) × (name.0 < 16) }
+fn notify(m: &mut Memory, name: Name, message: ControlPage, sender: ControlPage)
+    requires { name.0 < 16 }
     ensures { m.new ≡ Model.noticed m.old name.0 message.0 sender.0 }
 {
     let note = message.word(m, map::NOTE);
@@ -105,8 +100,8 @@ fn notify(m: &mut [u8], name: Name, message: ControlPage, sender: ControlPage)
 }
 
 // A message of the deleted processor of that name: unmarked, it is a notice to its sender if there is one; else given back.
-fn return_message(m: &mut [u8], name: Name, message: ControlPage)
-    requires { (length m.old ≡ 8192) × (name.0 < 16) }
+fn return_message(m: &mut Memory, name: Name, message: ControlPage)
+    requires { name.0 < 16 }
     ensures { m.new ≡ Model.returned m.old name.0 message.0 }
 {
     let size = message.word(m, map::SIZE);
@@ -124,8 +119,8 @@ fn return_message(m: &mut [u8], name: Name, message: ControlPage)
 }
 
 // Every message of the queue of the header, from the front.
-fn empty(m: &mut [u8], name: Name, header: u16, left: u8)
-    requires { (length m.old ≡ 8192) × (name.0 < 16) × (header < 8192) }
+fn empty(m: &mut Memory, name: Name, header: u16, left: u8)
+    requires { (name.0 < 16) × (header < 8192) }
     ensures { m.new ≡ Model.emptied left m.old name.0 header }
 {
     if left == 0 {
@@ -142,8 +137,8 @@ fn empty(m: &mut [u8], name: Name, header: u16, left: u8)
 
 // Q2 then Q1 of the processor of the page.
 #[tactic(auto, unfolding(model::specs::Delete::mail_returned))]
-fn return_mail(m: &mut [u8], name: Name, page: ControlPage)
-    requires { (length m.old ≡ 8192) × (name.0 < 16) }
+fn return_mail(m: &mut Memory, name: Name, page: ControlPage)
+    requires { name.0 < 16 }
     ensures { m.new ≡ Model.mail_returned m.old name.0 page.0 }
 {
     empty(m, name, page.place(map::Q2), map::CONTROL_PAGES);
@@ -151,8 +146,8 @@ fn return_mail(m: &mut [u8], name: Name, page: ControlPage)
 }
 
 // What that name sent is marked, then the mail of the processor of the page is returned.
-fn settle_mail(m: &mut [u8], name: Name, page: ControlPage)
-    requires { (length m.old ≡ 8192) × (name.0 < 16) }
+fn settle_mail(m: &mut Memory, name: Name, page: ControlPage)
+    requires { name.0 < 16 }
     ensures { m.new ≡ Model.mail_settled m.old name.0 page.0 }
 {
     mark_sent(m, name, page);
@@ -160,8 +155,8 @@ fn settle_mail(m: &mut [u8], name: Name, page: ControlPage)
 }
 
 // The grant of the processor of that name is given back.
-fn return_grant(m: &mut [u8], name: Name)
-    requires { (length m.old ≡ 8192) × (name.0 < 16) }
+fn return_grant(m: &mut Memory, name: Name)
+    requires { name.0 < 16 }
     ensures { m.new ≡ Model.grant_returned m.old name.0 }
 {
     let grant = map::GRANTS + wide(name.0);
@@ -174,8 +169,7 @@ fn return_grant(m: &mut [u8], name: Name)
 }
 
 // The processor of the page is deleted.
-pub fn delete(m: &mut [u8], page: ControlPage)
-    requires { length m.old ≡ 8192 }
+pub fn delete(m: &mut Memory, page: ControlPage)
     ensures { m.new ≡ Model.delete m.old page.0 }
 {
     let n = name(m, page);

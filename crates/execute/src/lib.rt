@@ -11,13 +11,12 @@ use answers::fault;
 use arguments::{count_for, direct, length_for, pointed, shape_for, within};
 use codes::{cvi, dvi, gin, indexed, kind, program, thirteen, win};
 use creating::{crp, named, st2};
-use model::{Answer, Arguments, Name, faults, instructions, map, refusals, wide};
+use model::{Answer, Arguments, Memory, Name, faults, instructions, map, refusals, wide};
 use sending::{rme, sme, tme, wnm};
 use words::{at, clear, guarded, wrapped};
 
 // A code that is not built in: an own one is handed out, with its program's address and this one; else it is absent.
-fn foreign(m: &mut [u8], code: u8, address: u16) -> Answer
-    requires { List.length m.old ≡ 8192 }
+fn foreign(m: &mut Memory, code: u8, address: u16) -> Answer
     ensures { gives result m.new ≡ Model.foreign m.old code address }
 {
     let k = kind(m, code);
@@ -29,8 +28,7 @@ fn foreign(m: &mut [u8], code: u8, address: u16) -> Answer
 }
 
 // Whether EXI meets a code that is not built in; an EXI of EXI is left to the depth.
-fn is_foreign(m: &[u8], code: u8) -> bool
-    requires { List.length m.now ≡ 8192 }
+fn is_foreign(m: &Memory, code: u8) -> bool
     ensures { result ≡ Model.is_foreign m.now code }
 {
     if code == instructions::EXI {
@@ -44,8 +42,8 @@ fn is_foreign(m: &[u8], code: u8) -> bool
 }
 
 // The fault in EXI's argument words; 0: none.
-fn argument_fault(m: &[u8], code: u8, start: u16) -> u8
-    requires { (List.length m.now ≡ 8192) × (start < 8192) }
+fn argument_fault(m: &Memory, code: u8, start: u16) -> u8
+    requires { start < 8192 }
     ensures { (result ≡ Model.argument_fault m.now code start) × (result < 16) }
 {
     if code == instructions::EXI {
@@ -71,8 +69,8 @@ fn exi_length() -> u16
 
 // The instruction with the code and what it is given; depth more EXIs are allowed.
 #[cycle(execute_exi_step)]
-pub fn execute(m: &mut [u8], code: u8, given: Arguments, length: u16, depth: u8) -> Answer
-    requires { (List.length m.old ≡ 8192) × (given.field < 16) × (given.second < 16) × (given.w < 16) × (given.address < 8192) × (length < 8192) }
+pub fn execute(m: &mut Memory, code: u8, given: Arguments, length: u16, depth: u8) -> Answer
+    requires { (given.field < 16) × (given.second < 16) × (given.w < 16) × (given.address < 8192) × (length < 8192) }
     ensures { gives result m.new ≡ Model.execute depth m.old code given length }
 {
     match code {
@@ -107,8 +105,8 @@ pub fn execute(m: &mut [u8], code: u8, given: Arguments, length: u16, depth: u8)
 
 // EXI: it runs another instruction by the same rules, and advances by 4.
 #[cycle(execute_exi_step)]
-fn exi_step(m: &mut [u8], given: Arguments, depth: u8) -> Answer
-    requires { (List.length m.old ≡ 8192) × (given.field < 16) × (given.second < 16) × (given.w < 16) × (given.address < 8192) }
+fn exi_step(m: &mut Memory, given: Arguments, depth: u8) -> Answer
+    requires { (given.field < 16) × (given.second < 16) × (given.w < 16) × (given.address < 8192) }
     ensures { gives result m.new ≡ Model.exi depth m.old given }
 {
     if depth == 0 {
@@ -129,8 +127,8 @@ fn exi_step(m: &mut [u8], given: Arguments, depth: u8) -> Answer
 }
 
 // The instruction at the address with that code, which is built in.
-fn taken(m: &mut [u8], address: u16, code: u8) -> Answer
-    requires { (List.length m.old ≡ 8192) × (address < 8192) }
+fn taken(m: &mut Memory, address: u16, code: u8) -> Answer
+    requires { address < 8192 }
     ensures { gives result m.new ≡ Model.taken m.old address code }
 {
     let length = length_for(code);
@@ -143,8 +141,8 @@ fn taken(m: &mut [u8], address: u16, code: u8) -> Answer
     fault(m, faults::PROTECTED)
 }
 
-fn decoded(m: &mut [u8], address: u16, code: u8) -> Answer
-    requires { (List.length m.old ≡ 8192) × (address < 8192) }
+fn decoded(m: &mut Memory, address: u16, code: u8) -> Answer
+    requires { address < 8192 }
     ensures { gives result m.new ≡ Model.decoded m.old address code }
 {
     let k = kind(m, code);
@@ -155,8 +153,8 @@ fn decoded(m: &mut [u8], address: u16, code: u8) -> Answer
     foreign(m, code, a)
 }
 
-fn coded(m: &mut [u8], address: u16) -> Answer
-    requires { (List.length m.old ≡ 8192) × (address < 8192) }
+fn coded(m: &mut Memory, address: u16) -> Answer
+    requires { address < 8192 }
     ensures { gives result m.new ≡ Model.coded m.old address }
 {
     let a = wrapped(address, 1);
@@ -168,8 +166,8 @@ fn coded(m: &mut [u8], address: u16) -> Answer
 }
 
 // The instruction at the address.
-pub fn fetched(m: &mut [u8], address: u16) -> Answer
-    requires { (List.length m.old ≡ 8192) × (address < 8192) }
+pub fn fetched(m: &mut Memory, address: u16) -> Answer
+    requires { address < 8192 }
     ensures { gives result m.new ≡ Model.fetched m.old address }
 {
     if guarded(address) {

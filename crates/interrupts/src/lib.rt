@@ -4,13 +4,12 @@
 ghost use Rattle.std.specs.Prelude.{◌≡◌, cond, ◌<◌, ◌≤◌, length};
 ghost use Rattle.model.specs.Bytes as Model;
 
-use model::{ControlPage, map, wide};
+use model::{ControlPage, Memory, map, wide};
 use processors::{accumulate, wake};
 use words::{at, lowered, raised, write};
 
 // The class number goes into A of the page, for interrupts 48-50.
-fn put_class(m: &mut [u8], interrupt: u8, class: u8, page: ControlPage)
-    requires { length m.old ≡ 8192 }
+fn put_class(m: &mut Memory, interrupt: u8, class: u8, page: ControlPage)
     ensures { m.new ≡ Model.classed m.old interrupt class page.0 }
 {
     if interrupt < map::FIRST_CLASSED {
@@ -23,8 +22,8 @@ fn put_class(m: &mut [u8], interrupt: u8, class: u8, page: ControlPage)
 }
 
 // A waiter: reason 1 wakes and leaves, else the reason falls by one.
-fn strike(m: &mut [u8], interrupt: u8, class: u8, page: ControlPage)
-    requires { (length m.old ≡ 8192) × (interrupt ≤ 54) }
+fn strike(m: &mut Memory, interrupt: u8, class: u8, page: ControlPage)
+    requires { interrupt ≤ 54 }
     ensures { m.new ≡ Model.struck m.old interrupt class page.0 }
 {
     let reason = page.word(m, map::REASON);
@@ -37,8 +36,8 @@ fn strike(m: &mut [u8], interrupt: u8, class: u8, page: ControlPage)
 }
 
 // The waiters from the page on; the next is read before it leaves.
-fn serve_from(m: &mut [u8], interrupt: u8, class: u8, page: ControlPage, left: u8)
-    requires { (length m.old ≡ 8192) × (interrupt ≤ 54) }
+fn serve_from(m: &mut Memory, interrupt: u8, class: u8, page: ControlPage, left: u8)
+    requires { interrupt ≤ 54 }
     ensures { m.new ≡ Model.served_from left m.old interrupt class page.0 }
 {
     if left == 0 {
@@ -54,8 +53,8 @@ fn serve_from(m: &mut [u8], interrupt: u8, class: u8, page: ControlPage, left: u
 
 // The interrupt is served, with its class number.
 #[tactic(auto, unfolding(model::specs::Interrupt::serve))]
-pub fn serve(m: &mut [u8], interrupt: u8, class: u8)
-    requires { (length m.old ≡ 8192) × (interrupt ≤ 54) }
+pub fn serve(m: &mut Memory, interrupt: u8, class: u8)
+    requires { interrupt ≤ 54 }
     ensures { m.new ≡ Model.serve m.old interrupt class }
 {
     let p = at(m, map::HEADERS + 2 * wide(interrupt));
@@ -63,8 +62,8 @@ pub fn serve(m: &mut [u8], interrupt: u8, class: u8)
 }
 
 // A counter counts. Whether it came to its end: there it is 0 and the interrupt is served.
-fn tick(m: &mut [u8], counter: u16, end: u8, interrupt: u8) -> bool
-    requires { (length m.old ≡ 8192) × (counter < 8192) × (interrupt ≤ 54) }
+fn tick(m: &mut Memory, counter: u16, end: u8, interrupt: u8) -> bool
+    requires { (counter < 8192) × (interrupt ≤ 54) }
     ensures { (result ≡ Model.ends m.old counter end)
         × (m.new ≡ cond result (Model.turns m.old counter interrupt) (Model.counts m.old counter)) }
 {
@@ -80,16 +79,14 @@ fn tick(m: &mut [u8], counter: u16, end: u8, interrupt: u8) -> bool
 
 // The counters C3 to C0.
 #[tactic(auto, using(crate::proofs::Laws::interrupts), unfolding(model::specs::Interrupt::c3_counts))]
-fn c3_counts(m: &mut [u8])
-    requires { length m.old ≡ 8192 }
+fn c3_counts(m: &mut Memory)
     ensures { m.new ≡ Model.c3_counts m.old }
 {
     tick(m, map::C3, map::C3_END, map::C3_INTERRUPT);
 }
 
 #[tactic(auto, unfolding(model::specs::Interrupt::c2_counts))]
-fn c2_counts(m: &mut [u8])
-    requires { length m.old ≡ 8192 }
+fn c2_counts(m: &mut Memory)
     ensures { m.new ≡ Model.c2_counts m.old }
 {
     if tick(m, map::C2, map::C2_END, map::C2_INTERRUPT) {
@@ -98,8 +95,7 @@ fn c2_counts(m: &mut [u8])
 }
 
 #[tactic(auto, unfolding(model::specs::Interrupt::c1_counts))]
-fn c1_counts(m: &mut [u8])
-    requires { length m.old ≡ 8192 }
+fn c1_counts(m: &mut Memory)
     ensures { m.new ≡ Model.c1_counts m.old }
 {
     if tick(m, map::C1, map::C1_END, map::C1_INTERRUPT) {
@@ -108,8 +104,7 @@ fn c1_counts(m: &mut [u8])
 }
 
 #[tactic(auto, unfolding(model::specs::Interrupt::c0_counts))]
-fn c0_counts(m: &mut [u8])
-    requires { length m.old ≡ 8192 }
+fn c0_counts(m: &mut Memory)
     ensures { m.new ≡ Model.c0_counts m.old }
 {
     let d = at(m, map::DIVIDER);
@@ -120,8 +115,8 @@ fn c0_counts(m: &mut [u8])
 
 // An interrupt from outside; on the clock line it is served, then C0 counts.
 #[tactic(auto, using(crate::proofs::Laws::interrupts))]
-pub fn deliver(m: &mut [u8], interrupt: u8, class: u8)
-    requires { (length m.old ≡ 8192) × (interrupt ≤ 54) }
+pub fn deliver(m: &mut Memory, interrupt: u8, class: u8)
+    requires { interrupt ≤ 54 }
     ensures { m.new ≡ Model.delivered m.old interrupt class }
 {
     let line = at(m, map::CLOCK_LINE);

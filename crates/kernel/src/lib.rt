@@ -12,7 +12,7 @@ ghost use Rattle.kernel.specs.Spoken.{spoken};
 use arrivals::{burst_judged, interrupt_judged};
 use execute::fetched;
 use fresh::{start, startable};
-use model::{Answer, Finding, Fit, Held, Registers, Verdict, Writing, map, refusals};
+use model::{Answer, Finding, Fit, Held, Memory, Registers, Verdict, Writing, map, refusals};
 use processors::{lr, running};
 use settings::file::{newest, of_file};
 use settling::settle;
@@ -70,8 +70,7 @@ fn finding(m: &[u8]) -> Finding
     telling::finding(m)
 }
 
-fn instruction_judged(m: &mut [u8]) -> Answer
-    requires { length m.old ≡ 8192 }
+fn instruction_judged(m: &mut Memory) -> Answer
     ensures { gives result m.new ≡ Model.instruction_judged m.old }
 {
     let p = running(m);
@@ -119,8 +118,7 @@ pub fn burst(m: &mut [u8], list: &[u8]) -> Answer
     }
 }
 
-fn read_judged(m: &[u8]) -> Held
-    requires { length m.now ≡ 8192 }
+fn read_judged(m: &Memory) -> Held
     ensures { gives result m.now ≡ Model.read_judged m.now }
 {
     let p = running(m);
@@ -142,8 +140,7 @@ pub fn read_registers(m: &[u8]) -> Held
     }
 }
 
-fn set_judged(m: &mut [u8], registers: Registers) -> Answer
-    requires { length m.old ≡ 8192 }
+fn set_judged(m: &mut Memory, registers: Registers) -> Answer
     ensures { gives result m.new ≡ Model.set_judged m.old registers }
 {
     let p = running(m);

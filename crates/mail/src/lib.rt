@@ -9,7 +9,7 @@ ghost use Rattle.model.specs.Mail.Tested.{tested};
 ghost use Rattle.model.specs.Bytes as Model;
 ghost use Rattle.mail.specs.Head.{head_out};
 
-use model::{ControlPage, Name, map};
+use model::{ControlPage, Memory, Name, map};
 use processors::{name, running, wake};
 use queues::{join, leave};
 use words::{at, copy, wrapped, write};
@@ -35,8 +35,7 @@ pub fn fits(name: Name, flag: u8, note: u8) -> bool
 }
 
 // Whether they ask for the message.
-fn matches(m: &[u8], name: Name, flag: u8, message: ControlPage) -> bool
-    requires { length m.now ≡ 8192 }
+fn matches(m: &Memory, name: Name, flag: u8, message: ControlPage) -> bool
     ensures { result ≡ Model.matches m.now name.0 flag message.0 }
 {
     let note = message.word(m, map::NOTE);
@@ -44,8 +43,8 @@ fn matches(m: &[u8], name: Name, flag: u8, message: ControlPage) -> bool
 }
 
 // The first match of the messages that hang from the cell; page 0: none.
-fn find_message(m: &[u8], name: Name, flag: u8, cell: u16, left: u8) -> ControlPage
-    requires { (length m.now ≡ 8192) × (cell < 8192) }
+fn find_message(m: &Memory, name: Name, flag: u8, cell: u16, left: u8) -> ControlPage
+    requires { cell < 8192 }
     ensures { result.0 ≡ Queue.first (Model.matches m.now name.0 flag) (Model.walk left m.now Map.link cell) }
 {
     if left == 0 {
@@ -62,16 +61,14 @@ fn find_message(m: &[u8], name: Name, flag: u8, cell: u16, left: u8) -> ControlP
 }
 
 // The first match in Q1, in Q2, of the running processor; page 0: none.
-pub fn in_q1(m: &[u8], name: Name, flag: u8) -> ControlPage
-    requires { length m.now ≡ 8192 }
+pub fn in_q1(m: &Memory, name: Name, flag: u8) -> ControlPage
     ensures { result.0 ≡ Model.in_q1 m.now name.0 flag }
 {
     let p = running(m);
     find_message(m, name, flag, p.place(map::Q1), map::CONTROL_PAGES)
 }
 
-pub fn in_q2(m: &[u8], name: Name, flag: u8) -> ControlPage
-    requires { length m.now ≡ 8192 }
+pub fn in_q2(m: &Memory, name: Name, flag: u8) -> ControlPage
     ensures { result.0 ≡ Model.in_q2 m.now name.0 flag }
 {
     let p = running(m);
@@ -79,8 +76,7 @@ pub fn in_q2(m: &[u8], name: Name, flag: u8) -> ControlPage
 }
 
 // Whether the processor of the page waits for the message.
-pub fn awaits(m: &[u8], page: ControlPage, message: ControlPage) -> bool
-    requires { length m.now ≡ 8192 }
+pub fn awaits(m: &Memory, page: ControlPage, message: ControlPage) -> bool
     ensures { result ≡ Model.awaits m.now page.0 message.0 }
 {
     let own = page.word(m, map::OWN_QUEUE);
@@ -92,8 +88,7 @@ pub fn awaits(m: &[u8], page: ControlPage, message: ControlPage) -> bool
 }
 
 // It wakes if it waits for the message.
-fn heard(m: &mut [u8], page: ControlPage, message: ControlPage)
-    requires { length m.old ≡ 8192 }
+fn heard(m: &mut Memory, page: ControlPage, message: ControlPage)
     ensures { m.new ≡ Model.heard m.old page.0 message.0 }
 {
     if awaits(m, page, message) {
@@ -102,8 +97,7 @@ fn heard(m: &mut [u8], page: ControlPage, message: ControlPage)
 }
 
 // The message joins Q1 of the processor of the page, which wakes if it waits for it.
-pub fn deliver(m: &mut [u8], page: ControlPage, message: ControlPage)
-    requires { length m.old ≡ 8192 }
+pub fn deliver(m: &mut Memory, page: ControlPage, message: ControlPage)
     ensures { m.new ≡ Model.deliver m.old page.0 message.0 }
 {
     join(m, page.place(map::Q1), map::LINK, message);
@@ -111,8 +105,8 @@ pub fn deliver(m: &mut [u8], page: ControlPage, message: ControlPage)
 }
 
 // The page becomes the running processor's message, with the text of that size from the address on.
-pub fn write_message(m: &mut [u8], page: ControlPage, flag: u8, address: u16, size: u8)
-    requires { (length m.old ≡ 8192) × (flag < 16) × (address < 8192) }
+pub fn write_message(m: &mut Memory, page: ControlPage, flag: u8, address: u16, size: u8)
+    requires { (flag < 16) × (address < 8192) }
     ensures { m.new ≡ Model.write_message m.old page.0 flag address size }
 {
     let p = running(m);
@@ -123,8 +117,8 @@ pub fn write_message(m: &mut [u8], page: ControlPage, flag: u8, address: u16, si
 }
 
 // The page becomes a notice with that sender and flag.
-pub fn make_notice(m: &mut [u8], page: ControlPage, name: Name, flag: u8)
-    requires { (length m.old ≡ 8192) × (name.0 < 16) × (flag < 16) }
+pub fn make_notice(m: &mut Memory, page: ControlPage, name: Name, flag: u8)
+    requires { (name.0 < 16) × (flag < 16) }
     ensures { m.new ≡ Model.make_notice m.old page.0 name.0 flag }
 {
     let sender = name.0;
@@ -133,8 +127,7 @@ pub fn make_notice(m: &mut [u8], page: ControlPage, name: Name, flag: u8)
 }
 
 // The message goes from Q1 of the processor of the page to the end of its Q2.
-pub fn move_message(m: &mut [u8], page: ControlPage, message: ControlPage)
-    requires { length m.old ≡ 8192 }
+pub fn move_message(m: &mut Memory, page: ControlPage, message: ControlPage)
     ensures { m.new ≡ Model.move m.old page.0 message.0 }
 {
     leave(m, page.place(map::Q1), map::LINK, message);
@@ -142,8 +135,7 @@ pub fn move_message(m: &mut [u8], page: ControlPage, message: ControlPage)
 }
 
 // The messages of Q1 are tested in order, and go to Q2, the first match too; whether there is one.
-pub fn test_q1(m: &mut [u8], page: ControlPage, name: Name, flag: u8, left: u8) -> bool
-    requires { length m.old ≡ 8192 }
+pub fn test_q1(m: &mut Memory, page: ControlPage, name: Name, flag: u8, left: u8) -> bool
     ensures { tested result m.new ≡ Model.test_q1 left m.old page.0 name.0 flag }
 {
     if left == 0 {
@@ -162,8 +154,8 @@ pub fn test_q1(m: &mut [u8], page: ControlPage, name: Name, flag: u8, left: u8) 
 }
 
 // Sender, flag and length of the message go to the address on.
-fn copy_head(m: &mut [u8], message: ControlPage, address: u16)
-    requires { (length m.old ≡ 8192) × (address < 8192) }
+fn copy_head(m: &mut Memory, message: ControlPage, address: u16)
+    requires { address < 8192 }
     ensures { m.new ≡ head_out m.old message.0 address }
 {
     let note = message.word(m, map::NOTE);
@@ -175,8 +167,8 @@ fn copy_head(m: &mut [u8], message: ControlPage, address: u16)
 
 // And its text behind them.
 #[tactic(auto, unfolding(model::specs::Mail::copy_out))]
-pub fn copy_out(m: &mut [u8], message: ControlPage, address: u16)
-    requires { (length m.old ≡ 8192) × (address < 8192) }
+pub fn copy_out(m: &mut Memory, message: ControlPage, address: u16)
+    requires { address < 8192 }
     ensures { m.new ≡ Model.copy_out m.old message.0 address }
 {
     let size = message.word(m, map::SIZE) % map::MARK;

@@ -11,6 +11,9 @@ ghost use Rattle.std.specs.Prelude.{◌≡◌, ◌<◌, ◌+◌, ◌*◌, length
 ghost use Rattle.model.specs.Processor as Processor;
 ghost use Rattle.model.specs.Bytes as Model;
 
+// "8,192 words of 8 bits".
+pub type Memory = [u8; map::MEMORY_WORDS];
+
 // A control page's number, and a processor's name: both small, never mixed.
 #[derive(Clone, Copy)]
 pub struct ControlPage(pub u8);
@@ -172,8 +175,8 @@ pub enum Line {
 
 impl ControlPage {
     // A word of the page, by its number.
-    pub fn word(self, m: &[u8], number: u16) -> u8
-        requires { (length m.now ≡ 8192) × (number < 32) }
+    pub fn word(self, m: &Memory, number: u16) -> u8
+        requires { number < 32 }
         ensures { result ≡ Model.word m.now self.0 number }
     {
         let n = self.0;
@@ -182,8 +185,8 @@ impl ControlPage {
     }
 
     // The value becomes that word of the page.
-    pub fn store(self, m: &mut [u8], word: u16, value: u8)
-        requires { (length m.old ≡ 8192) × (word < 32) }
+    pub fn store(self, m: &mut Memory, word: u16, value: u8)
+        requires { word < 32 }
         ensures { m.new ≡ Model.store m.old self.0 word value }
     {
         let n = self.0;
@@ -209,8 +212,8 @@ pub fn wide(x: u8) -> u16
 
 impl Registers {
     // The registers of the processor of a page.
-    pub fn of(m: &[u8], page: ControlPage) -> Self
-        requires { length m.now ≡ 8192 }
+    #[tactic(auto, unfolding(crate::specs::Processor::registers_of))]
+    pub fn of(m: &Memory, page: ControlPage) -> Self
         ensures { (result ≡ Model.registers_of m.now page.0) × (result.lr < 8192) × (result.a < 256) }
     {
         let a = wide(page.word(m, map::WORD_A));
@@ -293,8 +296,8 @@ impl Registers {
     }
 
     // P, Z, CI and LR, words 10 and 11 of a page, each modulo its field.
-    fn set_flags_lr(self, m: &mut [u8], page: ControlPage)
-        requires { length m.old ≡ 8192 }
+    #[tactic(auto, unfolding(crate::specs::Processor::set_flags_lr))]
+    fn set_flags_lr(self, m: &mut Memory, page: ControlPage)
         ensures { m.new ≡ Model.set_flags_lr m.old page.0 self }
     {
         let h = self.p % map::BITS * map::P_BIT
@@ -306,8 +309,8 @@ impl Registers {
     }
 
     // The seven registers go to a page: words 8-11 and the low four bits of word 12.
-    pub fn set_on(self, m: &mut [u8], page: ControlPage)
-        requires { length m.old ≡ 8192 }
+    #[tactic(auto, unfolding(crate::specs::Processor::set_registers_of, crate::specs::Processor::set_flags_lr))]
+    pub fn set_on(self, m: &mut Memory, page: ControlPage)
         ensures { m.new ≡ Model.set_registers_of m.old page.0 self }
     {
         page.store(m, map::WORD_A, (self.a % map::WORD_VALUES) as u8);
@@ -322,8 +325,8 @@ impl Registers {
     }
 
     // The record is handed back to its page whole, the stopped bit too.
-    pub fn hand_back(self, m: &mut [u8], page: ControlPage)
-        requires { length m.old ≡ 8192 }
+    #[tactic(auto, unfolding(crate::specs::Processor::hand_back, crate::specs::Processor::set_registers_of, crate::specs::Processor::set_flags_lr))]
+    pub fn hand_back(self, m: &mut Memory, page: ControlPage)
         ensures { m.new ≡ Model.hand_back m.old page.0 self }
     {
         self.set_on(m, page);
@@ -336,6 +339,7 @@ impl Registers {
     }
 
     // Whether each value fits its register.
+    #[tactic(auto, using(crate::proofs::Tests::tests), unfolding(crate::specs::Processor::in_range))]
     pub fn in_range(self) -> bool
         ensures { result ≡ Processor.in_range self }
     {

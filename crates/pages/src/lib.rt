@@ -5,15 +5,14 @@ ghost use Rattle.std.specs.Prelude.{◌≡◌, length};
 ghost use Rattle.model.specs.Page.Taken.{took};
 ghost use Rattle.model.specs.Bytes as Model;
 
-use model::{ControlPage, map, wide};
+use model::{ControlPage, Memory, map, wide};
 use processors::{name, wake};
 use queues::{join, leave};
 use words::{at, lowered, raised, write};
 
 // The page leaves the free list.
 #[tactic(auto, unfolding(model::specs::Page::take_free))]
-fn take_free(m: &mut [u8], page: ControlPage)
-    requires { length m.old ≡ 8192 }
+fn take_free(m: &mut Memory, page: ControlPage)
     ensures { m.new ≡ Model.take_free m.old page.0 }
 {
     let v = at(m, map::FREE_SEMAPHORE);
@@ -22,8 +21,7 @@ fn take_free(m: &mut [u8], page: ControlPage)
 }
 
 // The first free page is taken; page 0: there is none.
-pub fn first_free(m: &mut [u8]) -> ControlPage
-    requires { length m.old ≡ 8192 }
+pub fn first_free(m: &mut Memory) -> ControlPage
     ensures { took result.0 m.new ≡ Model.first_free m.old }
 {
     let q = at(m, map::FREE_LIST);
@@ -35,8 +33,7 @@ pub fn first_free(m: &mut [u8]) -> ControlPage
 }
 
 // The page that the processor of a page may use is taken: its grant, else the first free one; page 0: there is none.
-pub fn take_page(m: &mut [u8], page: ControlPage) -> ControlPage
-    requires { length m.old ≡ 8192 }
+pub fn take_page(m: &mut Memory, page: ControlPage) -> ControlPage
     ensures { took result.0 m.new ≡ Model.take_page m.old page.0 }
 {
     let n = name(m, page);
@@ -51,8 +48,7 @@ pub fn take_page(m: &mut [u8], page: ControlPage) -> ControlPage
 
 // The page goes to the end of the free list.
 #[tactic(auto, unfolding(model::specs::Page::free_page))]
-fn free_page(m: &mut [u8], page: ControlPage)
-    requires { length m.old ≡ 8192 }
+fn free_page(m: &mut Memory, page: ControlPage)
     ensures { m.new ≡ Model.free_page m.old page.0 }
 {
     let v = at(m, map::FREE_SEMAPHORE);
@@ -62,8 +58,7 @@ fn free_page(m: &mut [u8], page: ControlPage)
 
 // The page becomes the grant of the waiter, which wakes.
 #[tactic(auto, unfolding(model::specs::Page::grant_page))]
-fn grant_page(m: &mut [u8], waiter: ControlPage, page: ControlPage)
-    requires { length m.old ≡ 8192 }
+fn grant_page(m: &mut Memory, waiter: ControlPage, page: ControlPage)
     ensures { m.new ≡ Model.grant_page m.old waiter.0 page.0 }
 {
     let n = name(m, waiter);
@@ -73,8 +68,7 @@ fn grant_page(m: &mut [u8], waiter: ControlPage, page: ControlPage)
 }
 
 // The page is given back: to the first waiter as its grant, else to the end of the free list.
-pub fn give_back(m: &mut [u8], page: ControlPage)
-    requires { length m.old ≡ 8192 }
+pub fn give_back(m: &mut Memory, page: ControlPage)
     ensures { m.new ≡ Model.give_back m.old page.0 }
 {
     let p = at(m, map::PAGE_QUEUE);

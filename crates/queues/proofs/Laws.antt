@@ -1,8 +1,9 @@
 -- A law for each way through the walks along links. Those of `walk` and `first` serve every recursion that looks for a page.
-use Prim.Native.Nat.{ℕ, zero, suc, ◌-◌}
+use Prim.Native.Nat.{ℕ, zero, suc, ◌-◌, ◌<◌}
 use mathlib.Core.Path.{◌≡◌, refl}
 use mathlib.Core.Bool.{Bool, true, false}
-use mathlib.Core.List.{[], ◌∷◌}
+use mathlib.Core.List.{List, [], ◌∷◌}
+use lib.ListN.{length}
 use borrow.Author.Tests.{eq-eqb, ne_eqb}
 use native.Mathlib.Numerals.{sub-one}
 use native.Mathlib.Omega.{arith}
@@ -47,6 +48,10 @@ pub walk_on : (n : ℕ) (m : Memory) (k a w b : ℕ) → (n ≡ 0 → ⊥) → w
 unfolding Queue.walk
 walk_on zero m k a w b o e z eb = absurd (o refl)
 walk_on (suc n) m k a w b o e z eb = rw (← e, ne_eqb w 0 z, Queue.walk, ← e, ← eb, sub-one)
+
+-- a list that has given one has fewer left
+pub fewer : {s t : List ℕ} {x : ℕ} → s ≡ x ∷ t → length t < length s
+fewer e = rw e (omega arith)
 
 module _ (t : ℕ → Bool) (n : ℕ) (m : Memory) (k a : ℕ) where
   pub first_none : n ≡ 0 → 0 ≡ first t (walk n m k a)

@@ -8,15 +8,15 @@ ghost use Rattle.model.specs.Bytes as Model;
 
 use answers::{done, fault, jump, wait, wait_for_page};
 use mail::{copy_out, deliver, in_q1, in_q2, make_notice, move_message, test_q1, write_message};
-use model::{Answer, ControlPage, Name, faults, map};
+use model::{Answer, ControlPage, Memory, Name, faults, map};
 use pages::{give_back, take_page};
 use processors::{page_of, running};
 use queues::leave;
 use words::{at, clear, guarded, wrapped};
 
 // The page is posted to the processor of that name, with the text of that size behind the address; where there is none, it comes back as a notice.
-fn post(m: &mut [u8], page: ControlPage, name: Name, flag: u8, address: u16, size: u8)
-    requires { (List.length m.old ≡ 8192) × (name.0 < 16) × (flag < 16) × (address < 8192) }
+fn post(m: &mut Memory, page: ControlPage, name: Name, flag: u8, address: u16, size: u8)
+    requires { (name.0 < 16) × (flag < 16) × (address < 8192) }
     ensures { m.new ≡ Model.posted m.old page.0 name.0 flag address size }
 {
     let p = page_of(m, name);
@@ -31,8 +31,8 @@ fn post(m: &mut [u8], page: ControlPage, name: Name, flag: u8, address: u16, siz
 }
 
 // A page is taken and posted; with none, the runner waits for one.
-fn send(m: &mut [u8], name: Name, flag: u8, address: u16, size: u8, length: u16) -> Answer
-    requires { (List.length m.old ≡ 8192) × (name.0 < 16) × (flag < 16) × (address < 8192) × (length < 8192) }
+fn send(m: &mut Memory, name: Name, flag: u8, address: u16, size: u8, length: u16) -> Answer
+    requires { (name.0 < 16) × (flag < 16) × (address < 8192) × (length < 8192) }
     ensures { gives result m.new ≡ Model.sent m.old name.0 flag address size length }
 {
     let r = running(m);
@@ -44,8 +44,8 @@ fn send(m: &mut [u8], name: Name, flag: u8, address: u16, size: u8, length: u16)
     done(m, length)
 }
 
-fn sme_text(m: &mut [u8], name: Name, flag: u8, address: u16, length: u16) -> Answer
-    requires { (List.length m.old ≡ 8192) × (name.0 < 16) × (flag < 16) × (address < 8192) × (length < 8192) }
+fn sme_text(m: &mut Memory, name: Name, flag: u8, address: u16, length: u16) -> Answer
+    requires { (name.0 < 16) × (flag < 16) × (address < 8192) × (length < 8192) }
     ensures { gives result m.new ≡ Model.sme_text m.old name.0 flag address length }
 {
     let size = at(m, address);
@@ -59,8 +59,8 @@ fn sme_text(m: &mut [u8], name: Name, flag: u8, address: u16, length: u16) -> An
     fault(m, faults::PROTECTED)
 }
 
-pub fn sme(m: &mut [u8], name: Name, flag: u8, address: u16, length: u16) -> Answer
-    requires { (List.length m.old ≡ 8192) × (name.0 < 16) × (flag < 16) × (address < 8192) × (length < 8192) }
+pub fn sme(m: &mut Memory, name: Name, flag: u8, address: u16, length: u16) -> Answer
+    requires { (name.0 < 16) × (flag < 16) × (address < 8192) × (length < 8192) }
     ensures { gives result m.new ≡ Model.sme m.old name.0 flag address length }
 {
     if name.0 == 0 {
@@ -75,8 +75,8 @@ pub fn sme(m: &mut [u8], name: Name, flag: u8, address: u16, length: u16) -> Ans
     sme_text(m, name, flag, address, length)
 }
 
-pub fn wnm(m: &mut [u8], name: Name, flag: u8, length: u16) -> Answer
-    requires { (List.length m.old ≡ 8192) × (name.0 < 16) × (flag < 16) × (length < 8192) }
+pub fn wnm(m: &mut Memory, name: Name, flag: u8, length: u16) -> Answer
+    requires { (name.0 < 16) × (flag < 16) × (length < 8192) }
     ensures { gives result m.new ≡ Model.wnm m.old name.0 flag length }
 {
     let r = running(m);
@@ -90,8 +90,8 @@ pub fn wnm(m: &mut [u8], name: Name, flag: u8, length: u16) -> Answer
 }
 
 // The message is read: copied out, unlinked, its page given back.
-fn receive(m: &mut [u8], message: ControlPage, address: u16)
-    requires { (List.length m.old ≡ 8192) × (address < 8192) }
+fn receive(m: &mut Memory, message: ControlPage, address: u16)
+    requires { address < 8192 }
     ensures { m.new ≡ Model.received m.old message.0 address }
 {
     let r = running(m);
@@ -100,8 +100,8 @@ fn receive(m: &mut [u8], message: ControlPage, address: u16)
     give_back(m, message);
 }
 
-pub fn rme(m: &mut [u8], name: Name, flag: u8, address: u16, length: u16) -> Answer
-    requires { (List.length m.old ≡ 8192) × (address < 8192) × (length < 8192) }
+pub fn rme(m: &mut Memory, name: Name, flag: u8, address: u16, length: u16) -> Answer
+    requires { (address < 8192) × (length < 8192) }
     ensures { gives result m.new ≡ Model.rme m.old name.0 flag address length }
 {
     let message = in_q2(m, name, flag);
@@ -116,8 +116,8 @@ pub fn rme(m: &mut [u8], name: Name, flag: u8, address: u16, length: u16) -> Ans
     fault(m, faults::PROTECTED)
 }
 
-fn tme_q1(m: &mut [u8], name: Name, flag: u8, address: u16, length: u16) -> Answer
-    requires { (List.length m.old ≡ 8192) × (length < 8192) }
+fn tme_q1(m: &mut Memory, name: Name, flag: u8, address: u16, length: u16) -> Answer
+    requires { length < 8192 }
     ensures { gives result m.new ≡ Model.tme_q1 m.old name.0 flag address length }
 {
     let r = running(m);
@@ -127,8 +127,8 @@ fn tme_q1(m: &mut [u8], name: Name, flag: u8, address: u16, length: u16) -> Answ
     done(m, length)
 }
 
-pub fn tme(m: &mut [u8], name: Name, flag: u8, address: u16, length: u16) -> Answer
-    requires { (List.length m.old ≡ 8192) × (length < 8192) }
+pub fn tme(m: &mut Memory, name: Name, flag: u8, address: u16, length: u16) -> Answer
+    requires { length < 8192 }
     ensures { gives result m.new ≡ Model.tme m.old name.0 flag address length }
 {
     let q = in_q2(m, name, flag);

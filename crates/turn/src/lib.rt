@@ -7,13 +7,12 @@ ghost use Rattle.model.specs.Turn as Turn;
 ghost use Rattle.model.specs.Bytes as Model;
 ghost use Rattle.turn.specs.Words.{read_zero, read_kept};
 
-use model::{Context, ControlPage, Registers, map};
+use model::{Context, ControlPage, Memory, Registers, map};
 use processors::{priority, ready, running};
 use words::{at, write};
 
 // The running one if it is ready, else page 0.
-fn stays(m: &[u8], page: ControlPage) -> ControlPage
-    requires { length m.now ≡ 8192 }
+fn stays(m: &Memory, page: ControlPage) -> ControlPage
     ensures { result.0 ≡ Model.stays m.now page.0 }
 {
     if page.0 == 0 {
@@ -26,8 +25,7 @@ fn stays(m: &[u8], page: ControlPage) -> ControlPage
 }
 
 // Whether its priority is above the leader's; page 0 is below all.
-fn above(m: &[u8], leader: ControlPage, page: ControlPage) -> bool
-    requires { length m.now ≡ 8192 }
+fn above(m: &Memory, leader: ControlPage, page: ControlPage) -> bool
     ensures { result ≡ Model.above m.now leader.0 page.0 }
 {
     if leader.0 == 0 {
@@ -37,8 +35,7 @@ fn above(m: &[u8], leader: ControlPage, page: ControlPage) -> bool
 }
 
 // The page if it is ready and above the leader, else that.
-fn better(m: &[u8], leader: ControlPage, page: ControlPage) -> ControlPage
-    requires { length m.now ≡ 8192 }
+fn better(m: &Memory, leader: ControlPage, page: ControlPage) -> ControlPage
     ensures { result.0 ≡ Model.better m.now leader.0 page.0 }
 {
     if ready(m, page) {
@@ -51,8 +48,8 @@ fn better(m: &[u8], leader: ControlPage, page: ControlPage) -> ControlPage
 }
 
 // The best of the leader and those that hang from the cell along the processor list.
-fn best(m: &[u8], leader: ControlPage, cell: u16, left: u8) -> ControlPage
-    requires { (length m.now ≡ 8192) × (cell < 8192) }
+fn best(m: &Memory, leader: ControlPage, cell: u16, left: u8) -> ControlPage
+    requires { cell < 8192 }
     ensures { result.0 ≡ Turn.fold (Model.better m.now) leader.0 (Model.walk left m.now Map.list_link cell) }
 {
     if left == 0 {
@@ -67,8 +64,7 @@ fn best(m: &[u8], leader: ControlPage, cell: u16, left: u8) -> ControlPage
 }
 
 // Who is to run; page 0: nobody.
-fn chosen(m: &[u8]) -> ControlPage
-    requires { length m.now ≡ 8192 }
+fn chosen(m: &Memory) -> ControlPage
     ensures { result.0 ≡ Model.chosen m.now }
 {
     let r = running(m);
@@ -99,8 +95,8 @@ fn with_word(words: [u8; map::KEPT_WORDS], index: u16, value: u8) -> [u8; map::K
 }
 
 // So many of the words, from the first on, as they stand on page 0, on the page.
-fn read_zero(m: &[u8], words: [u8; map::KEPT_WORDS], count: u16) -> [u8; map::KEPT_WORDS]
-    requires { (length m.now ≡ 8192) × (count ≤ 19) }
+fn read_zero(m: &Memory, words: [u8; map::KEPT_WORDS], count: u16) -> [u8; map::KEPT_WORDS]
+    requires { count ≤ 19 }
     ensures { result ≡ read_zero count m.now words }
 {
     if count == 0 {
@@ -112,12 +108,12 @@ fn read_zero(m: &[u8], words: [u8; map::KEPT_WORDS], count: u16) -> [u8; map::KE
 }
 
 fn read_kept(
-    m: &[u8],
+    m: &Memory,
     page: ControlPage,
     words: [u8; map::KEPT_WORDS],
     count: u16,
 ) -> [u8; map::KEPT_WORDS]
-    requires { (length m.now ≡ 8192) × (count ≤ 19) }
+    requires { count ≤ 19 }
     ensures { result ≡ read_kept count m.now page.0 words }
 {
     if count == 0 {
@@ -129,23 +125,20 @@ fn read_kept(
 }
 
 // The nineteen words on page 0, and those that a page keeps.
-fn on_page0(m: &[u8]) -> [u8; map::KEPT_WORDS]
-    requires { length m.now ≡ 8192 }
+fn on_page0(m: &Memory) -> [u8; map::KEPT_WORDS]
     ensures { result ≡ Model.on_page0 m.now }
 {
     read_zero(m, [0; map::KEPT_WORDS], map::KEPT_COUNT)
 }
 
-fn kept_on(m: &[u8], page: ControlPage) -> [u8; map::KEPT_WORDS]
-    requires { length m.now ≡ 8192 }
+fn kept_on(m: &Memory, page: ControlPage) -> [u8; map::KEPT_WORDS]
     ensures { result ≡ Model.kept_on m.now page.0 }
 {
     read_kept(m, page, [0; map::KEPT_WORDS], map::KEPT_COUNT)
 }
 
 // The context of the processor of a page, while it runs and while another runs.
-pub fn context_of(m: &[u8], page: ControlPage) -> Context
-    requires { length m.now ≡ 8192 }
+pub fn context_of(m: &Memory, page: ControlPage) -> Context
     ensures { result ≡ Model.context_of m.now page.0 }
 {
     let registers = Registers::of(m, page);
@@ -153,8 +146,7 @@ pub fn context_of(m: &[u8], page: ControlPage) -> Context
     Context { registers, words }
 }
 
-pub fn saved_of(m: &[u8], page: ControlPage) -> Context
-    requires { length m.now ≡ 8192 }
+pub fn saved_of(m: &Memory, page: ControlPage) -> Context
     ensures { result ≡ Model.saved_of m.now page.0 }
 {
     let registers = Registers::of(m, page);
@@ -163,8 +155,8 @@ pub fn saved_of(m: &[u8], page: ControlPage) -> Context
 }
 
 // So many of the words, from the first on, go to the page, to page 0.
-fn keep(m: &mut [u8], page: ControlPage, words: [u8; map::KEPT_WORDS], count: u16)
-    requires { (length m.old ≡ 8192) × (count ≤ 19) }
+fn keep(m: &mut Memory, page: ControlPage, words: [u8; map::KEPT_WORDS], count: u16)
+    requires { count ≤ 19 }
     ensures { m.new ≡ Model.kept count m.old page.0 words }
 {
     if count == 0 {
@@ -175,8 +167,8 @@ fn keep(m: &mut [u8], page: ControlPage, words: [u8; map::KEPT_WORDS], count: u1
     keep(m, page, words, i);
 }
 
-fn restore(m: &mut [u8], words: [u8; map::KEPT_WORDS], count: u16)
-    requires { (length m.old ≡ 8192) × (count ≤ 19) }
+fn restore(m: &mut Memory, words: [u8; map::KEPT_WORDS], count: u16)
+    requires { count ≤ 19 }
     ensures { m.new ≡ Model.restored count m.old words }
 {
     if count == 0 {
@@ -189,8 +181,7 @@ fn restore(m: &mut [u8], words: [u8; map::KEPT_WORDS], count: u16)
 }
 
 // A context is taken and put back whole: page 0's words are saved to the page, are loaded from it, and its registers go back to it.
-fn save(m: &mut [u8], page: ControlPage)
-    requires { length m.old ≡ 8192 }
+fn save(m: &mut Memory, page: ControlPage)
     ensures { m.new ≡ Model.save m.old page.0 }
 {
     if page.0 == 0 {
@@ -203,8 +194,7 @@ fn save(m: &mut [u8], page: ControlPage)
     keep(m, page, words, map::KEPT_COUNT);
 }
 
-fn load(m: &mut [u8], page: ControlPage)
-    requires { length m.old ≡ 8192 }
+fn load(m: &mut Memory, page: ControlPage)
     ensures { m.new ≡ Model.load m.old page.0 }
 {
     if page.0 == 0 {
@@ -218,8 +208,7 @@ fn load(m: &mut [u8], page: ControlPage)
 }
 
 // The priority and name of a page; of page 0, 0.
-fn label(m: &[u8], page: ControlPage) -> u8
-    requires { length m.now ≡ 8192 }
+fn label(m: &Memory, page: ControlPage) -> u8
     ensures { result ≡ cond (eqb page.0 0) 0 (Model.word m.now page.0 Map.label) }
 {
     if page.0 == 0 {
@@ -229,8 +218,7 @@ fn label(m: &[u8], page: ControlPage) -> u8
 }
 
 // The page runs; page 0: nobody.
-pub fn runs(m: &mut [u8], page: ControlPage)
-    requires { length m.old ≡ 8192 }
+pub fn runs(m: &mut Memory, page: ControlPage)
     ensures { m.new ≡ Model.runs m.old page.0 }
 {
     let w = label(m, page);
@@ -238,8 +226,7 @@ pub fn runs(m: &mut [u8], page: ControlPage)
     write(m, map::RUNNING_LABEL, w);
 }
 
-fn switch(m: &mut [u8], old: ControlPage, new: ControlPage)
-    requires { length m.old ≡ 8192 }
+fn switch(m: &mut Memory, old: ControlPage, new: ControlPage)
     ensures { m.new ≡ Model.switch m.old old.0 new.0 }
 {
     if old.0 == new.0 {
@@ -251,8 +238,7 @@ fn switch(m: &mut [u8], old: ControlPage, new: ControlPage)
 }
 
 // Who runs, after each call.
-pub fn who_runs(m: &mut [u8])
-    requires { length m.old ≡ 8192 }
+pub fn who_runs(m: &mut Memory)
     ensures { m.new ≡ Model.who_runs m.old }
 {
     let r = running(m);
