@@ -2,7 +2,7 @@
 use Prim.Native.Nat.{ℕ, ◌+◌, ◌≤◌, ◌<◌}
 use mathlib.Core.Path.{◌≡◌}
 use borrow.Author.Tests.{lt-ltb, le-ltb, eq-eqb, ne_eqb}
-use Rattle.model.specs.declared.Answer.TheVariants.{Fault}
+use Rattle.model.specs.Told.Answer.{Fault}
 use Rattle.model.specs.Answer.Outcome.{gives}
 use Rattle.model.specs.Map.{pair, first_unused, entry_at, entries_full}
 use Rattle.model.specs.Fault as Faults

@@ -5,9 +5,10 @@ ghost use Rattle.std.specs.Prelude.{◌≡◌, ◌<◌};
 ghost use Rattle.std.proofs.Math.ListN as List;
 ghost use Rattle.model.specs.Map as Map;
 ghost use Rattle.model.specs.Answer.Outcome.{gives};
+ghost use Rattle.model.specs.Coded.{answered, fault_number};
 ghost use Rattle.model.specs.Bytes as Model;
 
-use model::{Answer, Memory, Name, map, wide};
+use model::{Answer, Fault, Memory, Name, map, wide};
 use processors::{advance, name, put_to_wait, running, set_lr, stop};
 use turn::who_runs;
 use words::{at, write};
@@ -15,7 +16,7 @@ use words::{at, write};
 // LR grows by the length.
 pub fn done(m: &mut Memory, length: u16) -> Answer
     requires { length < 8192 }
-    ensures { gives result m.new ≡ Model.done m.old length }
+    ensures { gives (answered result) m.new ≡ Model.done m.old length }
 {
     advance(m, length);
     who_runs(m);
@@ -24,7 +25,7 @@ pub fn done(m: &mut Memory, length: u16) -> Answer
 
 // LR becomes the address.
 pub fn jump(m: &mut Memory, address: u16) -> Answer
-    ensures { gives result m.new ≡ Model.jumps m.old address }
+    ensures { gives (answered result) m.new ≡ Model.jumps m.old address }
 {
     let p = running(m);
     set_lr(m, p, address);
@@ -35,7 +36,7 @@ pub fn jump(m: &mut Memory, address: u16) -> Answer
 // The runner waits in the queue of the semaphore, for a reason.
 pub fn wait(m: &mut Memory, semaphore: u16, reason: u8) -> Answer
     requires { semaphore < 8191 }
-    ensures { gives result m.new ≡ Model.waits m.old semaphore reason }
+    ensures { gives (answered result) m.new ≡ Model.waits m.old semaphore reason }
 {
     let p = running(m);
     put_to_wait(m, semaphore, p, reason);
@@ -45,7 +46,7 @@ pub fn wait(m: &mut Memory, semaphore: u16, reason: u8) -> Answer
 
 // The runner waits for a page, LR staying.
 pub fn wait_for_page(m: &mut Memory) -> Answer
-    ensures { gives result m.new ≡ Model.waits_for_page m.old }
+    ensures { gives (answered result) m.new ≡ Model.waits_for_page m.old }
 {
     wait(m, map::FREE_SEMAPHORE, 0)
 }
@@ -62,25 +63,22 @@ fn enter(m: &mut Memory, entry: u8)
 }
 
 // The runner is stopped, and the fault is entered on page 9; its name.
-fn stop_runner(m: &mut Memory, number: u8) -> Name
-    requires { number < 16 }
-    ensures { (m.new ≡ Model.entered (Model.stop m.old (Model.running m.old)) (Map.pair result.0 number))
+fn stop_runner(m: &mut Memory, fault: Fault) -> Name
+    ensures { (m.new ≡ Model.entered (Model.stop m.old (Model.running m.old)) (Map.pair result.0 (fault_number fault)))
         × (result.0 ≡ Model.name m.old (Model.running m.old)) }
 {
     let p = running(m);
     let n = name(m, p);
     stop(m, p);
-    let k = n.0;
-    enter(m, k * map::FIELD + number);
+    enter(m, n.0 * map::FIELD + u8::from(fault));
     n
 }
 
-// A fault: who runs is looked at, and the answer gives its number and the name.
-pub fn fault(m: &mut Memory, number: u8) -> Answer
-    requires { number < 16 }
-    ensures { gives result m.new ≡ Model.fault m.old number }
+// A fault: who runs is looked at, and the answer gives the fault and the name.
+pub fn fault(m: &mut Memory, fault: Fault) -> Answer
+    ensures { gives (answered result) m.new ≡ Model.fault m.old (fault_number fault) }
 {
-    let n = stop_runner(m, number);
+    let n = stop_runner(m, fault);
     who_runs(m);
-    Answer::Fault(number, n.0)
+    Answer::Fault(fault, n)
 }

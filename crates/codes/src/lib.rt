@@ -4,12 +4,13 @@
 ghost use Rattle.std.specs.Prelude.{◌≡◌, ◌<◌};
 ghost use Rattle.std.proofs.Math.ListN as List;
 ghost use Rattle.model.specs.Answer.Outcome.{gives};
+ghost use Rattle.model.specs.Coded.{answered};
 ghost use Rattle.model.specs.Bytes as Model;
 ghost use Rattle.codes.specs.Sum.{summed};
 
 use answers::{done, fault, jump, wait};
 use interrupts::serve;
-use model::{Answer, ControlPage, Memory, Registers, faults, instructions, map, wide};
+use model::{Answer, ControlPage, Fault, Memory, Registers, instructions, map, wide};
 use processors::{accumulate, advance, lr, name, running};
 use words::{address_at, at, clear, guarded, high, low, raised, wrapped, write};
 
@@ -41,26 +42,26 @@ fn set_code(m: &mut Memory, code: u8, kind: u8, address: u16)
 
 pub fn cvi(m: &mut Memory, code: u8, address: u16, length: u16) -> Answer
     requires { length < 8192 }
-    ensures { gives result m.new ≡ Model.cvi m.old code address length }
+    ensures { gives (answered result) m.new ≡ Model.cvi m.old code address length }
 {
     let k = kind(m, code);
     if k == instructions::ABSENT {
         set_code(m, code, instructions::OWN, address);
         return done(m, length);
     }
-    fault(m, faults::CODE_EXISTS)
+    fault(m, Fault::CodeExists)
 }
 
 pub fn dvi(m: &mut Memory, code: u8, length: u16) -> Answer
     requires { length < 8192 }
-    ensures { gives result m.new ≡ Model.dvi m.old code length }
+    ensures { gives (answered result) m.new ≡ Model.dvi m.old code length }
 {
     if code < instructions::FIRST_GOING {
-        return fault(m, faults::KEPT_CODE);
+        return fault(m, Fault::KeptCode);
     }
     let k = kind(m, code);
     if k == instructions::ABSENT {
-        return fault(m, faults::ABSENT_CODE);
+        return fault(m, Fault::AbsentCode);
     }
     set_code(m, code, instructions::ABSENT, 0);
     done(m, length)
@@ -69,7 +70,7 @@ pub fn dvi(m: &mut Memory, code: u8, length: u16) -> Answer
 #[tactic(auto, unfolding(model::specs::Operate::gin))]
 pub fn gin(m: &mut Memory, length: u16) -> Answer
     requires { length < 8192 }
-    ensures { gives result m.new ≡ Model.gin m.old length }
+    ensures { gives (answered result) m.new ≡ Model.gin m.old length }
 {
     let p = running(m);
     let n = name(m, p);
@@ -79,16 +80,16 @@ pub fn gin(m: &mut Memory, length: u16) -> Answer
 
 pub fn win(m: &mut Memory, interrupt: u8, count: u8, length: u16) -> Answer
     requires { length < 8192 }
-    ensures { gives result m.new ≡ Model.win m.old interrupt count length }
+    ensures { gives (answered result) m.new ≡ Model.win m.old interrupt count length }
 {
     if interrupt == instructions::ABSENT {
-        return fault(m, faults::BAD_WAIT);
+        return fault(m, Fault::BadWait);
     }
     if map::INTERRUPTS < interrupt {
-        return fault(m, faults::BAD_WAIT);
+        return fault(m, Fault::BadWait);
     }
     if count == 0 {
-        return fault(m, faults::BAD_WAIT);
+        return fault(m, Fault::BadWait);
     }
     advance(m, length);
     wait(m, map::SEMAPHORES + 2 * wide(interrupt), count)
@@ -167,7 +168,7 @@ fn return_to(m: &mut Memory, address: u16)
 // CODE1 at its address.
 fn reach(m: &mut Memory, operation: u8, address: u16, length: u16) -> Answer
     requires { (address < 8192) × (length < 8192) }
-    ensures { gives result m.new ≡ Model.reaches m.old operation address length }
+    ensures { gives (answered result) m.new ≡ Model.reaches m.old operation address length }
 {
     if operation == instructions::VEP {
         let n = wrapped(lr(m), length);
@@ -178,7 +179,7 @@ fn reach(m: &mut Memory, operation: u8, address: u16, length: u16) -> Answer
         return jump(m, address);
     }
     if guarded(address) {
-        return fault(m, faults::PROTECTED);
+        return fault(m, Fault::Protected);
     }
     work(m, operation, address);
     done(m, length)
@@ -187,7 +188,7 @@ fn reach(m: &mut Memory, operation: u8, address: u16, length: u16) -> Answer
 // Indirection, if the bit is set.
 fn follow(m: &mut Memory, indirect: u8, operation: u8, address: u16, length: u16) -> Answer
     requires { (address < 8192) × (length < 8192) }
-    ensures { gives result m.new ≡ Model.follows m.old indirect operation address length }
+    ensures { gives (answered result) m.new ≡ Model.follows m.old indirect operation address length }
 {
     if indirect == 0 {
         return reach(m, operation, address, length);
@@ -196,7 +197,7 @@ fn follow(m: &mut Memory, indirect: u8, operation: u8, address: u16, length: u16
         let b = address_at(m, address);
         return reach(m, operation, b, length);
     }
-    fault(m, faults::PROTECTED)
+    fault(m, Fault::Protected)
 }
 
 // The address, indexed where X and XN say so.
@@ -213,10 +214,10 @@ pub fn indexed(m: &Memory, index: u8, address: u16) -> u16
 
 pub fn thirteen(m: &mut Memory, field: u8, operation: u8, address: u16, length: u16) -> Answer
     requires { (address < 8192) × (length < 8192) }
-    ensures { gives result m.new ≡ Model.thirteen m.old field operation address length }
+    ensures { gives (answered result) m.new ≡ Model.thirteen m.old field operation address length }
 {
     if instructions::VEP < operation {
-        return fault(m, faults::BAD_ARGUMENT);
+        return fault(m, Fault::BadArgument);
     }
     let b = indexed(m, field % map::INDIRECT_BIT, address);
     follow(m, field / map::INDIRECT_BIT, operation, b, length)

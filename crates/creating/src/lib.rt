@@ -5,11 +5,12 @@ ghost use Rattle.std.specs.Prelude.{◌≡◌, ◌<◌};
 ghost use Rattle.std.proofs.Math.ListN as List;
 ghost use Rattle.model.specs.Processor as Processor;
 ghost use Rattle.model.specs.Answer.Outcome.{gives};
+ghost use Rattle.model.specs.Coded.{answered};
 ghost use Rattle.model.specs.Bytes as Model;
 
 use answers::{done, fault, wait_for_page};
 use deleting::delete;
-use model::{Answer, ControlPage, Memory, Name, Registers, faults, instructions, map, wide};
+use model::{Answer, ControlPage, Fault, Memory, Name, Registers, instructions, map, wide};
 use pages::take_page;
 use processors::{page_of, priority, running, set_lr, start, stop};
 use queues::join;
@@ -17,7 +18,7 @@ use words::zero;
 
 fn st1(m: &mut Memory, page: ControlPage, length: u16) -> Answer
     requires { length < 8192 }
-    ensures { gives result m.new ≡ Model.st1 m.old page.0 length }
+    ensures { gives (answered result) m.new ≡ Model.st1 m.old page.0 length }
 {
     start(m, page);
     done(m, length)
@@ -25,7 +26,7 @@ fn st1(m: &mut Memory, page: ControlPage, length: u16) -> Answer
 
 fn stp(m: &mut Memory, page: ControlPage, length: u16) -> Answer
     requires { length < 8192 }
-    ensures { gives result m.new ≡ Model.stp m.old page.0 length }
+    ensures { gives (answered result) m.new ≡ Model.stp m.old page.0 length }
 {
     stop(m, page);
     done(m, length)
@@ -33,20 +34,20 @@ fn stp(m: &mut Memory, page: ControlPage, length: u16) -> Answer
 
 fn dep(m: &mut Memory, page: ControlPage, length: u16) -> Answer
     requires { length < 8192 }
-    ensures { gives result m.new ≡ Model.dep m.old page.0 length }
+    ensures { gives (answered result) m.new ≡ Model.dep m.old page.0 length }
 {
     let state = page.word(m, map::STATE);
     if map::STOP_BIT <= state {
         delete(m, page);
         return done(m, length);
     }
-    fault(m, faults::NOT_STOPPED)
+    fault(m, Fault::NotStopped)
 }
 
 // ST1, STP or DEP, by its code, of the processor of the page.
 fn on_page(m: &mut Memory, code: u8, page: ControlPage, length: u16) -> Answer
     requires { length < 8192 }
-    ensures { gives result m.new ≡ Model.on_page m.old code page.0 length }
+    ensures { gives (answered result) m.new ≡ Model.on_page m.old code page.0 length }
 {
     if code == instructions::ST1 {
         return st1(m, page, length);
@@ -60,44 +61,44 @@ fn on_page(m: &mut Memory, code: u8, page: ControlPage, length: u16) -> Answer
 // The same of the processor of that name.
 pub fn named(m: &mut Memory, code: u8, name: Name, length: u16) -> Answer
     requires { length < 8192 }
-    ensures { gives result m.new ≡ Model.named m.old code name.0 length }
+    ensures { gives (answered result) m.new ≡ Model.named m.old code name.0 length }
 {
     if name.0 == 0 {
-        return fault(m, faults::BAD_ARGUMENT);
+        return fault(m, Fault::BadArgument);
     }
     let page = page_of(m, name);
     if page.0 == 0 {
-        return fault(m, faults::NO_NAME);
+        return fault(m, Fault::NoName);
     }
     on_page(m, code, page, length)
 }
 
 fn st2_found(m: &mut Memory, page: ControlPage, address: u16, length: u16) -> Answer
     requires { length < 8192 }
-    ensures { gives result m.new ≡ Model.st2_found m.old page.0 address length }
+    ensures { gives (answered result) m.new ≡ Model.st2_found m.old page.0 address length }
 {
     let state = page.word(m, map::STATE);
     if state < map::STOP_BIT {
-        return fault(m, faults::NOT_STARTABLE);
+        return fault(m, Fault::NotStartable);
     }
     if state % map::STOP_BIT / map::WAIT_BIT == 0 {
         set_lr(m, page, address);
         start(m, page);
         return done(m, length);
     }
-    fault(m, faults::NOT_STARTABLE)
+    fault(m, Fault::NotStartable)
 }
 
 pub fn st2(m: &mut Memory, name: Name, address: u16, length: u16) -> Answer
     requires { length < 8192 }
-    ensures { gives result m.new ≡ Model.st2 m.old name.0 address length }
+    ensures { gives (answered result) m.new ≡ Model.st2 m.old name.0 address length }
 {
     if name.0 == 0 {
-        return fault(m, faults::BAD_ARGUMENT);
+        return fault(m, Fault::BadArgument);
     }
     let page = page_of(m, name);
     if page.0 == 0 {
-        return fault(m, faults::NO_NAME);
+        return fault(m, Fault::NoName);
     }
     st2_found(m, page, address, length)
 }
@@ -132,7 +133,7 @@ pub fn create(m: &mut Memory, page: ControlPage, name: Name, priority: u8, w: u8
 
 fn crp_page(m: &mut Memory, name: Name, priority: u8, w: u8, address: u16, length: u16) -> Answer
     requires { (name.0 < 16) × (priority < 16) × (length < 8192) }
-    ensures { gives result m.new ≡ Model.crp_page m.old name.0 priority w address length }
+    ensures { gives (answered result) m.new ≡ Model.crp_page m.old name.0 priority w address length }
 {
     let r = running(m);
     let page = take_page(m, r);
@@ -153,21 +154,21 @@ fn own_priority(m: &Memory) -> u8
 
 pub fn crp(m: &mut Memory, new: Name, priority: u8, w: u8, address: u16, length: u16) -> Answer
     requires { (new.0 < 16) × (priority < 16) × (length < 8192) }
-    ensures { gives result m.new ≡ Model.crp m.old new.0 priority w address length }
+    ensures { gives (answered result) m.new ≡ Model.crp m.old new.0 priority w address length }
 {
     if new.0 == 0 {
-        return fault(m, faults::BAD_ARGUMENT);
+        return fault(m, Fault::BadArgument);
     }
     if priority == 0 {
-        return fault(m, faults::BAD_ARGUMENT);
+        return fault(m, Fault::BadArgument);
     }
     let own = own_priority(m);
     if own < priority {
-        return fault(m, faults::ABOVE_ITSELF);
+        return fault(m, Fault::AboveItself);
     }
     let namesake = page_of(m, new);
     if namesake.0 == 0 {
         return crp_page(m, new, priority, w, address, length);
     }
-    fault(m, faults::NAME_EXISTS)
+    fault(m, Fault::NameExists)
 }

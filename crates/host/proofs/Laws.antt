@@ -3,14 +3,14 @@ use Prim.Native.Nat.{ℕ, ◌+◌, ◌*◌, ◌<◌}
 use native.Mathlib.Omega.{arith}
 use mathlib.Core.Path.{◌≡◌, ap, ◌∙◌}
 use Rattle.model.specs.declared.Registers.{Registers}
-use Rattle.model.specs.declared.Answer.{Answer}
-use Rattle.model.specs.declared.Answer.TheVariants.{Done, Waits, HandedOut, Fault, Refused, RefusedAt}
-use Rattle.model.specs.declared.Held.{Held}
-use Rattle.model.specs.declared.Held.TheVariants as Held
-use Rattle.model.specs.declared.Verdict.{Verdict}
-use Rattle.model.specs.declared.Verdict.TheVariants as Verdict
-use Rattle.model.specs.declared.Writing.{Writing}
-use Rattle.model.specs.declared.Writing.TheVariants as Writing
+use Rattle.model.specs.Told.{Answer}
+use Rattle.model.specs.Told.Answer.{Done, Waits, HandedOut, Fault, Refused, RefusedAt}
+use Rattle.model.specs.Told.{Held}
+use Rattle.model.specs.Told.{Held}
+use Rattle.model.specs.Told.{Verdict}
+use Rattle.model.specs.Told.{Verdict}
+use Rattle.model.specs.Told.{Writing}
+use Rattle.model.specs.Told.{Writing}
 use Rattle.model.specs.Answer as Answer
 use Rattle.model.specs.Answer.{Outcome, answer_of, memory_of, done_number, waits_number, handed_out_number, written_number}
 use Rattle.model.specs.Answer.Outcome.{gives}

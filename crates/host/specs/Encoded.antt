@@ -3,14 +3,14 @@
 use Rattle.std.specs.Prelude.{ℕ, ◌+◌, ◌*◌, ◌/◌, ◌%◌, ◌<◌, ◌≡◌, List, [], ◌∷◌, get_or}
 use Rattle.std.proofs.Common.{arith}
 use Rattle.model.specs.declared.Registers.{Registers}
-use Rattle.model.specs.declared.Answer.{Answer}
-use Rattle.model.specs.declared.Answer.TheVariants.{HandedOut, Fault, Refused, RefusedAt}
-use Rattle.model.specs.declared.Held.{Held}
-use Rattle.model.specs.declared.Held.TheVariants as Held
-use Rattle.model.specs.declared.Verdict.{Verdict}
-use Rattle.model.specs.declared.Verdict.TheVariants as Verdict
-use Rattle.model.specs.declared.Writing.{Writing}
-use Rattle.model.specs.declared.Writing.TheVariants as Writing
+use Rattle.model.specs.Told.{Answer}
+use Rattle.model.specs.Told.Answer.{HandedOut, Fault, Refused, RefusedAt}
+use Rattle.model.specs.Told.{Held}
+use Rattle.model.specs.Told.{Held}
+use Rattle.model.specs.Told.{Verdict}
+use Rattle.model.specs.Told.{Verdict}
+use Rattle.model.specs.Told.{Writing}
+use Rattle.model.specs.Told.{Writing}
 use Rattle.model.specs.Map.{place, word_a, word_s, high_lr, low_lr}
 use Rattle.model.specs.Processor as Processor
 use Rattle.model.specs.Answer as Answer

@@ -7,18 +7,18 @@ use lib.Dec.{eqb}
 use lib.ListN.{length}
 use borrow.Author.Tests.{eqb-true, eq-eqb, ne_eqb}
 use native.Mathlib.Omega.{arith}
-use Rattle.model.specs.declared.Answer.{Answer}
-use Rattle.model.specs.declared.Answer.TheVariants.{Done}
-use Rattle.model.specs.declared.Answer.TheVariants as Answer
-use Rattle.model.specs.declared.Held.{Held}
-use Rattle.model.specs.declared.Verdict.{Verdict}
+use Rattle.model.specs.Told.{Answer}
+use Rattle.model.specs.Told.Answer.{Done}
+use Rattle.model.specs.Told.{Answer}
+use Rattle.model.specs.Told.{Held}
+use Rattle.model.specs.Told.{Verdict}
 use Rattle.model.specs.declared.Registers.{Registers}
-use Rattle.model.specs.declared.Finding.{Finding}
-use Rattle.model.specs.declared.Finding.TheVariants.{Nothing, WrongLength, Broken}
-use Rattle.model.specs.declared.Held.TheVariants as Held
-use Rattle.model.specs.declared.Fit.{Fit}
-use Rattle.model.specs.declared.Fit.TheVariants.{Good, Refused, RefusedAt}
-use Rattle.model.specs.declared.Writing.{Writing}
+use Rattle.model.specs.Told.{Finding}
+use Rattle.model.specs.Told.Finding.{Nothing, WrongLength, Broken}
+use Rattle.model.specs.Told.{Held}
+use Rattle.model.specs.Told.{Fit}
+use Rattle.model.specs.Told.Fit.{Good, Refused, RefusedAt}
+use Rattle.model.specs.Told.{Writing}
 use Rattle.model.specs.Map.{memory_size, low}
 use Rattle.model.specs.Answer.{Outcome, wrong_length, numbers, held_numbers, verdict_numbers, writing_numbers}
 use Rattle.model.specs.Answer.Outcome.{gives}

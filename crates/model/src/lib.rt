@@ -1,24 +1,27 @@
 // The kernel's types, and the methods of the register record. What they mean is in specs/.
 #![tactic(auto)]
 
-pub mod faults;
+pub mod fault;
 pub mod instructions;
 pub mod layout;
 pub mod map;
-pub mod refusals;
+pub mod refusal;
 
 ghost use Rattle.std.specs.Prelude.{◌≡◌, ◌<◌, ◌+◌, ◌*◌, length};
 ghost use Rattle.model.specs.Processor as Processor;
 ghost use Rattle.model.specs.Bytes as Model;
 
+pub use fault::Fault;
+pub use refusal::{Class, Refusal};
+
 // "8,192 words of 8 bits".
 pub type Memory = [u8; map::MEMORY_WORDS];
 
 // A control page's number, and a processor's name: both small, never mixed.
-#[derive(Clone, Copy)]
+#[derive(Clone, Copy, PartialEq, Eq)]
 pub struct ControlPage(pub u8);
 
-#[derive(Clone, Copy)]
+#[derive(Clone, Copy, PartialEq, Eq)]
 pub struct Name(pub u8);
 
 // A processor's registers by value. A host may name any of the first seven out of range, so they are wide.
@@ -53,47 +56,13 @@ pub struct Arguments {
     pub count: u8,
 }
 
-// What a call answers. Handed out: the program's address, and that of n+1 or of the arguments. Fault: its number, and the name. Refused: its
-// number, and with 30-34 the address, with 24 and 25 of a burst the place of the bad pair, with 29 of settings the version.
-#[derive(Clone, Copy)]
+// What a call that is not refused answers. Handed out: the program's address, and that of n+1 or of the arguments. A fault with the name of who made it.
+#[derive(Clone, Copy, PartialEq, Eq)]
 pub enum Answer {
     Done,
     Waits,
     HandedOut(u16, u16),
-    Fault(u8, u8),
-    Refused(u8),
-    RefusedAt(u8, u16),
-}
-
-// What reading the registers answers.
-#[derive(Clone, Copy)]
-pub enum Held {
-    Has(Registers),
-    Refused(u8),
-    RefusedAt(u8, u16),
-}
-
-// What the judge answers.
-#[derive(Clone, Copy)]
-pub enum Verdict {
-    WellFormed,
-    Refused(u8),
-    RefusedAt(u8, u16),
-}
-
-// What is found of a memory before a call goes on: nothing against it, a wrong length, or what is broken by its class and the lowest address.
-#[derive(Clone, Copy)]
-pub enum Finding {
-    Nothing,
-    WrongLength,
-    Broken(u8, u16),
-}
-
-// What comes of testing the pairs of a burst: all are good, or the number that refuses the first bad one, and its place.
-#[derive(Clone, Copy)]
-pub enum Checked {
-    Good,
-    Bad(u8, u16),
+    Fault(Fault, Name),
 }
 
 // Settings: a further processor, as an entry of a block names it.
@@ -111,22 +80,6 @@ pub struct Trailer {
     pub distance: u16,
     pub version: u8,
     pub count: u8,
-}
-
-// The verdict of a block or of a file: it is good, or the number that refuses it, and with 29 the version.
-#[derive(Clone, Copy)]
-pub enum Fit {
-    Good,
-    Refused(u8),
-    RefusedAt(u8, u16),
-}
-
-// What writing settings answers: the new length of the file, or the number that refuses it, and with 29 the version.
-#[derive(Clone, Copy)]
-pub enum Writing {
-    Written(usize),
-    Refused(u8),
-    RefusedAt(u8, u16),
 }
 
 // Which words differ: which of two memories is meant.

@@ -4,7 +4,7 @@
 
 ghost use Rattle.std.specs.Prelude.{◌≡◌, true, ◌<◌, length};
 ghost use Rattle.model.specs.Map.{memory_size};
-ghost use Rattle.model.specs.declared.Fit.TheVariants.{Good};
+ghost use Rattle.model.specs.Told.Fit.{Good};
 ghost use Rattle.model.specs.Fresh.{startable};
 ghost use Rattle.model.specs.Layout.{of_file};
 ghost use Rattle.laws.specs.Words.{Small};

@@ -10,9 +10,9 @@ use lib.Seq.{length-take-le, take_at, take-length, take-suc-set, take-set-lt, ge
 use borrow.Author.Tests.{eqb-true, eq-eqb, ne_eqb, ltb-true, ltb-false, lt-ltb, le-ltb, leb-false, le-leb, lt-leb}
 use native.Mathlib.Numerals.{add-one, unary_clauses}
 use native.Mathlib.Omega.{arith}
-use Rattle.model.specs.declared.Fit.{Fit}
-use Rattle.model.specs.declared.Fit.TheVariants.{Good, Refused, RefusedAt}
-use Rattle.model.specs.declared.Writing.{Writing}
+use Rattle.model.specs.Told.{Fit}
+use Rattle.model.specs.Told.Fit.{Good, Refused, RefusedAt}
+use Rattle.model.specs.Told.{Writing}
 use Rattle.model.specs.Answer.{no_room}
 use Rattle.model.specs.Answer.Outcome.{gives}
 use Rattle.model.specs.Map.{a_word, word_values}

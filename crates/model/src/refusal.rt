@@ -1,0 +1,42 @@
+// Refusals: "20 length not 8,192; .. 22 idle; 23 word at LR not 224; 24 interrupt not 16-50; 25 class number over 31, or nonzero below 48; 26 fresh or register
+// value out of range"; "A longer or odd list is refused by 27"; "a version above the reader's own is refused by 29 with that version, any other break of layout
+// .. by 28", "by 35 if the lent buffer is too short".
+ghost use Rattle.std.specs.Prelude.{◌≡◌};
+ghost use Rattle.model.specs.Coded.{class_number};
+
+// "30 a control page used twice or not at all, 31 a wait queue or semaphore, 32 a processor or message record, 33 the code or error table, 34 counters and the
+// running entry".
+#[derive(Clone, Copy, PartialEq, Eq)]
+pub enum Class {
+    Pages = 30,
+    Waits = 31,
+    Records = 32,
+    Tables = 33,
+    Counters = 34,
+}
+
+// Of a burst, 24 and 25 tell the place of the bad pair; 29 tells the version, 30-34 the lowest address.
+#[derive(Clone, Copy, PartialEq, Eq)]
+pub enum Refusal {
+    WrongLength,
+    Idle,
+    NoInstruction,
+    NoInterrupt,
+    NoInterruptAt(u16),
+    WrongClass,
+    WrongClassAt(u16),
+    OutOfRange,
+    WrongList,
+    BrokenLayout,
+    TooNew(u8),
+    Broken(Class, u16),
+    NoRoom,
+}
+
+impl From<Class> for u8 {
+    ghost from_gives = { λ c n. n ≡ class_number c };
+
+    fn from(class: Class) -> u8 {
+        class as u8
+    }
+}
