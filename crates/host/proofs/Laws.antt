@@ -6,10 +6,7 @@ use Rattle.model.specs.declared.Registers.{Registers}
 use Rattle.model.specs.Told.{Answer}
 use Rattle.model.specs.Told.Answer.{Done, Waits, HandedOut, Fault, Refused, RefusedAt}
 use Rattle.model.specs.Told.{Held}
-use Rattle.model.specs.Told.{Held}
 use Rattle.model.specs.Told.{Verdict}
-use Rattle.model.specs.Told.{Verdict}
-use Rattle.model.specs.Told.{Writing}
 use Rattle.model.specs.Told.{Writing}
 use Rattle.model.specs.Answer as Answer
 use Rattle.model.specs.Answer.{Outcome, answer_of, memory_of, done_number, waits_number, handed_out_number, written_number}

@@ -9,13 +9,11 @@ use borrow.Author.Tests.{eqb-true, eq-eqb, ne_eqb}
 use native.Mathlib.Omega.{arith}
 use Rattle.model.specs.Told.{Answer}
 use Rattle.model.specs.Told.Answer.{Done}
-use Rattle.model.specs.Told.{Answer}
 use Rattle.model.specs.Told.{Held}
 use Rattle.model.specs.Told.{Verdict}
 use Rattle.model.specs.declared.Registers.{Registers}
 use Rattle.model.specs.Told.{Finding}
 use Rattle.model.specs.Told.Finding.{Nothing, WrongLength, Broken}
-use Rattle.model.specs.Told.{Held}
 use Rattle.model.specs.Told.{Fit}
 use Rattle.model.specs.Told.Fit.{Good, Refused, RefusedAt}
 use Rattle.model.specs.Told.{Writing}
