@@ -15,6 +15,7 @@ use kernel::{
 use model::{Answer, Refusal, Registers};
 
 // A refusal's number, and what is told beside it.
+#[tactic(auto, using(crate::proofs::Laws::refusal_sum))]
 fn encode_refusal(refusal: Refusal) -> u64
     ensures { result ≡ refusal_code refusal }
 {
@@ -22,6 +23,7 @@ fn encode_refusal(refusal: Refusal) -> u64
     u64::from(u8::from(refusal)) + place * 256
 }
 
+#[tactic(auto, using(crate::proofs::Laws::coding))]
 fn encode(answer: Result<Answer, Refusal>) -> u64
     ensures { result ≡ encoded (told answer) }
 {
@@ -37,6 +39,7 @@ fn encode(answer: Result<Answer, Refusal>) -> u64
 }
 
 // A, S, P, Z and CI, with LR and W.
+#[tactic(auto, using(crate::proofs::Laws::coding))]
 fn pack(r: Registers) -> u64
     ensures { result ≡ packed r }
 {
@@ -49,6 +52,7 @@ fn pack(r: Registers) -> u64
         + u64::from(r.w) * 1099511627776
 }
 
+#[tactic(auto, using(crate::proofs::Laws::coding))]
 fn encode_held(held: Result<Registers, Refusal>) -> u64
     ensures { result ≡ encoded_held (held_told held) }
 {
@@ -58,6 +62,7 @@ fn encode_held(held: Result<Registers, Refusal>) -> u64
     }
 }
 
+#[tactic(auto, using(crate::proofs::Laws::coding))]
 fn encode_verdict(verdict: Result<(), Refusal>) -> u64
     ensures { result ≡ encoded_verdict (verdict_told verdict) }
 {
@@ -68,6 +73,7 @@ fn encode_verdict(verdict: Result<(), Refusal>) -> u64
 }
 
 // The new length is left out: it need not fit.
+#[tactic(auto, using(crate::proofs::Laws::coding))]
 fn encode_writing(writing: Result<usize, Refusal>) -> u64
     ensures { result ≡ encoded_writing (writing_told writing) }
 {
@@ -77,6 +83,7 @@ fn encode_writing(writing: Result<usize, Refusal>) -> u64
     }
 }
 
+#[tactic(auto, using(crate::proofs::Laws::encodings))]
 pub fn wik_fresh(memory: &mut [u8], line: u16, divider: u16) -> u64
     ensures value { result ≡ encoded (answer_of (Model.fresh memory.old line divider)) }
     ensures memory_after { memory.new ≡ memory_of (Model.fresh memory.old line divider) }
@@ -84,6 +91,7 @@ pub fn wik_fresh(memory: &mut [u8], line: u16, divider: u16) -> u64
     encode(fresh(memory, line, divider))
 }
 
+#[tactic(auto, using(crate::proofs::Laws::encodings))]
 pub fn wik_fresh_from_settings(memory: &mut [u8], file: &[u8]) -> u64
     ensures value { result ≡ encoded (answer_of (Model.from_settings memory.old file.now)) }
     ensures memory_after { memory.new ≡ memory_of (Model.from_settings memory.old file.now) }
@@ -91,6 +99,7 @@ pub fn wik_fresh_from_settings(memory: &mut [u8], file: &[u8]) -> u64
     encode(fresh_from_settings(memory, file))
 }
 
+#[tactic(auto, using(crate::proofs::Laws::encodings))]
 pub fn wik_write_settings(file: &mut [u8], used: usize, block: &[u8]) -> u64
     ensures value { result ≡ encoded_writing (answer_of (Settings.write_settings file.old used block.now)) }
     ensures file_after { file.new ≡ memory_of (Settings.write_settings file.old used block.now) }
@@ -98,6 +107,7 @@ pub fn wik_write_settings(file: &mut [u8], used: usize, block: &[u8]) -> u64
     encode_writing(write_settings(file, used, block))
 }
 
+#[tactic(auto, using(crate::proofs::Laws::encodings))]
 pub fn wik_instruction(memory: &mut [u8]) -> u64
     ensures value { result ≡ encoded (answer_of (Model.instruction memory.old)) }
     ensures memory_after { memory.new ≡ memory_of (Model.instruction memory.old) }
@@ -105,6 +115,7 @@ pub fn wik_instruction(memory: &mut [u8]) -> u64
     encode(instruction(memory))
 }
 
+#[tactic(auto, using(crate::proofs::Laws::encodings))]
 pub fn wik_interrupt(memory: &mut [u8], number: u16, class: u16) -> u64
     ensures value { result ≡ encoded (answer_of (Model.interrupt memory.old number class)) }
     ensures memory_after { memory.new ≡ memory_of (Model.interrupt memory.old number class) }
@@ -112,6 +123,7 @@ pub fn wik_interrupt(memory: &mut [u8], number: u16, class: u16) -> u64
     encode(interrupt(memory, number, class))
 }
 
+#[tactic(auto, using(crate::proofs::Laws::encodings))]
 pub fn wik_burst(memory: &mut [u8], list: &[u8]) -> u64
     ensures value { result ≡ encoded (answer_of (Model.burst memory.old list.now)) }
     ensures memory_after { memory.new ≡ memory_of (Model.burst memory.old list.now) }
@@ -119,12 +131,14 @@ pub fn wik_burst(memory: &mut [u8], list: &[u8]) -> u64
     encode(burst(memory, list))
 }
 
+#[tactic(auto, using(crate::proofs::Laws::encodings))]
 pub fn wik_read_registers(memory: &[u8]) -> u64
     ensures { result ≡ encoded_held (answer_of (Model.read_registers memory.now)) }
 {
     encode_held(read_registers(memory))
 }
 
+#[tactic(auto, using(crate::proofs::Laws::encodings))]
 pub fn wik_set_registers(
     memory: &mut [u8],
     a: u16,
@@ -151,6 +165,7 @@ pub fn wik_set_registers(
     encode(set_registers(memory, r))
 }
 
+#[tactic(auto, using(crate::proofs::Laws::encodings))]
 pub fn wik_judge(memory: &[u8]) -> u64
     ensures { result ≡ encoded_verdict (answer_of (Model.judge memory.now)) }
 {

@@ -8,12 +8,12 @@ ghost use Rattle.model.specs.Answer.Outcome.{gives};
 ghost use Rattle.model.specs.Coded.{told, held_told, verdict_told, writing_told};
 ghost use Rattle.model.specs.Bytes as Model;
 ghost use Rattle.model.specs.Settings as Settings;
-ghost use Rattle.kernel.specs.Spoken.{spoken};
+ghost use Rattle.kernel.specs.Spoken.{idle_or, spoken};
 
 use arrivals::{burst_judged, interrupt_judged};
 use execute::fetched;
 use fresh::{start, startable};
-use model::{Answer, Memory, Refusal, Registers};
+use model::{Answer, ControlPage, Memory, Refusal, Registers};
 use processors::{lr, running};
 use settings::file::{newest, of_file};
 use settling::settle;
@@ -57,12 +57,21 @@ pub fn write_settings(buffer: &mut [u8], used: usize, block: &[u8]) -> Result<us
     settings::write::write_settings(buffer, used, block)
 }
 
+// The page of the one that runs; 22 where nobody does.
+fn runner(m: &Memory) -> Result<ControlPage, Refusal>
+    ensures { idle_or (Model.running m.now) result }
+{
+    let page = running(m);
+    if page.0 == 0 {
+        return Err(Refusal::Idle);
+    }
+    Ok(page)
+}
+
 fn instruction_judged(m: &mut Memory) -> Result<Answer, Refusal>
     ensures { gives (told result) m.new ≡ Model.instruction_judged m.old }
 {
-    if running(m).0 == 0 {
-        return Err(Refusal::Idle);
-    }
+    runner(m)?;
     let address = lr(m);
     fetched(m, address)
 }
@@ -91,7 +100,7 @@ pub fn interrupt(m: &mut [u8], number: u16, class: u16) -> Result<Answer, Refusa
     interrupt_judged(m, number, class)
 }
 
-// Delivery of a burst from the line card: a list of bytes, number and class number in turn, at most 32 pairs. 20 and 30-34 stand before 27.
+// Delivery of a burst from the line card: a list of bytes, number and class number in turn, at most 32 pairs.
 pub fn burst(m: &mut [u8], list: &[u8]) -> Result<Answer, Refusal>
     ensures outcome { gives (told result) m.new ≡ Model.burst m.old list.now }
     ensures numbers { gives (numbers (told result)) m.new ≡ spoken numbers (Model.burst m.old list.now) }
@@ -99,6 +108,7 @@ pub fn burst(m: &mut [u8], list: &[u8]) -> Result<Answer, Refusal>
     let Some(m) = m.as_mut_array() else {
         return Err(Refusal::WrongLength);
     };
+    // 20 and 30-34 stand before 27.
     finding(m)?;
     burst_judged(m, list)
 }
@@ -106,11 +116,7 @@ pub fn burst(m: &mut [u8], list: &[u8]) -> Result<Answer, Refusal>
 fn read_judged(m: &Memory) -> Result<Registers, Refusal>
     ensures { gives (held_told result) m.now ≡ Model.read_judged m.now }
 {
-    let page = running(m);
-    if page.0 == 0 {
-        return Err(Refusal::Idle);
-    }
-    Ok(Registers::of(m, page))
+    Ok(Registers::of(m, runner(m)?))
 }
 
 // The running processor's registers.
@@ -128,10 +134,7 @@ pub fn read_registers(m: &[u8]) -> Result<Registers, Refusal>
 fn set_judged(m: &mut Memory, registers: Registers) -> Result<Answer, Refusal>
     ensures { gives (told result) m.new ≡ Model.set_judged m.old registers }
 {
-    let page = running(m);
-    if page.0 == 0 {
-        return Err(Refusal::Idle);
-    }
+    let page = runner(m)?;
     if !registers.in_range() {
         return Err(Refusal::OutOfRange);
     }
@@ -159,6 +162,5 @@ pub fn judge(m: &[u8]) -> Result<(), Refusal>
     let Some(m) = m.as_array() else {
         return Err(Refusal::WrongLength);
     };
-    finding(m)?;
-    Ok(())
+    Ok(finding(m)?)
 }
