@@ -24,6 +24,7 @@ pub fn lent(m: &[u8]) -> u8
 }
 
 // The fresh start goes on with a run; and where it is taken, it begins one, whatever the memory holds.
+#[tactic(auto, using(crate::proofs::Laws::goings))]
 pub fn fresh(m: &mut [u8], line: u16, divider: u16) -> Result<Answer, Refusal>
     ensures goes_on { (h : Past) → Run m.old h → Run m.new (later (fresh_start line divider) m.old h) }
     ensures begins { length m.old ≡ memory_size → startable line divider ≡ true → Run m.new none_yet }
@@ -33,6 +34,7 @@ pub fn fresh(m: &mut [u8], line: u16, divider: u16) -> Result<Answer, Refusal>
 }
 
 // So does the fresh start from settings, where the file is good.
+#[tactic(auto, using(crate::proofs::Laws::goings))]
 pub fn fresh_from_settings(m: &mut [u8], file: &[u8]) -> Result<Answer, Refusal>
     ensures goes_on { (h : Past) → Run m.old h → Run m.new (later (fresh_from file.now) m.old h) }
     ensures begins { length m.old ≡ memory_size → of_file file.now ≡ Good → Run m.new none_yet }
@@ -41,36 +43,42 @@ pub fn fresh_from_settings(m: &mut [u8], file: &[u8]) -> Result<Answer, Refusal>
     kernel::fresh_from_settings(m, file)
 }
 
+#[tactic(auto, using(crate::proofs::Laws::goings))]
 pub fn instruction(m: &mut [u8]) -> Result<Answer, Refusal>
     ensures { (h : Past) → Run m.old h → Run m.new (later instruct m.old h) }
 {
     kernel::instruction(m)
 }
 
+#[tactic(auto, using(crate::proofs::Laws::goings))]
 pub fn interrupt(m: &mut [u8], number: u16, class: u16) -> Result<Answer, Refusal>
     ensures { (h : Past) → Run m.old h → Run m.new (later (signal number class) m.old h) }
 {
     kernel::interrupt(m, number, class)
 }
 
+#[tactic(auto, using(crate::proofs::Laws::goings))]
 pub fn burst(m: &mut [u8], list: &[u8]) -> Result<Answer, Refusal>
     ensures { (h : Past) → Run m.old h → Run m.new (later (signals list.now) m.old h) }
 {
     kernel::burst(m, list)
 }
 
+#[tactic(auto, using(crate::proofs::Laws::goings))]
 pub fn read_registers(m: &[u8]) -> Result<Registers, Refusal>
     ensures { (h : Past) → Run m.now h → Run m.now (later read m.now h) }
 {
     kernel::read_registers(m)
 }
 
+#[tactic(auto, using(crate::proofs::Laws::goings))]
 pub fn set_registers(m: &mut [u8], r: Registers) -> Result<Answer, Refusal>
     ensures { (h : Past) → Run m.old h → Run m.new (later (set r) m.old h) }
 {
     kernel::set_registers(m, r)
 }
 
+#[tactic(auto, using(crate::proofs::Laws::goings))]
 pub fn judge(m: &[u8]) -> Result<(), Refusal>
     ensures { (h : Past) → Run m.now h → Run m.now (later judge_it m.now h) }
 {
