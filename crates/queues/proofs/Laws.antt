@@ -7,6 +7,8 @@ use lib.ListN.{length}
 use lib.Dec.{eqb}
 use borrow.Author.Tests.{eq-eqb, ne_eqb}
 use native.Mathlib.Numerals.{sub-one}
+use Rattle.std.proofs.Common.{⊎_elim}
+use Rattle.std.proofs.lemmas.Bool.{cases_eq}
 use native.Mathlib.Omega.{arith}
 use Rattle.std.specs.Prelude.{Option, Some, None}
 use Rattle.std.specs.List.{find}
@@ -53,21 +55,40 @@ pub join_is : (m m₁ m₂ : Memory) (h k q c : ℕ) → m₁ ≡ store m q k 0 
 unfolding Queue.join
 join_is m m₁ m₂ h k q c e₁ ec e₂ = rw (← e₁, ← ec) e₂
 
+-- ---- what was found names a page or none
+pub found_is : (k : ℕ) → (k ≡ 0 → ⊥) → found k ≡ Some (record { 0 = k })
+unfolding Coded.found
+found_is k z = rw (ne_eqb k 0 z)
+
+pub found_none : (k : ℕ) → k ≡ 0 → found k ≡ None
+unfolding Coded.found
+found_none k z = rw (eq-eqb k 0 z)
+
+pub none_is : (k : ℕ) → None ≡ found k → k ≡ 0
+none_is k e = ⊎_elim (λ (z : k ≡ 0). z) (λ (z : k ≡ 0 → ⊥). let h : found k ≡ Some (record { 0 = k }) = found_is k z in cc) (cases_eq k 0)
+
+pub some_not : (k : ℕ) (p : ControlPage) → Some p ≡ found k → k ≡ 0 → ⊥
+some_not k p e z = let h : found k ≡ None = found_none k z in cc
+
+pub some_is : (k : ℕ) (p : ControlPage) → Some p ≡ found k → p.0 ≡ k
+some_is k p e = let h : found k ≡ Some (record { 0 = k }) = found_is k (some_not k p e) in cc
+
 -- ---- the list that hangs from a cell
 pub walk_none : (n : ℕ) (m : Memory) (k a : ℕ) → n ≡ 0 → walk n m k a ≡ []
 unfolding Queue.walk
 walk_none zero m k a e = refl
 walk_none (suc n) m k a e = absurd (omega arith)
 
-pub walk_end : (n : ℕ) (m : Memory) (k a w : ℕ) → w ≡ at m a → w ≡ 0 → walk n m k a ≡ []
+pub walk_end : (n : ℕ) (m : Memory) (k a : ℕ) → None ≡ found (at m a) → walk n m k a ≡ []
 unfolding Queue.walk
-walk_end zero m k a w e z = refl
-walk_end (suc n) m k a w e z = rw (← e, eq-eqb w 0 z, Queue.walk)
+walk_end zero m k a e = refl
+walk_end (suc n) m k a e = rw (eq-eqb (at m a) 0 (none_is (at m a) e), Queue.walk)
 
-pub walk_on : (n : ℕ) (m : Memory) (k a w b : ℕ) → (n ≡ 0 → ⊥) → w ≡ at m a → (w ≡ 0 → ⊥) → b ≡ place w k → walk n m k a ≡ w ∷ walk (n - 1) m k b
+pub walk_on : (n : ℕ) (m : Memory) (k a b : ℕ) (p : ControlPage) → (n ≡ 0 → ⊥) → Some p ≡ found (at m a) → b ≡ place p.0 k → walk n m k a ≡ p.0 ∷ walk (n - 1) m k b
 unfolding Queue.walk
-walk_on zero m k a w b o e z eb = absurd (o refl)
-walk_on (suc n) m k a w b o e z eb = rw (← e, ne_eqb w 0 z, Queue.walk, ← e, ← eb, sub-one)
+walk_on zero m k a b p o e eb = absurd (o refl)
+walk_on (suc n) m k a b p o e eb =
+    rw (ne_eqb (at m a) 0 (some_not (at m a) p e), Queue.walk, ← (some_is (at m a) p e), ← eb, sub-one)
 
 -- a list that has given one has fewer left
 pub fewer : {s t : List ℕ} {x : ℕ} → s ≡ x ∷ t → length t < length s

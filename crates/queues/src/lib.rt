@@ -5,12 +5,25 @@
 ghost use Rattle.std.specs.Prelude.{◌≡◌, ◌<◌, ℕ, List};
 ghost use Rattle.std.specs.Iterator.{item_count};
 ghost use Rattle.std.specs.Map.Iter.{TakesFirst};
+ghost use Rattle.model.specs.Coded.{found};
 ghost use Rattle.model.specs.Map as Map;
 ghost use Rattle.model.specs.Bytes as Model;
 
 use model::{ControlPage, Memory, map};
 use std::marker::Model;
 use words::{at, write};
+
+// The page that the word at an address names, "0 ends".
+#[tactic(auto, using(model::proofs::Tests::tests), unfolding(model::specs::Coded::found))]
+pub fn page_at(m: &Memory, address: u16) -> Option<ControlPage>
+    requires { address < 8192 }
+    ensures { result ≡ found (Model.at m.now address) }
+{
+    match at(m, address) {
+        0 => None,
+        page => Some(ControlPage(page)),
+    }
+}
 
 // The pages that hang from a cell along the links in one word, at most so many; a clause sees those that are left, by their numbers.
 #[derive(Drop)]
@@ -49,11 +62,7 @@ impl<'m> Iterator for Walk<'m> {
         if self.left == 0 {
             return None;
         }
-        let word = at(self.m, self.cell);
-        if word == 0 {
-            return None;
-        }
-        let page = ControlPage(word);
+        let page = page_at(self.m, self.cell)?;
         self.left -= 1;
         self.cell = page.place(self.link);
         Some(page)
