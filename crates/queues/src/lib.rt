@@ -106,13 +106,13 @@ impl Queue {
         Walk::new(m, self.link, self.header, map::CONTROL_PAGES)
     }
 
-    // The first cell that holds the page: the header, or the link of the page before it. Page 0: the end's.
+    // The first cell that holds the page, at most so many links on: the header, or the link of the page before it. Page 0: the end's.
     #[tactic(auto, using(crate::proofs::Laws::cells))]
-    pub fn cell_of(self, m: &Memory, page: ControlPage) -> u16
-        ensures { (result ≡ Model.cell_of Map.control_pages m.now self.link self.header page.0) × (result < 8192) }
+    pub fn cell_of(self, m: &Memory, page: ControlPage, left: u8) -> u16
+        ensures { (result ≡ Model.cell_of left m.now self.link self.header page.0) × (result < 8192) }
     {
         let mut cell = self.header;
-        for _ in 0..map::CONTROL_PAGES {
+        for _ in 0..left {
             let word = at(m, cell);
             if word == page.0 {
                 return cell;
@@ -128,7 +128,7 @@ impl Queue {
         ensures { m.new ≡ Model.join m.old self.header self.link page.0 }
     {
         page.store(m, self.link, 0);
-        let cell = self.cell_of(m, ControlPage(0));
+        let cell = self.cell_of(m, ControlPage(0), map::CONTROL_PAGES);
         write(m, cell, page.0);
     }
 
@@ -138,7 +138,7 @@ impl Queue {
         ensures { m.new ≡ Model.leave m.old self.header self.link page.0 }
     {
         let next = page.word(m, self.link);
-        let cell = self.cell_of(m, page);
+        let cell = self.cell_of(m, page, map::CONTROL_PAGES);
         write(m, cell, next);
         page.store(m, self.link, 0);
     }
