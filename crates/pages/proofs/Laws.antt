@@ -41,6 +41,6 @@ pub back_free : (m m₁ : Memory) (q : ℕ) → None ≡ found (at m page_queue)
 unfolding Page.give_back
 back_free m m₁ q e e₁ = rw (eq-eqb (at m page_queue) 0 (none_is _ e)) e₁
 
-pub back_granted : (m m₁ : Memory) (q : ℕ) (p : ControlPage) → Some p ≡ found (at m page_queue) → m₁ ≡ grant_page m p.0 q → m₁ ≡ give_back m q
+pub back_granted : (m m₁ : Memory) (q : ℕ) (p : ControlPage) → m₁ ≡ grant_page m p.0 q → Some p ≡ found (at m page_queue) → m₁ ≡ give_back m q
 unfolding Page.give_back
-back_granted m m₁ q p e e₁ = rw (ne_eqb (at m page_queue) 0 (some_not _ p e), ← (some_is _ p e)) e₁
+back_granted m m₁ q p e₁ e = rw (ne_eqb (at m page_queue) 0 (some_not _ p e), ← (some_is _ p e)) e₁
