@@ -95,7 +95,7 @@ pub fewer : {s t : List ℕ} {x : ℕ} → s ≡ x ∷ t → length t < length s
 fewer e = rw e (omega arith)
 
 -- ---- a search along a walk: no page of it is 0
-abbrev NoZero : List ℕ → Type 0
+abbrev pub NoZero : List ℕ → Type 0
 NoZero [] = Unit {0}
 NoZero (x ∷ xs) = (x ≡ 0 → ⊥) × NoZero xs
 
@@ -103,7 +103,7 @@ no_zero_if : (b : Bool) (w : ℕ) (xs : List ℕ) → (b ≡ false → w ≡ 0 �
 no_zero_if true w xs z h = tt
 no_zero_if false w xs z h = (z refl, h)
 
-no_zero : (n : ℕ) (m : Memory) (k a : ℕ) → NoZero (walk n m k a)
+pub no_zero : (n : ℕ) (m : Memory) (k a : ℕ) → NoZero (walk n m k a)
 unfolding Queue.walk
 no_zero zero m k a = tt
 no_zero (suc n) m k a =
