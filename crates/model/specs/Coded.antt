@@ -64,6 +64,10 @@ refusal refused at (TooNew v) = at too_new v
 refusal refused at (Broken c a) = at (class_number c) a
 refusal refused at NoRoom = refused no_room
 
+-- its number, whatever it tells beside that
+unfoldable pub refusal_number : Refusal → ℕ
+refusal_number = refusal (λ k. k) (λ k a. k)
+
 -- ---- answers
 unfoldable pub answered : Answered → Answer
 answered Coded.Done = Answer.Done

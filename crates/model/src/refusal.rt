@@ -2,7 +2,7 @@
 // value out of range"; "A longer or odd list is refused by 27"; "a version above the reader's own is refused by 29 with that version, any other break of layout
 // .. by 28", "by 35 if the lent buffer is too short".
 ghost use Rattle.std.specs.Prelude.{◌≡◌};
-ghost use Rattle.model.specs.Coded.{class_number};
+ghost use Rattle.model.specs.Coded.{class_number, refusal_number};
 
 // "30 a control page used twice or not at all, 31 a wait queue or semaphore, 32 a processor or message record, 33 the code or error table, 34 counters and the
 // running entry".
@@ -38,5 +38,27 @@ impl From<Class> for u8 {
 
     fn from(class: Class) -> u8 {
         class as u8
+    }
+}
+
+// What a refusal tells beside its number is left out.
+impl From<Refusal> for u8 {
+    ghost from_gives = { λ r n. n ≡ refusal_number r };
+
+    #[tactic(auto, unfolding(crate::specs::Coded::refusal_number, crate::specs::Coded::refusal))]
+    fn from(refusal: Refusal) -> u8 {
+        match refusal {
+            Refusal::WrongLength => 20,
+            Refusal::Idle => 22,
+            Refusal::NoInstruction => 23,
+            Refusal::NoInterrupt | Refusal::NoInterruptAt(_) => 24,
+            Refusal::WrongClass | Refusal::WrongClassAt(_) => 25,
+            Refusal::OutOfRange => 26,
+            Refusal::WrongList => 27,
+            Refusal::BrokenLayout => 28,
+            Refusal::TooNew(_) => 29,
+            Refusal::Broken(class, _) => u8::from(class),
+            Refusal::NoRoom => 35,
+        }
     }
 }
