@@ -41,15 +41,6 @@ pub const SITED_HEAD: usize = 5;
 
 pub const LABELLED_HEAD: usize = 17;
 
-// The letters of a label: A-Z and a-z.
-pub const CAPITAL_A: u8 = 65;
-
-pub const AFTER_CAPITALS: u8 = 91;
-
-pub const SMALL_A: u8 = 97;
-
-pub const AFTER_SMALLS: u8 = 123;
-
 // "(name, priority, W, address)", an address "high byte first".
 impl From<[u8; ENTRY_BYTES]> for Entry {
     ghost from_gives = { λ b e. e ≡ Layout.entry_at b 0 };
