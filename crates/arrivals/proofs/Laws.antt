@@ -169,7 +169,7 @@ bad_told Refusal.OutOfRange ps m l h = absurd (no_place ps _ h)
 bad_told Refusal.WrongList ps m l h = absurd (no_place ps _ h)
 bad_told Refusal.BrokenLayout ps m l h = absurd (no_place ps _ h)
 bad_told (Refusal.TooNew v) ps m l h = rw (← h)
-bad_told (Refusal.Broken c a) ps m l h = rw (← h)
+bad_told (Refusal.Broken b) ps m l h = rw (← h)
 bad_told Refusal.NoRoom ps m l h = absurd (no_place ps _ h)
 
 module _ (m : Memory) (l : List ℕ) (a : Bool) (ea : a ≡ is_list l) where

@@ -10,7 +10,6 @@ use native.Mathlib.Numerals.{sub-one}
 use native.Mathlib.Omega.{arith}
 use Rattle.model.specs.Told.{Finding}
 use Rattle.model.specs.Told.Finding.{WrongLength, Broken}
-use Rattle.model.specs.Told.{Finding}
 use Rattle.model.specs.declared.Side.TheVariants.{First, Second}
 use Rattle.model.specs.declared.Line.TheVariants.{Word, Refused, RefusedAt, Processor}
 use Rattle.model.specs.declared.Said.{Said}

@@ -2,7 +2,6 @@
 use Rattle.std.specs.Prelude.{ℕ, zero, suc, ◌+◌, ◌-◌, Bool, true, false, cond, ◌&&◌, List, [], ◌∷◌, ◌++◌, eqb, ltb, get_or}
 use Rattle.model.specs.Told.{Finding}
 use Rattle.model.specs.Told.Finding.{WrongLength, Broken}
-use Rattle.model.specs.Told.{Finding}
 use Rattle.model.specs.declared.Side.TheVariants as Side
 use Rattle.model.specs.declared.Said.{Said}
 use Rattle.model.specs.declared.Said.TheVariants.{Nothing, OnlyIn, DiffersIn}

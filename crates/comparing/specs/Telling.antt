@@ -11,7 +11,6 @@ use Rattle.std.proofs.Math.ListN.{length}
 use borrow.Author.Tests.{eq-eqb, lt-ltb, le-ltb}
 use Rattle.model.specs.Told.{Finding}
 use Rattle.model.specs.Told.Finding.{WrongLength, Broken}
-use Rattle.model.specs.Told.{Finding}
 use Rattle.model.specs.declared.Side.TheVariants as Side
 use Rattle.model.specs.declared.Said.{Said}
 use Rattle.model.specs.declared.Said.TheVariants.{Nothing, OnlyIn, DiffersIn}

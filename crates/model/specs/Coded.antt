@@ -8,6 +8,7 @@ use Rattle.model.specs.declared.fault.Fault.{Fault as Faulted}
 use Rattle.model.specs.declared.fault.Fault.TheVariants as Fault
 use Rattle.model.specs.declared.refusal.Class.{Class}
 use Rattle.model.specs.declared.refusal.Class.TheVariants.{Pages, Waits, Records, Tables, Counters}
+use Rattle.model.specs.declared.refusal.Broken.{Broken as BrokenAt}
 use Rattle.model.specs.declared.refusal.Refusal.{Refusal}
 use Rattle.model.specs.declared.refusal.Refusal.TheVariants.{WrongLength, Idle, NoInstruction, NoInterrupt, NoInterruptAt, WrongClass, WrongClassAt, OutOfRange, WrongList, BrokenLayout, TooNew, Broken, NoRoom}
 use Rattle.model.specs.Told.{Answer, Held, Verdict, Finding, Checked, Fit, Writing}
@@ -61,12 +62,15 @@ refusal refused at OutOfRange = refused out_of_range
 refusal refused at WrongList = refused wrong_list
 refusal refused at BrokenLayout = refused broken_layout
 refusal refused at (TooNew v) = at too_new v
-refusal refused at (Broken c a) = at (class_number c) a
+refusal refused at (Broken b) = at (class_number b.class) b.address
 refusal refused at NoRoom = refused no_room
 
--- its number, whatever it tells beside that
+-- its number, and what is told beside it
 unfoldable pub refusal_number : Refusal → ℕ
 refusal_number = refusal (λ k. k) (λ k a. k)
+
+unfoldable pub refusal_place : Refusal → Option ℕ
+refusal_place = refusal (λ k. None) (λ k a. Some a)
 
 -- ---- answers
 unfoldable pub answered : Answered → Answer
@@ -95,10 +99,10 @@ unfoldable pub fit_told : Result (Unit {0}) Refusal → Fit
 fit_told (Ok u) = Fit.Good
 fit_told (Err e) = refusal Fit.Refused Fit.RefusedAt e
 
--- a wrong length is refused with no address, what is broken with one
-unfoldable pub finding_told : Result (Unit {0}) Refusal → Finding
-finding_told (Ok u) = Finding.Nothing
-finding_told (Err e) = refusal (λ k. Finding.WrongLength) Finding.Broken e
+-- what is found of a memory of the right length
+unfoldable pub broken_told : Result (Unit {0}) BrokenAt → Finding
+broken_told (Ok u) = Finding.Nothing
+broken_told (Err b) = Finding.Broken (class_number b.class) b.address
 
 unfoldable pub checked_told : Result (Unit {0}) Refusal → Checked
 checked_told (Ok u) = Checked.Good

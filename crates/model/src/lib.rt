@@ -12,7 +12,7 @@ ghost use Rattle.model.specs.Processor as Processor;
 ghost use Rattle.model.specs.Bytes as Model;
 
 pub use fault::Fault;
-pub use refusal::{Class, Refusal};
+pub use refusal::{Broken, Class, Refusal};
 
 // "8,192 words of 8 bits".
 pub type Memory = [u8; map::MEMORY_WORDS];

@@ -93,7 +93,7 @@ told_alike Refusal.OutOfRange l b used = refl
 told_alike Refusal.WrongList l b used = refl
 told_alike Refusal.BrokenLayout l b used = refl
 told_alike (Refusal.TooNew v) l b used = refl
-told_alike (Refusal.Broken c a) l b used = refl
+told_alike (Refusal.Broken x) l b used = refl
 told_alike Refusal.NoRoom l b used = refl
 
 module _ (l b : List ℕ) (used : ℕ) where
