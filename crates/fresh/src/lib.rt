@@ -1,7 +1,8 @@
 // Fresh start: "Fresh takes clock line and divider, clears .., then: ..".
 #![tactic(auto)]
 
-ghost use Rattle.std.specs.Prelude.{◌≡◌, ◌≤◌, ◌+◌, length};
+ghost use Rattle.std.specs.Prelude.{◌≡◌};
+ghost use Rattle.model.specs.Map as Map;
 ghost use Rattle.model.specs.Fresh as Fresh;
 ghost use Rattle.model.specs.Bytes as Model;
 
@@ -10,25 +11,16 @@ use turn::runs;
 use words::{write, zero};
 
 // Whether clock line and divider are in range.
+#[tactic(auto, using(model::proofs::Tests::tests), unfolding(model::specs::Fresh::startable))]
 pub fn startable(line: u16, divider: u16) -> bool
     ensures { result ≡ Fresh.startable line divider }
 {
-    if line < map::FIRST_OUTER_WIDE {
-        return false;
-    }
-    if map::LAST_LINE_WIDE < line {
-        return false;
-    }
-    if divider == 0 {
-        return false;
-    }
-    if map::A_WORD_WIDE < divider {
-        return false;
-    }
-    true
+    (map::FIRST_OUTER_WIDE..=map::LAST_LINE_WIDE).contains(&line)
+        && (1..=map::A_WORD_WIDE).contains(&divider)
 }
 
 // Page 0, pages 4-10 and 236-255 are cleared.
+#[tactic(auto, using(crate::proofs::Laws::cleared_is))]
 fn clear_pages(m: &mut Memory)
     ensures { m.new ≡ Model.cleared m.old }
 {
@@ -37,6 +29,7 @@ fn clear_pages(m: &mut Memory)
     zero(m, map::CONTROL_PAGE, map::CONTROL_WORDS);
 }
 
+#[tactic(auto, unfolding(model::specs::Fresh::timed))]
 fn set_clock(m: &mut Memory, line: u8, divider: u8)
     ensures { m.new ≡ Model.timed m.old line divider }
 {
@@ -45,54 +38,44 @@ fn set_clock(m: &mut Memory, line: u8, divider: u8)
 }
 
 // Processor 1, priority 1, on page 236, running.
+#[tactic(auto, using(crate::proofs::Laws::first_is))]
 fn first_processor(m: &mut Memory)
     ensures { m.new ≡ Model.first_processor m.old }
 {
-    let p = ControlPage(map::FIRST_CONTROL);
-    p.store(m, map::LABEL, map::FIRST_LABEL);
-    let r = Registers::starting_at(map::START_ADDRESS, 0);
-    r.hand_back(m, p);
+    let page = ControlPage(map::FIRST_CONTROL);
+    page.store(m, map::LABEL, map::FIRST_LABEL);
+    Registers::starting_at(map::START_ADDRESS, 0).hand_back(m, page);
     write(m, map::PROCESSOR_LIST, map::FIRST_CONTROL);
-    runs(m, p);
+    runs(m, page);
 }
 
-// Each of so many pages from the page on links to the next.
-fn chain(m: &mut Memory, page: ControlPage, count: u8)
-    requires { page.0 + count ≤ 255 }
-    ensures { m.new ≡ Model.chained count m.old page.0 }
-{
-    if count == 0 {
-        return;
-    }
-    let next = page.0 + 1;
-    page.store(m, map::LINK, next);
-    chain(m, ControlPage(next), count - 1);
-}
-
-// Pages 237-255 are free in order.
+// Pages 237-255 are free in order: each but the last links to the next.
+#[tactic(auto, using(crate::proofs::Laws::chaining))]
 fn free_pages(m: &mut Memory)
     ensures { m.new ≡ Model.freed m.old }
 {
     write(m, map::FREE_LIST, map::FIRST_FREE);
     write(m, map::FREE_SEMAPHORE, map::FREE_PAGES);
-    chain(m, ControlPage(map::FIRST_FREE), map::FREE_LINKS);
-}
-
-// So many codes, from the first on, are built in.
-fn build_in(m: &mut Memory, count: u8)
-    ensures { m.new ≡ Model.all_built_in count m.old }
-{
-    if count == 0 {
-        return;
+    for page in map::FIRST_FREE..map::LAST_CONTROL {
+        ControlPage(page).store(m, map::LINK, page + 1);
     }
-    write(
-        m,
-        map::CODE_WORDS + 2 * wide(count - 1),
-        instructions::BUILT_IN_WORD,
-    );
-    build_in(m, count - 1);
 }
 
+// Codes 0-14 are built in.
+#[tactic(auto, using(crate::proofs::Laws::building))]
+fn build_in(m: &mut Memory)
+    ensures { m.new ≡ Model.all_built_in Map.built_in_codes m.old }
+{
+    for code in (0..map::BUILT_IN_CODES).rev() {
+        write(
+            m,
+            map::CODE_WORDS + 2 * wide(code),
+            instructions::BUILT_IN_WORD,
+        );
+    }
+}
+
+#[tactic(auto, using(crate::proofs::Laws::started_is))]
 pub fn start(m: &mut Memory, line: u8, divider: u8)
     ensures { m.new ≡ Model.started m.old line divider }
 {
@@ -100,6 +83,6 @@ pub fn start(m: &mut Memory, line: u8, divider: u8)
     set_clock(m, line, divider);
     first_processor(m);
     free_pages(m);
-    build_in(m, map::BUILT_IN_CODES);
+    build_in(m);
     write(m, map::FIRST_UNUSED, 1);
 }

@@ -77,44 +77,35 @@ pub fn guarded(address: u16) -> bool
 }
 
 // Whether none of so many words from an address on is protected.
-#[tactic(auto, using(crate::proofs::Laws::words))]
+#[tactic(auto, using(crate::proofs::Laws::clear_all))]
 pub fn clear(count: u8, address: u16) -> bool
     requires { address < 8192 }
     ensures { result ≡ Address.clear count address }
 {
-    if count == 0 {
-        return true;
-    }
-    let b = wrapped(address, wide(count - 1));
-    if guarded(b) {
-        return false;
-    }
-    clear(count - 1, address)
+    (0..count).all(|offset| !guarded(wrapped(address, wide(offset))))
 }
 
 // So many words are copied.
-#[tactic(auto, using(crate::proofs::Laws::words))]
+#[tactic(auto, using(crate::proofs::Laws::copied))]
 pub fn copy(m: &mut Memory, from: u16, to: u16, count: u8)
     requires { (from < 8192) × (to < 8192) }
     ensures { m.new ≡ Model.copy count m.old from to }
 {
-    if count == 0 {
-        return;
+    let mut source = from;
+    let mut target = to;
+    for _ in 0..count {
+        let word = at(m, source);
+        write(m, target, word);
+        source = wrapped(source, 1);
+        target = wrapped(target, 1);
     }
-    let word = at(m, from);
-    write(m, to, word);
-    copy(m, wrapped(from, 1), wrapped(to, 1), count - 1);
 }
 
 // So many words from an address on become 0.
-#[tactic(auto, using(crate::proofs::Laws::zero_again, crate::proofs::Laws::zero_done))]
 pub fn zero(m: &mut Memory, address: u16, count: u16)
     requires { address + count ≤ 8192 }
     ensures { m.new ≡ Model.zeroed count m.old address }
 {
-    let mut left = count;
-    while 0 < left {
-        left -= 1;
-        write(m, address + left, 0);
-    }
+    let start = usize::from(address);
+    m[start..start + usize::from(count)].fill(0);
 }

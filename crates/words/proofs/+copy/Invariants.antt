@@ -1,4 +1,0 @@
-use Rattle.words.proofs.+copy.Given as goal
-
-abbrev pub decreases-copy : goal.decreases-copy
-decreases-copy l = l.count
