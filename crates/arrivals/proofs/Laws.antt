@@ -1,162 +1,206 @@
--- A law for each way through an arrival and a burst.
-use Prim.Native.Nat.{ℕ, ◌≤◌, ◌<◌, ◌+◌, ◌-◌, ◌%◌}
-use mathlib.Core.Path.{◌≡◌, refl, sym, ◌∙◌}
-use mathlib.Core.List.{List, [], ◌∷◌}
-use mathlib.Core.Bool.{Bool, true, false}
-use lib.Dec.{eqb}
-use lib.ListN.{length, get_or, take, drop}
-use lib.Seq.{take_all}
-use borrow.Author.Tests.{lt-ltb, le-ltb}
-use native.Mathlib.Omega.{arith}
-use Rattle.model.specs.Told.Answer.{Done, RefusedAt}
+-- What an arrival and a burst rest on.
+use Rattle.std.proofs.Common.{◌≡◌, refl, sym, ap, ◌∙◌, ℕ, suc, ◌+◌, ◌/◌, ◌≤◌, ◌<◌, Bool, true, false, not, Ok, Err}
+use Rattle.std.proofs.Common.{List, [], ◌∷◌, length, get_or, drop, arith, drop-cons, drop_of_length-le}
+use Rattle.std.specs.Simd.{first_chunks}
+use Rattle.model.specs.declared.refusal.Refusal.{Refusal}
+use Rattle.model.specs.declared.Answer.TheVariants as Answer
 use Rattle.model.specs.Told.{Checked}
 use Rattle.model.specs.Told.Checked.{Good, Bad}
-use Rattle.model.specs.Map.{low, pair_bytes, longest_list}
 use Rattle.model.specs.Address.{unless}
 use Rattle.model.specs.Answer.{no_interrupt, wrong_class}
+use Rattle.model.specs.Answer.Outcome.{gives}
+use Rattle.model.specs.Coded as Coded
+use Rattle.model.specs.Coded.{told, checked_told}
 use Rattle.model.specs.Call.{is_outer, is_class}
 use Rattle.model.specs.Burst as Burst
 use Rattle.model.specs.Burst.{is_list, tested}
-use Rattle.model.specs.Answer.Outcome.{gives}
-use Rattle.model.specs.Bytes.{Memory, who_runs, delivered, arrived, heeds_pairs}
-use Rattle.laws.specs.Pairs.{outer_of, class_of, list_of, good_first}
-use Rattle.arrivals.specs.Good.{AllGood}
+use Rattle.model.specs.Bytes.{Memory, who_runs, delivered, arrived, heeds_pairs, burst_judged}
+use Rattle.laws.specs.Pairs.{outer_of, class_of, list_of}
+use Rattle.arrivals.specs.Pairs as Pairs
+use Rattle.arrivals.specs.Pairs.{number_in, class_in, pairs_tested, pairs_arrived}
 
--- ---- an arrival: v and w are number and class as bytes
-pub arrives : (m m₁ m₂ : Memory) (k c v w : ℕ) → is_outer k ≡ true → is_class k c ≡ true → v ≡ low (k % 55) → w ≡ low c → m₁ ≡ delivered m v w
-    → m₂ ≡ who_runs m₁
-    → m₂ ≡ who_runs (delivered m k c)
-arrives m m₁ m₂ k c v w a b ev ew e₁ e₂ =
-    let q = outer_of k a in
-    let r = class_of k c b in
-    let x : v ≡ k = omega arith in
-    let y : w ≡ c = omega arith in
-    rw (← x, ← y, ← e₁) e₂
+-- ---- an arrival: number and class fit a byte
+pub number_fits : (k : ℕ) → is_outer k ≡ true → k ≤ 50
+number_fits k h = (outer_of k h).1
 
--- ---- whether a list may be a burst
-pub too_long : (l : List ℕ) → longest_list < length l → false ≡ is_list l
-unfolding Burst.is_list
-too_long l h = rw (lt-ltb longest_list (length l) h)
+pub class_fits : (k c : ℕ) → is_class k c ≡ true → c ≤ 31
+class_fits k c h = class_of k c h
 
-pub in_pairs : (l : List ℕ) (b : Bool) → length l ≤ longest_list → b ≡ eqb (length l % pair_bytes) 0 → b ≡ is_list l
-unfolding Burst.is_list
-in_pairs l b h e = rw (le-ltb longest_list (length l) h) e
+pub ruleset arrivals = (number_fits, class_fits)
 
--- ---- what stands behind the first pair of a list, as the code takes it
-abbrev rest : List ℕ → List ℕ
-rest l = take (length l - 2) (drop 2 l)
+-- ---- the pairs of a list
+abbrev pub pairs_of : List ℕ → List (List ℕ)
+pairs_of l = first_chunks 2 (length l / 2) l
 
-rest_is : (k c : ℕ) (l : List ℕ) → rest (k ∷ c ∷ l) ≡ l
-rest_is k c l = take_all (length (k ∷ c ∷ l) - 2) l (omega arith)
+pairs_next : (k c : ℕ) (l : List ℕ) → pairs_of (k ∷ c ∷ l) ≡ (k ∷ c ∷ []) ∷ pairs_of l
+pairs_next k c l = let e : length (k ∷ c ∷ l) / 2 ≡ suc (length l / 2) = omega arith in ap (λ n. first_chunks 2 n (k ∷ c ∷ l)) e
 
--- ---- the pairs tested: by whether the number and the class of the first, of place i, passed, and what is told of the rest
-abbrev pair_told : Bool → Bool → ℕ → Checked → Checked
-pair_told a b i t = unless a (Bad no_interrupt i) (unless b (Bad wrong_class i) t)
+pub tested_pairs : (i : ℕ) (l : List ℕ) → pairs_tested i (pairs_of l) ≡ tested i l
+unfolding Burst.tested Pairs.pairs_tested
+tested_pairs i [] = refl
+tested_pairs i (k ∷ []) = refl
+tested_pairs i (k ∷ c ∷ l) =
+    ap (pairs_tested i) (pairs_next k c l)
+    ∙ ap (λ t. unless (is_outer k) (Bad no_interrupt i) (unless (is_class k c) (Bad wrong_class i) t)) (tested_pairs (i + 1) l)
 
-tested_pair : (i k c : ℕ) (l : List ℕ) → tested i (k ∷ c ∷ l) ≡ pair_told (is_outer k) (is_class k c) i (tested (i + 1) l)
-unfolding Burst.tested
-tested_pair i k c l = refl
+pub arrived_pairs : (m : Memory) (l : List ℕ) → pairs_arrived m (pairs_of l) ≡ arrived m l
+unfolding Burst.arrived Pairs.pairs_arrived
+arrived_pairs m [] = refl
+arrived_pairs m (k ∷ []) = refl
+arrived_pairs m (k ∷ c ∷ l) = ap (pairs_arrived m) (pairs_next k c l) ∙ arrived_pairs (who_runs (delivered m k c)) l
 
-pub tested_end : (i : ℕ) (l : List ℕ) → length l < pair_bytes → Good ≡ tested i l
-unfolding Burst.tested
-tested_end i [] h = refl
-tested_end i (k ∷ []) h = refl
-tested_end i (k ∷ c ∷ l) h = absurd (omega arith)
+-- what a test found, where the code asks whether it failed
+not_true : (a : Bool) → not a ≡ true → a ≡ false
+not_true true h = sym h
+not_true false h = refl
 
--- the first pair is k and c, and a and b say whether it passed
-pub tested_number : (i : ℕ) (l : List ℕ) (k : ℕ) (a : Bool) → pair_bytes ≤ length l → k ≡ get_or l 0 0 → a ≡ is_outer k → a ≡ false
-    → Bad no_interrupt i ≡ tested i l
-tested_number i [] k a h ek ea za = absurd (omega arith)
-tested_number i (x ∷ []) k a h ek ea za = absurd (omega arith)
-tested_number i (x ∷ y ∷ l) k a h ek ea za = rw (tested_pair, ← ek, ← ea, za)
+not_false : (a : Bool) → not a ≡ false → a ≡ true
+not_false true h = refl
+not_false false h = sym h
 
-pub tested_class : (i : ℕ) (l : List ℕ) (k c : ℕ) (a b : Bool) → pair_bytes ≤ length l → k ≡ get_or l 0 0 → a ≡ is_outer k → a ≡ true → c ≡ get_or l 1 0
-    → b ≡ is_class k c
-    → b ≡ false
-    → Bad wrong_class i ≡ tested i l
-tested_class i [] k c a b h ek ea za ec eb zb = absurd (omega arith)
-tested_class i (x ∷ []) k c a b h ek ea za ec eb zb = absurd (omega arith)
-tested_class i (x ∷ y ∷ l) k c a b h ek ea za ec eb zb = rw (tested_pair, ← ek, ← ec, ← ea, ← eb, za, zb)
+-- ---- pairs of which i are gone through: number and class of the next are k and c, and a and b say whether they passed
+abbrev from : ℕ → List (List ℕ) → Checked
+from i ps = pairs_tested (i + 1) (drop i ps)
 
-pub tested_on : (i : ℕ) (l : List ℕ) (k c : ℕ) (a b : Bool) (o : Checked) → pair_bytes ≤ length l → k ≡ get_or l 0 0 → a ≡ is_outer k → a ≡ true
-    → c ≡ get_or l 1 0
-    → b ≡ is_class k c
-    → b ≡ true
-    → o ≡ tested (i + 1) (rest l)
-    → o ≡ tested i l
-tested_on i [] k c a b o h ek ea za ec eb zb e = absurd (omega arith)
-tested_on i (x ∷ []) k c a b o h ek ea za ec eb zb e = absurd (omega arith)
-tested_on i (x ∷ y ∷ l) k c a b o h ek ea za ec eb zb e = rw (tested_pair, ← ek, ← ec, ← ea, ← eb, za, zb) (rw (rest_is x y l) at e)
+pair_next : (ps : List (List ℕ)) (i : ℕ) (d : List ℕ) → i < length ps → drop i ps ≡ get_or ps i d ∷ drop (i + 1) ps
+pair_next ps i d h = let e : i + 1 ≡ suc i = omega arith in rw e (drop-cons ps i d h)
 
--- ---- a list of good pairs: the first is good, and so are the rest
--- whatever place the first has
-good_from : (i j : ℕ) (l : List ℕ) → tested i l ≡ Good → tested j l ≡ Good
-unfolding Burst.tested
-good_from i j [] h = refl
-good_from i j (k ∷ []) h = refl
-good_from i j (k ∷ c ∷ l) h = let p = good_first i k c l h in rw (p.0.outer, p.0.class) (good_from (i + 1) (j + 1) l p.1)
+tested_next : (ps : List (List ℕ)) (i : ℕ) (d : List ℕ) → i < length ps → (k c : ℕ) → k ≡ get_or (get_or ps i d) 0 0 → c ≡ get_or (get_or ps i d) 1 0
+    → from i ps ≡ unless (is_outer k) (Bad no_interrupt (i + 1)) (unless (is_class k c) (Bad wrong_class (i + 1)) (from (i + 1) ps))
+unfolding Pairs.pairs_tested
+tested_next ps i d h k c ek ec = rw (ek, ec) (ap (pairs_tested (i + 1)) (pair_next ps i d h))
 
-pub first_outer_lem : (l : List ℕ) (k : ℕ) → pair_bytes ≤ length l → AllGood l → k ≡ get_or l 0 0 → is_outer k ≡ true
-first_outer_lem [] k h g ek = absurd (omega arith)
-first_outer_lem (x ∷ []) k h g ek = absurd (omega arith)
-first_outer_lem (x ∷ y ∷ l) k h g ek = rw ek (good_first g.place x y l g.good).0.outer
+module _ (ps : List (List ℕ)) (i : ℕ) (d : List ℕ) (h : i < length ps) (k : ℕ) (a : Bool) (g : from i ps ≡ pairs_tested 1 ps)
+    (ek : k ≡ get_or (get_or ps i d) 0 0)
+    (ea : a ≡ is_outer k) where
+  pub bad_number : not a ≡ true → checked_told (Err (Refusal.NoInterruptAt (i + 1))) ≡ pairs_tested 1 ps
+  unfolding Coded.checked_told Coded.refusal
+  bad_number z =
+      let c = get_or (get_or ps i d) 1 0 in
+      sym (tested_next ps i d h k c ek refl ∙ ap (λ x. unless x (Bad no_interrupt (i + 1)) (unless (is_class k c) (Bad wrong_class (i + 1)) (from (i + 1) ps)))
+      (sym ea ∙ not_true a z))
+      ∙ g
 
-pub first_class : (l : List ℕ) (k c : ℕ) → pair_bytes ≤ length l → AllGood l → k ≡ get_or l 0 0 → c ≡ get_or l 1 0 → is_class k c ≡ true
-first_class [] k c h g ek ec = absurd (omega arith)
-first_class (x ∷ []) k c h g ek ec = absurd (omega arith)
-first_class (x ∷ y ∷ l) k c h g ek ec = rw (ek, ec) (good_first g.place x y l g.good).0.class
+  module _ (c : ℕ) (b : Bool) (za : not a ≡ false) (ec : c ≡ get_or (get_or ps i d) 1 0) (eb : b ≡ is_class k c) where
+    next : from i ps ≡ unless (is_class k c) (Bad wrong_class (i + 1)) (from (i + 1) ps)
+    next =
+        tested_next ps i d h k c ek ec ∙ ap (λ x. unless x (Bad no_interrupt (i + 1)) (unless (is_class k c) (Bad wrong_class (i + 1)) (from (i + 1) ps)))
+        (sym ea ∙ not_false a za)
 
-pub rest_good : (l : List ℕ) → pair_bytes ≤ length l → AllGood l → AllGood (rest l)
-rest_good [] h g = absurd (omega arith)
-rest_good (x ∷ []) h g = absurd (omega arith)
-rest_good (x ∷ y ∷ l) h g = rw (rest_is x y l) (record { place = g.place + 1; good = (good_first g.place x y l g.good).1 })
+    pub bad_class : not b ≡ true → checked_told (Err (Refusal.WrongClassAt (i + 1))) ≡ pairs_tested 1 ps
+    unfolding Coded.checked_told Coded.refusal
+    bad_class z = sym (next ∙ ap (λ y. unless y (Bad wrong_class (i + 1)) (from (i + 1) ps)) (sym eb ∙ not_true b z)) ∙ g
 
--- ---- the pairs arrive
-pub arrived_end : (m : Memory) (l : List ℕ) → length l < pair_bytes → m ≡ arrived m l
-unfolding Burst.arrived
-arrived_end m [] h = refl
-arrived_end m (k ∷ []) h = refl
-arrived_end m (k ∷ c ∷ l) h = absurd (omega arith)
+    pub good_pair : not b ≡ false → from (i + 1) ps ≡ pairs_tested 1 ps
+    good_pair z = sym (next ∙ ap (λ y. unless y (Bad wrong_class (i + 1)) (from (i + 1) ps)) (sym eb ∙ not_false b z)) ∙ g
 
-pub arrived_on : (m m₁ m₂ : Memory) (l : List ℕ) (k c : ℕ) → pair_bytes ≤ length l → k ≡ get_or l 0 0 → c ≡ get_or l 1 0 → m₁ ≡ who_runs (delivered m k c)
-    → m₂ ≡ arrived m₁ (rest l)
-    → m₂ ≡ arrived m l
-unfolding Burst.arrived
-arrived_on m m₁ m₂ [] k c h ek ec e₁ e₂ = absurd (omega arith)
-arrived_on m m₁ m₂ (x ∷ []) k c h ek ec e₁ e₂ = absurd (omega arith)
-arrived_on m m₁ m₂ (x ∷ y ∷ l) k c h ek ec e₁ e₂ = rw (← ek, ← ec, ← e₁) (rw (rest_is x y l) at e₂)
+pub tested_all : (ps : List (List ℕ)) (i : ℕ) (u : Unit {0}) → length ps ≤ i → from i ps ≡ pairs_tested 1 ps → checked_told (Ok u) ≡ pairs_tested 1 ps
+unfolding Coded.checked_told Pairs.pairs_tested
+tested_all ps i u h g = let e : drop i ps ≡ [] = drop_of_length-le ps {i = i} h in sym (ap (pairs_tested (i + 1)) e) ∙ g
 
-pub ruleset bursts = (
-  arrives,
-  tested_end,
-  tested_number,
-  tested_class,
-  tested_on,
-  first_outer_lem,
-  first_class,
-  rest_good,
-  arrived_end,
-  arrived_on,
-)
+pub ruleset testing = (bad_number, bad_class, good_pair, tested_all)
 
--- ---- a test t was found to be a, and passed
-pub passed : (a t : Bool) → a ≡ t → a ≡ true → t ≡ true
-passed a t e h = sym e ∙ h
+-- ---- of good pairs the next passes, and arrives
+module _ (ps : List (List ℕ)) (i : ℕ) (d : List ℕ) (h : i < length ps) (k c : ℕ) (g : from i ps ≡ Good) (ek : k ≡ get_or (get_or ps i d) 0 0)
+    (ec : c ≡ get_or (get_or ps i d) 1 0) where
+  passes : (is_outer k ≡ true) × (is_class k c ≡ true) × (from (i + 1) ps ≡ Good)
+  passes = go (is_outer k) (is_class k c) refl refl (sym (tested_next ps i d h k c ek ec) ∙ g)
+    where
+      go : (x y : Bool) → is_outer k ≡ x → is_class k c ≡ y
+          → unless x (Bad no_interrupt (i + 1)) (unless y (Bad wrong_class (i + 1)) (from (i + 1) ps)) ≡ Good
+          → (is_outer k ≡ true) × (is_class k c ≡ true) × (from (i + 1) ps ≡ Good)
+      go true true e f q = (e, f, q)
+      go true false e f q = let z : ◌≡◌ {A = ℕ} 0 1 = cc in absurd (omega arith)
+      go false y e f q = let z : ◌≡◌ {A = ℕ} 0 1 = cc in absurd (omega arith)
 
--- ---- a burst: a list that may be one is short, so that the places of its pairs, from i on, are numbers of 16 bits; t is what came of its tests
-pub places_fit : (l : List ℕ) (i : ℕ) (a : Bool) → a ≡ is_list l → a ≡ true → i ≤ 1 → i + length l < 65536
-places_fit l i a ea h f = let p = list_of l (sym ea ∙ h) in omega (arith, p.short)
+  pub next_outer : is_outer k ≡ true
+  next_outer = passes.0
 
--- all are good, whatever place the first had
-module _ (l : List ℕ) (t : Checked) (i : ℕ) (et : t ≡ tested i l) (z : t ≡ Good) where
-  pub all_good : AllGood l
-  all_good = record { place = i; good = sym et ∙ z }
+  pub next_class : is_class k c ≡ true
+  next_class = passes.1
 
-  pub pairs_arrive : (m m₁ : Memory) → m₁ ≡ arrived m l → gives Done m₁ ≡ heeds_pairs (tested 1 l) m l
-  pairs_arrive m m₁ e₁ = rw (good_from i 1 l (sym et ∙ z), ← e₁)
+  pub next_good : from (i + 1) ps ≡ Good
+  next_good = passes.2
 
--- the first bad one has place i
-pub pairs_bad : (m : Memory) (l : List ℕ) (t : Checked) (n i : ℕ) → t ≡ tested 1 l → t ≡ Bad n i → gives (RefusedAt n i) m ≡ heeds_pairs (tested 1 l) m l
-pairs_bad m l t n i et z = rw (← et, z)
+pub next_arrives : (ps : List (List ℕ)) (i : ℕ) (d : List ℕ) (k c : ℕ) (m m₁ r : Memory) → pairs_arrived m (drop i ps) ≡ r → m₁ ≡ who_runs (delivered m k c)
+    → k ≡ get_or (get_or ps i d) 0 0 → c ≡ get_or (get_or ps i d) 1 0 → i < length ps → pairs_arrived m₁ (drop (i + 1) ps) ≡ r
+unfolding Pairs.pairs_arrived
+next_arrives ps i d k c m m₁ r er e ek ec h =
+    let p = get_or ps i d in
+    ap (λ x. pairs_arrived x (drop (i + 1) ps)) (e ∙ ap (λ x. who_runs (delivered m x c)) ek ∙ ap (λ y. who_runs (delivered m (get_or p 0 0) y)) ec)
+    ∙ sym (ap (pairs_arrived m) (pair_next ps i d h))
+    ∙ er
 
-pub ruleset lists = (places_fit, all_good, pairs_arrive, pairs_bad)
+pub arrived_all : (ps : List (List ℕ)) (i : ℕ) (m r : Memory) → pairs_arrived m (drop i ps) ≡ r → length ps ≤ i → m ≡ r
+unfolding Pairs.pairs_arrived
+arrived_all ps i m r g h = let e : drop i ps ≡ [] = drop_of_length-le ps {i = i} h in sym (ap (pairs_arrived m) e) ∙ g
+
+pub ruleset arriving = (next_outer, next_class, next_good, next_arrives, arrived_all)
+
+-- ---- what a burst answers
+-- a bad pair has a place from that of the first on
+place_from : (i j n : ℕ) (ps : List (List ℕ)) → pairs_tested i ps ≡ Bad n j → i ≤ j
+unfolding Pairs.pairs_tested
+place_from i j n [] h = let z : ◌≡◌ {A = ℕ} 0 1 = cc in absurd (omega arith)
+place_from i j n (p ∷ ps) h = go (is_outer (number_in p)) (is_class (number_in p) (class_in p)) h (place_from (i + 1) j n ps)
+  where
+    go : (x y : Bool) → unless x (Bad no_interrupt i) (unless y (Bad wrong_class i) (pairs_tested (i + 1) ps)) ≡ Bad n j
+        → (pairs_tested (i + 1) ps ≡ Bad n j → i + 1 ≤ j)
+        → i ≤ j
+    go true true q r = let l = r q in omega arith
+    go true false q r = let e : i ≡ j = cc in omega arith
+    go false y q r = let e : i ≡ j = cc in omega arith
+
+no_place : (ps : List (List ℕ)) (n : ℕ) → Bad n 0 ≡ pairs_tested 1 ps → ⊥
+no_place ps n h = let l = place_from 1 0 n ps (sym h) in omega arith
+
+-- of those that have no place none is told
+bad_told : (e : Refusal) (ps : List (List ℕ)) (m : Memory) (l : List ℕ) → checked_told (Err e) ≡ pairs_tested 1 ps
+    → gives (told (Err e)) m ≡ heeds_pairs (pairs_tested 1 ps) m l
+unfolding Coded.checked_told Coded.told Coded.refusal
+bad_told Refusal.WrongLength ps m l h = absurd (no_place ps _ h)
+bad_told Refusal.Idle ps m l h = absurd (no_place ps _ h)
+bad_told Refusal.NoInstruction ps m l h = absurd (no_place ps _ h)
+bad_told Refusal.NoInterrupt ps m l h = absurd (no_place ps _ h)
+bad_told (Refusal.NoInterruptAt i) ps m l h = rw (← h)
+bad_told Refusal.WrongClass ps m l h = absurd (no_place ps _ h)
+bad_told (Refusal.WrongClassAt i) ps m l h = rw (← h)
+bad_told Refusal.OutOfRange ps m l h = absurd (no_place ps _ h)
+bad_told Refusal.WrongList ps m l h = absurd (no_place ps _ h)
+bad_told Refusal.BrokenLayout ps m l h = absurd (no_place ps _ h)
+bad_told (Refusal.TooNew v) ps m l h = rw (← h)
+bad_told (Refusal.Broken b) ps m l h = rw (← h)
+bad_told Refusal.NoRoom ps m l h = absurd (no_place ps _ h)
+
+module _ (m : Memory) (l : List ℕ) (a : Bool) (ea : a ≡ is_list l) where
+  pub burst_not : not a ≡ true → gives (told (Err Refusal.WrongList)) m ≡ burst_judged m l
+  unfolding Burst.burst_judged Coded.told Coded.refusal
+  burst_not z = let e : is_list l ≡ false = sym ea ∙ not_true a z in rw e
+
+  -- ps are its pairs
+  module _ (za : not a ≡ false) (ps : List (List ℕ)) (ep : ps ≡ pairs_of l) where
+    alike : pairs_tested 1 ps ≡ tested 1 l
+    alike = ap (pairs_tested 1) ep ∙ tested_pairs 1 l
+
+    listed : is_list l ≡ true
+    listed = sym ea ∙ not_false a za
+
+    pub pairs_few : length ps ≡ length l / 2 → length ps ≤ 32
+    pairs_few n = let t = list_of l listed in omega (arith, t.short)
+
+    pub burst_bad : (e : Refusal) → checked_told (Err e) ≡ pairs_tested 1 ps → gives (told (Err e)) m ≡ burst_judged m l
+    unfolding Burst.burst_judged
+    burst_bad e h = rw (listed, ← alike) (bad_told e ps m l h)
+
+    pub burst_good : (u : Unit {0}) → checked_told (Ok u) ≡ pairs_tested 1 ps → pairs_tested 1 ps ≡ Good
+    unfolding Coded.checked_told
+    burst_good u h = sym h
+
+    pub burst_done : (u : Unit {0}) (m₁ : Memory) → checked_told (Ok u) ≡ pairs_tested 1 ps → m₁ ≡ pairs_arrived m ps
+        → gives (told (Ok Answer.Done)) m₁ ≡ burst_judged m l
+    unfolding Burst.burst_judged Coded.checked_told Coded.told Coded.answered
+    burst_done u m₁ h e =
+        let z : m₁ ≡ arrived m l = e ∙ ap (pairs_arrived m) ep ∙ arrived_pairs m l in
+        rw (listed, ← alike, ← h, z)
+
+pub ruleset bursts = (burst_not, pairs_few, burst_bad, burst_good, burst_done)

@@ -1,2 +1,2 @@
--- What the tests of a burst say, for those who deliver it.
-pub mod Good
+-- A burst as the pairs that its list holds.
+pub mod Pairs

@@ -1,128 +1,113 @@
 // What comes from outside: whether an interrupt is one, its arrival, and a burst of them from the line card.
 #![tactic(auto)]
 
-ghost use Rattle.std.specs.Prelude.{◌≡◌, true, ◌≤◌, ◌<◌, ◌+◌, ◌%◌, length};
-ghost use Rattle.model.specs.Map as Map;
+ghost use Rattle.std.specs.Prelude.{◌≡◌, true, ◌≤◌, length};
 ghost use Rattle.model.specs.Call as Call;
 ghost use Rattle.model.specs.Burst as Burst;
+ghost use Rattle.model.specs.Told.Checked.{Good};
 ghost use Rattle.model.specs.Answer.Outcome.{gives};
 ghost use Rattle.model.specs.Bytes as Model;
-ghost use Rattle.arrivals.specs.Good.{AllGood};
+ghost use Rattle.model.specs.Coded.{told, checked_told};
+ghost use Rattle.arrivals.specs.Pairs.{pairs_tested, pairs_arrived};
 
-use interrupts::deliver;
-use model::{Answer, Checked, Memory, map, refusals, wide};
+use interrupts::Interrupt;
+use model::{Answer, Memory, Refusal, map};
 use turn::who_runs;
-use words::low;
+
+// "as pairs of number and class number".
+type Pair = [u8; map::PAIR_BYTES];
 
 // Whether the number is that of an interrupt from outside, and the class one that it may have.
+#[tactic(auto, unfolding(model::specs::Call::is_outer))]
 fn is_outer(number: u16) -> bool
     ensures { result ≡ Call.is_outer number }
 {
-    if number < map::FIRST_OUTER_WIDE {
-        return false;
-    }
-    if map::LAST_OUTER_WIDE < number {
-        return false;
-    }
-    true
+    (map::FIRST_OUTER_WIDE..=map::LAST_OUTER_WIDE).contains(&number)
 }
 
+#[tactic(auto, unfolding(model::specs::Call::is_class))]
 fn is_class(number: u16, class: u16) -> bool
     ensures { result ≡ Call.is_class number class }
 {
-    if map::LAST_CLASS < class {
-        return false;
-    }
-    if number < map::FIRST_CLASSED_WIDE {
-        return class == 0;
-    }
-    true
-}
-
-// Its number in a byte; one of an interrupt stays as it is.
-fn in_byte(number: u16) -> u8
-    ensures { (result ≡ Map.low (number % 55)) × (result ≤ 54) }
-{
-    low(number % map::INTERRUPT_NUMBERS)
+    class <= map::LAST_CLASS && (map::FIRST_CLASSED_WIDE <= number || class == 0)
 }
 
 // An interrupt that passed both tests is delivered; then who runs.
+#[tactic(auto, using(crate::proofs::Laws::arrivals))]
 fn arrive(m: &mut Memory, number: u16, class: u16)
     requires { (Call.is_outer number ≡ true) × (Call.is_class number class ≡ true) }
     ensures { m.new ≡ Model.who_runs (Model.delivered m.old number class) }
 {
-    deliver(m, in_byte(number), low(class));
+    let interrupt = Interrupt {
+        number: number as u8,
+        class: class as u8,
+    };
+    interrupt.deliver(m);
     who_runs(m);
 }
 
 // Whether a list of bytes may be a burst: whole pairs, and at most 32 of them.
+#[tactic(auto, unfolding(model::specs::Burst::is_list))]
 pub fn is_list(list: &[u8]) -> bool
     ensures { result ≡ Burst.is_list list.now }
 {
-    if map::LONGEST_LIST < list.len() {
-        return false;
-    }
-    list.len() % map::PAIR_BYTES == 0
+    list.len() <= map::LONGEST_LIST && list.len() % map::PAIR_BYTES == 0
 }
 
-// The pairs in order, the first of which has that place, each for 24 and then for 25.
-fn test(list: &[u8], place: u16) -> Checked
-    requires { place + length list.now < 65536 }
-    ensures { result ≡ Burst.tested place list.now }
+// The pairs in order, each for 24 and then for 25; the first has place 1.
+#[tactic(auto, using(crate::proofs::Laws::testing))]
+fn test(pairs: &[Pair]) -> Result<(), Refusal>
+    requires { length pairs.now ≤ 32 }
+    ensures { checked_told result ≡ pairs_tested 1 pairs.now }
 {
-    if list.len() < map::PAIR_BYTES {
-        return Checked::Good;
-    }
-    let number = wide(list[0]);
-    let outer = is_outer(number);
-    let classed = is_class(number, wide(list[1]));
-    if outer {
-        if classed {
-            return test(&list[2..], place + 1);
+    for (index, &[number, class]) in pairs.iter().enumerate() {
+        let place = index as u16 + 1;
+        if !is_outer(u16::from(number)) {
+            return Err(Refusal::NoInterruptAt(place));
         }
-        return Checked::Bad(refusals::WRONG_CLASS, place);
+        if !is_class(u16::from(number), u16::from(class)) {
+            return Err(Refusal::WrongClassAt(place));
+        }
     }
-    Checked::Bad(refusals::NO_INTERRUPT, place)
+    Ok(())
 }
 
 // The pairs, which passed the tests, arrive in order.
-fn arrive_all(m: &mut Memory, list: &[u8])
-    requires { AllGood list.now }
-    ensures { m.new ≡ Model.arrived m.old list.now }
+#[tactic(auto, using(crate::proofs::Laws::arriving))]
+fn arrive_all(m: &mut Memory, pairs: &[Pair])
+    requires { pairs_tested 1 pairs.now ≡ Good }
+    ensures { m.new ≡ pairs_arrived m.old pairs.now }
 {
-    if list.len() < map::PAIR_BYTES {
-        return;
+    for &[number, class] in pairs {
+        arrive(m, u16::from(number), u16::from(class));
     }
-    arrive(m, wide(list[0]), wide(list[1]));
-    arrive_all(m, &list[2..]);
 }
 
 // One interrupt, on a memory that nothing refuses: 24, 25, or it arrives.
-pub fn interrupt_judged(m: &mut Memory, number: u16, class: u16) -> Answer
-    ensures { gives result m.new ≡ Model.interrupt_judged m.old number class }
+#[tactic(auto, unfolding(model::specs::Call::interrupt_judged, model::specs::Coded::told, model::specs::Coded::refusal, model::specs::Coded::answered))]
+pub fn interrupt_judged(m: &mut Memory, number: u16, class: u16) -> Result<Answer, Refusal>
+    ensures { gives (told result) m.new ≡ Model.interrupt_judged m.old number class }
 {
-    if is_outer(number) {
-        if is_class(number, class) {
-            arrive(m, number, class);
-            return Answer::Done;
-        }
-        return Answer::Refused(refusals::WRONG_CLASS);
+    if !is_outer(number) {
+        return Err(Refusal::NoInterrupt);
     }
-    Answer::Refused(refusals::NO_INTERRUPT)
+    if !is_class(number, class) {
+        return Err(Refusal::WrongClass);
+    }
+    arrive(m, number, class);
+    Ok(Answer::Done)
 }
 
 // A burst, on such a memory: 27, the first bad pair with its place, or all arrive.
-pub fn burst_judged(m: &mut Memory, list: &[u8]) -> Answer
-    ensures { gives result m.new ≡ Model.burst_judged m.old list.now }
+#[tactic(auto, using(crate::proofs::Laws::bursts))]
+pub fn burst_judged(m: &mut Memory, list: &[u8]) -> Result<Answer, Refusal>
+    ensures { gives (told result) m.new ≡ Model.burst_judged m.old list.now }
 {
-    if is_list(list) {
-        return match test(list, 1) {
-            Checked::Good => {
-                arrive_all(m, list);
-                Answer::Done
-            }
-            Checked::Bad(refusal, place) => Answer::RefusedAt(refusal, place),
-        };
+    if !is_list(list) {
+        return Err(Refusal::WrongList);
     }
-    Answer::Refused(refusals::WRONG_LIST)
+    let (pairs, _) = list.as_chunks();
+    test(pairs)?;
+    arrive_all(m, pairs);
+    Ok(Answer::Done)
 }

@@ -1,4 +1,8 @@
-// Settings: the layout of blocks and trailers, by the names that specs/Layout.antt gives it.
+// Settings: the layout of blocks and trailers, by the names that specs/Layout.antt gives it, and an entry and a trailer read from their bytes.
+ghost use Rattle.std.specs.Prelude.{◌≡◌};
+ghost use Rattle.model.specs.Layout as Layout;
+
+use crate::{Entry, Trailer};
 
 // "a version from 1 to 3"; the versions from which on there is a site number, and a label; "the reader's own".
 pub const FIRST_VERSION: u8 = 1;
@@ -37,11 +41,33 @@ pub const SITED_HEAD: usize = 5;
 
 pub const LABELLED_HEAD: usize = 17;
 
-// The letters of a label: A-Z and a-z.
-pub const CAPITAL_A: u8 = 65;
+// "(name, priority, W, address)", an address "high byte first".
+impl From<[u8; ENTRY_BYTES]> for Entry {
+    ghost from_gives = { λ b e. e ≡ Layout.entry_at b 0 };
 
-pub const AFTER_CAPITALS: u8 = 91;
+    #[tactic(auto, unfolding(crate::specs::Layout::entry_at))]
+    fn from(bytes: [u8; ENTRY_BYTES]) -> Entry {
+        let [name, priority, w, high, low] = bytes;
+        Entry {
+            name,
+            priority,
+            w,
+            address: u16::from_be_bytes([high, low]),
+        }
+    }
+}
 
-pub const SMALL_A: u8 = 97;
+// "two bytes give the distance to the start of the newest block, one its version, one its length in entries".
+impl From<[u8; TRAILER_BYTES]> for Trailer {
+    ghost from_gives = { λ b t. t ≡ Layout.trailer_in b };
 
-pub const AFTER_SMALLS: u8 = 123;
+    #[tactic(auto, unfolding(crate::specs::Layout::trailer_in))]
+    fn from(bytes: [u8; TRAILER_BYTES]) -> Trailer {
+        let [high, low, version, count] = bytes;
+        Trailer {
+            distance: u16::from_be_bytes([high, low]),
+            version,
+            count,
+        }
+    }
+}

@@ -1,2 +1,2 @@
 -- What the contracts of the entries' reader say.
-pub mod Cursors
+pub mod Entries

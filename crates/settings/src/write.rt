@@ -1,47 +1,51 @@
 // Writing: a block and its trailer go to the old trailer's place in a lent buffer; every other byte of it stays.
-ghost use Rattle.std.specs.Prelude.{◌≡◌, true, ◌++◌, ◌≤◌, ◌+◌, length, take, drop};
+ghost use Rattle.std.specs.Prelude.{◌≡◌, ◌≤◌, length};
 ghost use Rattle.model.specs.Layout as Layout;
 ghost use Rattle.model.specs.Answer.Outcome.{gives};
 ghost use Rattle.model.specs.Settings as Settings;
+ghost use Rattle.model.specs.Coded.{fit_told, writing_told};
 
 use crate::block::of_block;
 use crate::file::of_file;
-use model::{Fit, Writing, layout, refusals};
+use model::{Refusal, layout};
 
 // The number that refuses, or 0.
-fn weight(fit: Fit) -> u8
-    ensures { result ≡ Settings.weight fit }
+#[tactic(auto, unfolding(model::specs::Settings::weight, model::specs::Coded::fit_told, model::specs::Coded::refusal, model::specs::Coded::refusal_number))]
+fn weight(fit: Result<(), Refusal>) -> u8
+    ensures { result ≡ Settings.weight (fit_told fit) }
 {
     match fit {
-        Fit::Good => 0,
-        Fit::Refused(refusal) => refusal,
-        Fit::RefusedAt(refusal, _) => refusal,
+        Ok(()) => 0,
+        Err(refusal) => u8::from(refusal),
     }
 }
 
 // Of the verdicts of the file and of the block the one with the greater number; of two alike the file's.
-fn worse(file: Fit, block: Fit) -> Fit
-    ensures { result ≡ Settings.worse file block }
+#[tactic(auto, unfolding(model::specs::Settings::worse))]
+fn worse(file: Result<(), Refusal>, block: Result<(), Refusal>) -> Result<(), Refusal>
+    ensures { fit_told result ≡ Settings.worse (fit_told file) (fit_told block) }
 {
     if weight(file) < weight(block) {
-        return block;
+        block
+    } else {
+        file
     }
-    file
 }
 
 // The verdict of the bytes in use: an empty file may be written to.
-fn of_used(file: &[u8]) -> Fit
-    ensures { result ≡ Settings.of_used file.now }
+#[tactic(auto, unfolding(model::specs::Settings::of_used, model::specs::Coded::fit_told))]
+fn of_used(file: &[u8]) -> Result<(), Refusal>
+    ensures { fit_told result ≡ Settings.of_used file.now }
 {
-    if file.len() == 0 {
-        return Fit::Good;
+    if file.is_empty() {
+        return Ok(());
     }
     of_file(file)
 }
 
 // The verdict of both.
-fn of_both(file: &[u8], block: &[u8]) -> Fit
-    ensures { result ≡ Settings.worse (Settings.of_used file.now) (Layout.of_block block.now) }
+fn of_both(file: &[u8], block: &[u8]) -> Result<(), Refusal>
+    ensures { fit_told result ≡ Settings.worse (Settings.of_used file.now) (Layout.of_block block.now) }
 {
     worse(of_used(file), of_block(block))
 }
@@ -50,58 +54,42 @@ fn of_both(file: &[u8], block: &[u8]) -> Fit
 fn place_for(used: usize) -> usize
     ensures { (result ≡ Settings.place_for used) × (result ≤ used) }
 {
-    if used < layout::TRAILER_BYTES {
-        return 0;
-    }
-    used - layout::TRAILER_BYTES
+    used.saturating_sub(layout::TRAILER_BYTES)
 }
 
 // The trailer of a block of at most 255 bytes.
-fn trailer_for(block: &[u8]) -> [u8; 4]
+#[tactic(auto, using(crate::proofs::Writes::writing))]
+fn trailer_for(block: &[u8]) -> [u8; layout::TRAILER_BYTES]
     requires { (2 ≤ length block.now) × (length block.now ≤ 255) }
     ensures { result ≡ Settings.trailer_for block.now }
 {
-    let distance = block.len() as u8;
-    [0, distance, block[layout::VERSION], block[layout::COUNT]]
-}
-
-// The bytes go to a place and the ones behind it.
-fn lay(buffer: &mut [u8], at: usize, laid: &[u8])
-    requires { at + length laid.now ≤ length buffer.old }
-    ensures { buffer.new
-        ≡ take at buffer.old ++ laid.now ++ drop (at + length laid.now) buffer.old }
-{
-    let end = at + laid.len();
-    buffer[at..end].copy_from_slice(laid);
+    let [high, low] = (block.len() as u16).to_be_bytes();
+    [high, low, block[layout::VERSION], block[layout::COUNT]]
 }
 
 // The block and its trailer, where there is room.
-fn write(buffer: &mut [u8], used: usize, block: &[u8]) -> Writing
+#[tactic(auto, using(crate::proofs::Writes::writing))]
+fn write(buffer: &mut [u8], used: usize, block: &[u8]) -> Result<usize, Refusal>
     requires { (used ≤ length buffer.old) × (2 ≤ length block.now) × (length block.now ≤ 255) }
-    ensures { gives result buffer.new ≡ Settings.writes buffer.old used block.now }
+    ensures { gives (writing_told result) buffer.new ≡ Settings.writes buffer.old used block.now }
 {
     let at = place_for(used);
-    let long = block.len();
-    if buffer.len() - at < long + layout::TRAILER_BYTES {
-        return Writing::Refused(refusals::NO_ROOM);
+    let behind = at + block.len();
+    let end = behind + layout::TRAILER_BYTES;
+    if buffer.len() < end {
+        return Err(Refusal::NoRoom);
     }
-    let behind = at + long;
-    lay(buffer, at, block);
-    let trailer = trailer_for(block);
-    lay(buffer, behind, &trailer);
-    Writing::Written(behind + layout::TRAILER_BYTES)
+    buffer[at..behind].copy_from_slice(block);
+    buffer[behind..end].copy_from_slice(&trailer_for(block));
+    Ok(end)
 }
 
 // Writes a block into a buffer of which so many bytes are in use. Any buffer, any number and any bytes get an answer; refused, no byte changes.
-pub fn write_settings(buffer: &mut [u8], used: usize, block: &[u8]) -> Writing
-    ensures { gives result buffer.new ≡ Settings.write_settings buffer.old used block.now }
+#[tactic(auto, using(crate::proofs::Writes::writing))]
+pub fn write_settings(buffer: &mut [u8], used: usize, block: &[u8]) -> Result<usize, Refusal>
+    ensures { gives (writing_told result) buffer.new ≡ Settings.write_settings buffer.old used block.now }
 {
-    if buffer.len() < used {
-        return Writing::Refused(refusals::NO_ROOM);
-    }
-    match of_both(&buffer[0..used], block) {
-        Fit::Good => write(buffer, used, block),
-        Fit::Refused(refusal) => Writing::Refused(refusal),
-        Fit::RefusedAt(refusal, version) => Writing::RefusedAt(refusal, version),
-    }
+    let file = buffer.get(..used).ok_or(Refusal::NoRoom)?;
+    of_both(file, block)?;
+    write(buffer, used, block)
 }
