@@ -1,7 +1,8 @@
-pub mod Digits
+pub mod Parts
 pub mod Walking
 pub mod Lows
-pub mod Meeting
+pub mod Chains
 pub mod Asking
+pub mod Digits
+pub mod Meeting
 pub mod InOrder
-pub mod Laws

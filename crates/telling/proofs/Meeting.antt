@@ -2,36 +2,36 @@
 -- is asked of a page by its mark.
 use Prim.Native.Nat.{ℕ, zero, suc, min, ◌+◌, ◌-◌, ◌*◌, ◌/◌, ◌%◌, ◌^◌, ◌≤◌, ◌<◌}
 use mathlib.Core.Path.{◌≡◌, refl, sym, ap, ◌∙◌}
-use mathlib.Core.Bool.{Bool, true, false, cond, ◌&&◌}
+use mathlib.Core.Bool.{Bool, true, false, cond}
 use mathlib.Core.List.{List, [], ◌∷◌, ◌++◌}
 use native.Mathlib.Omega.{arith}
 use lib.Dec.{eqb, leb, ltb}
 use lib.Pow.{pow-lt, pow_pos}
 use borrow.Author.Tests.{eq-eqb, ne_eqb, eqb-true, eqb-false, lt-ltb, le-ltb, ltb-true, ltb-false, le-leb, lt-leb, leb-true, leb-false}
-use Rattle.model.specs.Map.{first_control, last_name, place, list_link, own_queue, q1, q2, free_list, grant_for, header_after, interrupts}
+use Rattle.std.specs.Prelude.{fold}
+use Rattle.std.specs.List.{range_with_len}
+use Rattle.model.specs.Map.{first_control, last_name, place, own_queue, q1, q2, free_list, grant_for, header_after, interrupts}
 use Rattle.model.specs.Map.{page_queue, processor_list, label}
-use Rattle.model.specs.Map.{last_priority, state}
+use Rattle.model.specs.Map.{state}
 use Rattle.model.specs.Store.{bytes}
-use Rattle.model.specs.Rule.{same, among, holds, most as at_most}
+use Rattle.model.specs.Rule.{same, holds, most as at_most}
 use Rattle.model.specs.Judge as Judge
 use Rattle.model.specs.Classes as Classes
-use Rattle.lists.proofs.Folds.{both_is, same_is, most_is, unless_yes, unless_no}
-use Rattle.model.specs.Lists.{Lists, hit, count, sum, each_of, range, mails, owns, queues, link_of, reach}
+use Rattle.telling.proofs.Parts.{both_yes, both_no, same_is, most_is, unless_yes, unless_no}
+use Rattle.model.specs.Lists.{Lists, hit, count, sum, each_of, range, mails, owns, queues}
 use Rattle.model.specs.Classes.{used}
-use Rattle.model.specs.Bytes.{Memory, at, word, name, path, met}
+use Rattle.model.specs.Bytes.{Memory, at, word, name, met}
 use Rattle.laws.specs.Chain.{Pages}
 use Rattle.laws.specs.Met.{met_pages}
-use Rattle.telling.specs.Rows.{here, control_at}
+use Rattle.telling.specs.Rows.{here, ranked}
 use Rattle.telling.specs.Met as Met
-use Rattle.telling.specs.Met.{most, times, marked, marked_all, marked_lists, title, titles, used_marks, wait_marks, list_marks, name_marks, Single}
+use Rattle.telling.specs.Met.{most, times, seen, marked, marked_all, marked_lists, title, titles, used_marks, wait_marks, list_marks, name_marks, Single}
 use Rattle.telling.proofs.Digits.{digit, digit_is, digit_same, digit_other, digit_below}
-use Rattle.telling.proofs.Lows.{fold_none, fold_on, range_end, range_next, walked_out, walked_end, walked_on}
-use Rattle.telling.proofs.Walking.{met_is, processors_met}
 
 -- ---- what a mark weighs, as it is shifted
-pub unit_is : (x k r : ℕ) → first_control ≤ x → x < 256 → k ≡ 2 * (x - first_control) → r ≡ (1 * 2 ^ k) % 2 ^ 64
+pub unit_is : (x k r : ℕ) → x < 256 → k ≡ 2 * (x - first_control) → r ≡ (1 * 2 ^ k) % 2 ^ 64
     → (r ≡ 2 ^ (2 * (x - first_control))) × (0 < r) × (r < most)
-unit_is x k r lo hi ek er =
+unit_is x k r hi ek er =
     let l : 2 ^ k < 2 ^ 40 = pow-lt {i = k} {j = 40} (omega arith) in
     let p = pow_pos k in
     let e : r ≡ 2 ^ k = omega arith in
@@ -41,24 +41,32 @@ times_digit : (t z : ℕ) → times t z ≡ digit (z - first_control) t
 unfolding Met.times
 times_digit t z = digit_is (z - first_control) t
 
--- ---- one page more
-module _ (t x u : ℕ) (eu : u ≡ 2 ^ (2 * (x - first_control))) where
-  pub times_is : t / u % 4 ≡ times t x
+-- ---- one page more: of the marks t, seen as s
+module _ (t s x u : ℕ) (es : t ≡ s) (eu : u ≡ 2 ^ (2 * (x - first_control))) where
+  times_is : t / u % 4 ≡ times s x
   unfolding Met.times
-  times_is = rw eu
+  times_is = rw (eu, es)
 
-  pub mark_new : t / u % 4 < 2 → t + u ≡ marked t x
+  pub seen_here : first_control ≤ x → t / u % 4 ≡ seen s x
+  unfolding Met.seen
+  seen_here h = rw (le-leb first_control x h) times_is
+
+  pub mark_new : t / u % 4 < 2 → t + u ≡ marked s x
   unfolding Met.marked
-  mark_new h = rw (← times_is, lt-ltb (t / u % 4) 2 h, eu)
+  mark_new h = rw (← times_is, lt-ltb (t / u % 4) 2 h, eu, es)
 
-  pub mark_full : 2 ≤ t / u % 4 → t ≡ marked t x
+  pub mark_full : 2 ≤ t / u % 4 → t ≡ marked s x
   unfolding Met.marked
-  mark_full h = rw (← times_is, le-ltb (t / u % 4) 2 h)
+  mark_full h = rw (← times_is, le-ltb (t / u % 4) 2 h, es)
 
-  pub mark_below : first_control ≤ x → x < 256 → t < most → t / u % 4 < 2 → t + u < most
-  mark_below lo hi b h =
+  pub mark_below : x < 256 → t < most → t / u % 4 < 2 → t + u < most
+  mark_below hi b h =
       let q = times_is in
-      rw eu (digit_below 20 (x - first_control) t b (omega arith) (omega (arith, times_digit t x)))
+      rw eu (digit_below 20 (x - first_control) t b (omega arith) (omega (arith, es, times_digit s x, ap (digit (x - first_control)) es)))
+
+pub seen_low : (s x : ℕ) → x < first_control → 0 ≡ seen s x
+unfolding Met.seen
+seen_low s x h = rw (lt-leb first_control x h)
 
 -- the mark of page z, with page x once more
 mark_times : (t x z : ℕ) → first_control ≤ x → first_control ≤ z → times t z ≤ 2 → times (marked t x) z ≡ min 2 (times t z + hit (eqb z x))
@@ -84,10 +92,6 @@ mark_times t x z lx lz h = go (eqb z x) refl (ltb (times t x) 2) refl
         let d = digit_other (x - first_control) (z - first_control) t (omega (arith, times_digit t x)) (λ q. n (omega arith)) in
         omega (arith, times_digit t z, times_digit (t + 2 ^ (2 * (x - first_control))) z)
     go false e false k = omega arith
-
-title_low : (k : ℕ) → first_control ≤ title k
-unfolding Met.title
-title_low k = omega arith
 
 digit_zero : (k : ℕ) → digit k 0 ≡ 0
 unfolding digit
@@ -118,18 +122,48 @@ none_yet_lem z = go (z - first_control)
     go : (k : ℕ) → 0 / 2 ^ (2 * k) % 4 ≡ 0
     go k = digit_is k 0 ∙ digit_zero k
 
-module _ (m : Memory) (z : ℕ) (lz : first_control ≤ z) where
-  used_times : times (used_marks m) z ≡ min 2 (sum z (met m) (used (met m processor_list)))
+-- what is no control page is in no list
+count_low : (z : ℕ) (xs : List ℕ) → Pages xs → z < first_control → count z xs ≡ 0
+count_low z [] p l = refl
+count_low z (x ∷ xs) p l = let n : z ≡ x → ⊥ = λ q. omega (arith, p.0.0) in rw (ne_eqb z x n) (omega (arith, count_low z xs p.1 l))
+
+sum_low : (z : ℕ) (L : Lists) (hs : List ℕ) → ((a : ℕ) → Pages (L a)) → z < first_control → sum z L hs ≡ 0
+sum_low z L [] p l = refl
+sum_low z L (a ∷ hs) p l = omega (arith, count_low z (L a) (p a) l, sum_low z L hs p l)
+
+seen_is : (t z n : ℕ) → (first_control ≤ z → times t z ≡ min 2 n) → (z < first_control → n ≡ 0) → seen t z ≡ min 2 n
+unfolding Met.seen
+seen_is t z n h l = go (leb first_control z) refl
+  where
+    go : (b : Bool) → leb first_control z ≡ b → cond b (times t z) 0 ≡ min 2 n
+    go true e = h (leb-true first_control z e)
+    go false e = omega (arith, l (leb-false first_control z e))
+
+module _ (z : ℕ) where
+  all_seen : (xs : List ℕ) → Pages xs → seen (marked_all 0 xs) z ≡ min 2 (count z xs)
+  all_seen xs p =
+      seen_is (marked_all 0 xs) z (count z xs)
+      (λ lz. all_times 0 z xs p lz (omega (arith, none_yet_lem z)) ∙ ap (min 2) (omega (arith, none_yet_lem z)))
+      (count_low z xs p)
+
+  lists_seen : (L : Lists) (hs : List ℕ) → ((a : ℕ) → Pages (L a)) → seen (marked_lists 0 L hs) z ≡ min 2 (sum z L hs)
+  lists_seen L hs p =
+      seen_is (marked_lists 0 L hs) z (sum z L hs)
+      (λ lz. lists_times 0 z L hs p lz (omega (arith, none_yet_lem z)) ∙ ap (min 2) (omega (arith, none_yet_lem z)))
+      (sum_low z L hs p)
+
+module _ (m : Memory) (z : ℕ) where
+  used_seen : seen (used_marks m) z ≡ min 2 (sum z (met m) (used (met m processor_list)))
   unfolding Met.used_marks
-  used_times = lists_times 0 z (met m) (used (met m processor_list)) (met_pages m) lz (omega (arith, none_yet_lem z)) ∙ ap (min 2) (omega (arith, none_yet_lem z))
+  used_seen = lists_seen z (met m) (used (met m processor_list)) (met_pages m)
 
-  wait_times : times (wait_marks m) z ≡ min 2 (sum z (met m) (queues (met m processor_list)))
+  wait_seen : seen (wait_marks m) z ≡ min 2 (sum z (met m) (queues (met m processor_list)))
   unfolding Met.wait_marks
-  wait_times = lists_times 0 z (met m) (queues (met m processor_list)) (met_pages m) lz (omega (arith, none_yet_lem z)) ∙ ap (min 2) (omega (arith, none_yet_lem z))
+  wait_seen = lists_seen z (met m) (queues (met m processor_list)) (met_pages m)
 
-  list_times : times (list_marks m) z ≡ min 2 (count z (met m processor_list))
+  list_seen : seen (list_marks m) z ≡ min 2 (count z (met m processor_list))
   unfolding Met.list_marks
-  list_times = all_times 0 z (met m processor_list) (met_pages m processor_list) lz (omega (arith, none_yet_lem z)) ∙ ap (min 2) (omega (arith, none_yet_lem z))
+  list_seen = all_seen z (met m processor_list) (met_pages m processor_list)
 
 -- names are told apart by their pages
 title_count : (m : Memory) (k : ℕ) (ps : List ℕ) → count (title k) (titles m ps) ≡ count k (each_of (name m) ps)
@@ -148,11 +182,10 @@ unfolding Met.title
 title_pages m [] = tt
 title_pages m (p ∷ ps) = ((omega arith, omega arith), title_pages m ps)
 
-name_times : (m : Memory) (k : ℕ) → times (name_marks m) (title k) ≡ min 2 (count k (each_of (name m) (met m processor_list)))
+name_seen : (m : Memory) (k : ℕ) → seen (name_marks m) (title k) ≡ min 2 (count k (each_of (name m) (met m processor_list)))
 unfolding Met.name_marks
-name_times m k =
-    all_times 0 (title k) (titles m (met m processor_list)) (title_pages m (met m processor_list)) (title_low k) (omega (arith, none_yet_lem (title k)))
-    ∙ ap (min 2) (omega (arith, none_yet_lem (title k), title_count m k (met m processor_list)))
+name_seen m k =
+    all_seen (title k) (titles m (met m processor_list)) (title_pages m (met m processor_list)) ∙ ap (min 2) (title_count m k (met m processor_list))
 
 -- ---- what is asked of a page by its mark
 once_eq : (n : ℕ) → eqb (min 2 n) 1 ≡ eqb n 1
@@ -183,34 +216,37 @@ some_eq n = go (leb 1 n) refl
     go true e = le-leb 1 (min 2 n) (omega (arith, leb-true 1 n e))
     go false e = lt-leb 1 (min 2 n) (omega (arith, leb-false 1 n e))
 
-module _ (m : Memory) (t z n : ℕ) (lz : first_control ≤ z) where
-  pub once_by : t ≡ used_marks m → n ≡ times t z → eqb n 1 ≡ holds (here (Classes.once bytes) m z)
+module _ (m : Memory) (t z n : ℕ) where
+  pub once_by : t ≡ used_marks m → n ≡ seen t z → eqb n 1 ≡ holds (here (Classes.once bytes) m z)
   unfolding Classes.once
-  once_by et en = rw (en, et, used_times m z lz) (once_eq (sum z (met m) (used (met m processor_list))) ∙ same_is (sum z (met m) (used (met m processor_list))) 1)
+  once_by et en = rw (en, et, used_seen m z) (once_eq (sum z (met m) (used (met m processor_list))) ∙ same_is (sum z (met m) (used (met m processor_list))) 1)
 
-  pub bit_by : (w v : ℕ) → t ≡ wait_marks m → n ≡ times t z → w ≡ word m z state → v ≡ w % 128 / 64 → eqb n v ≡ holds (here (Judge.bit bytes) m z)
+  pub bit_by : (w v : ℕ) → t ≡ wait_marks m → n ≡ seen t z → w ≡ word m z state → v ≡ w % 128 / 64 → eqb n v ≡ holds (here (Judge.bit bytes) m z)
   unfolding Judge.bit
   bit_by w v et en ew ev =
       let s = sum z (met m) (queues (met m processor_list)) in
-      rw (en, et, wait_times m z lz) (bit_eq s v (omega arith) ∙ rw (← ew, ← ev) (same_is s v))
+      rw (en, et, wait_seen m z) (bit_eq s v (omega arith) ∙ rw (← ew, ← ev) (same_is s v))
 
-  pub waiter_by : (u k : ℕ) → t ≡ wait_marks m → u ≡ list_marks m → Single m → n ≡ times t z → k ≡ times u z
+  pub waiter_by : (u k : ℕ) → t ≡ wait_marks m → u ≡ list_marks m → Single m → n ≡ seen t z → k ≡ seen u z
       → leb n k ≡ holds (here (Judge.waiter bytes) m z)
   unfolding Judge.waiter Met.Single
   waiter_by u k et eu s en ek =
       let x = sum z (met m) (queues (met m processor_list)) in
       let y = count z (met m processor_list) in
-      rw (en, ek, et, eu, wait_times m z lz, list_times m z lz) (most_eq x y (s z) ∙ most_is x y)
+      rw (en, ek, et, eu, wait_seen m z, list_seen m z) (most_eq x y (s z) ∙ most_is x y)
 
 module _ (m : Memory) (t n : ℕ) (et : t ≡ name_marks m) where
-  pub label_by : (p w c : ℕ) (x y d r : Bool) → w ≡ word m p label → c ≡ title (w % 16) → n ≡ times t c
-      → x ≡ holds (among (w % 16) 1 last_name) → y ≡ holds (among (w / 16) 1 last_priority) → d ≡ (x && y) → r ≡ (eqb n 1 && d)
-      → r ≡ holds (here (Judge.label bytes) m p)
-  unfolding Judge.label
-  label_by p w c x y d r ew ec en ex ey ed er =
-      let k = count (w % 16) (each_of (name m) (met m processor_list)) in
-      let e : eqb n 1 ≡ holds (same k 1) = rw (en, et, ec, name_times m (w % 16)) (once_eq k ∙ same_is k 1) in
-      rw (← ew) (both_is _ _ (eqb n 1) d r er e (both_is _ _ x y d ed ex ey))
+  module _ (p w c : ℕ) (ew : w ≡ word m p label) (ec : c ≡ title (w % 16)) (en : n ≡ seen t c) where
+    name_is : eqb n 1 ≡ holds (same (count (w % 16) (each_of (name m) (met m processor_list))) 1)
+    name_is = let k = count (w % 16) (each_of (name m) (met m processor_list)) in rw (en, et, ec, name_seen m (w % 16)) (once_eq k ∙ same_is k 1)
+
+    pub label_own : (b : Bool) → n ≡ 1 → b ≡ holds (ranked w) → b ≡ holds (here (Judge.label bytes) m p)
+    unfolding Judge.label
+    label_own b h eb = rw (← ew) (both_yes _ _ b (sym (eq-eqb n 1 h) ∙ name_is) eb)
+
+    pub label_other : (n ≡ 1 → ⊥) → false ≡ holds (here (Judge.label bytes) m p)
+    unfolding Judge.label
+    label_other h = rw (← ew) (both_no _ _ (sym (ne_eqb n 1 h) ∙ name_is))
 
   -- the grant of name k, at g
   module _ (k g w : ℕ) (eg : g ≡ grant_for k) (ew : w ≡ at m g) where
@@ -218,141 +254,80 @@ module _ (m : Memory) (t n : ℕ) (et : t ≡ name_marks m) where
     unfolding Classes.existing
     existing_none h = rw (← eg, ← ew) (unless_yes w 0 _ h)
 
-    pub existing_by : (c : ℕ) → (w ≡ 0 → ⊥) → c ≡ title k → n ≡ times t c → leb 1 n ≡ holds (here (Classes.existing bytes) m k)
+    pub existing_by : (c : ℕ) → (w ≡ 0 → ⊥) → c ≡ title k → n ≡ seen t c → leb 1 n ≡ holds (here (Classes.existing bytes) m k)
     unfolding Classes.existing
     existing_by c h ec en =
         let x = count k (each_of (name m) (met m processor_list)) in
-        let e : leb 1 n ≡ holds (at_most 1 x) = rw (en, et, ec, name_times m k) (some_eq x ∙ most_is 1 x) in
+        let e : leb 1 n ≡ holds (at_most 1 x) = rw (en, et, ec, name_seen m k) (some_eq x ∙ most_is 1 x) in
         rw (← eg, ← ew) (unless_no w 0 _ (leb 1 n) h e)
 
--- ---- the marking, a law for each way: along a path, in a list, in the lists of a range, of the processors' mail, of their own queues; their names
-all_nil : (t : ℕ) → marked_all t [] ≡ t
-all_nil t = refl
+pub ruleset labels = (label_own, label_other)
 
-all_app : (t : ℕ) (xs ys : List ℕ) → marked_all t (xs ++ ys) ≡ marked_all (marked_all t xs) ys
-all_app t [] ys = refl
-all_app t (x ∷ xs) ys = all_app (marked t x) xs ys
+pub ruleset existing = (existing_none, existing_by)
 
-module _ (t : ℕ) where
-  pub marks_none : (xs : List ℕ) → xs ≡ [] → t ≡ marked_all t xs
-  marks_none xs e = rw e
-
-  pub marks_on : (xs ys : List ℕ) (x u r : ℕ) → xs ≡ x ∷ ys → u ≡ marked t x → r ≡ marked_all u ys → r ≡ marked_all t xs
-  marks_on xs ys x u r e eu er = rw (e, ← eu) er
-
-  pub marks_list : (m : Memory) (k n c r : ℕ) → k ≡ link_of c → n ≡ reach c → r ≡ marked_all t (path n m k c) → r ≡ marked_all t (met m c)
-  marks_list m k n c r ek en e = rw (met_is m c k n ek en) at e
-
-module _ (L : Lists) where
-  abbrev F : ℕ → List ℕ → ℕ
-  F t hs = marked_lists t L hs
-
-  lists_nil : (t : ℕ) → marked_lists t L [] ≡ t
-  lists_nil t = refl
-
-  lists_app : (t : ℕ) (xs ys : List ℕ) → marked_lists t L (xs ++ ys) ≡ marked_lists (marked_lists t L xs) L ys
-  lists_app t [] ys = refl
-  lists_app t (x ∷ xs) ys = lists_app (marked_all t (L x)) xs ys
-
-  module _ (t x : ℕ) where
-    module _ (d left y : ℕ) (e : marked_lists t L (range left d y) ≡ x) where
-      pub cells_done : left ≤ 0 → t ≡ x
-      cells_done h = fold_none F lists_nil lists_app t x (range left d y) e (range_end left d y h)
-
-      pub cells_turn : (u : ℕ) → 0 < left → u ≡ marked_all t (L y) → marked_lists u L (range (left - 1) d (y + d)) ≡ x
-      cells_turn u h eu = fold_on F lists_nil lists_app t u x (range left d y) (y ∷ []) (range (left - 1) d (y + d)) e (range_next left d y h) eu
-
-    module _ (m : Memory) (left cell : ℕ) where
-      module _ (e : marked_lists t L (mails (path left m list_link cell)) ≡ x) where
-        pub posts_done : left ≤ 0 → t ≡ x
-        posts_done h = fold_none F lists_nil lists_app t x _ e (walked_out mails refl m left cell h)
-
-        pub posts_end : (w : ℕ) → w ≡ control_at m cell → w ≡ 0 → t ≡ x
-        posts_end w ew z = fold_none F lists_nil lists_app t x _ e (walked_end mails refl m left cell w ew z)
-
-        pub posts_turn : (w c g h u v : ℕ) → 0 < left → w ≡ control_at m cell → (w ≡ 0 → ⊥) → g ≡ place w q1 → u ≡ marked_all t (L g)
-            → h ≡ place w q2 → v ≡ marked_all u (L h) → c ≡ place w list_link → marked_lists v L (mails (path (left - 1) m list_link c)) ≡ x
-        posts_turn w c g h u v l ew z eg eu eh ev ec =
-            fold_on F lists_nil lists_app t v x (mails (path left m list_link cell)) (place w q1 ∷ place w q2 ∷ []) (mails (path (left - 1) m list_link c)) e
-            (walked_on mails refl m left cell (λ p. place p q1 ∷ place p q2 ∷ []) (λ p ps. refl) w c l ew z ec)
-            (rw (← eg, ← eh, ← eu) ev)
-
-      module _ (e : marked_lists t L (owns (path left m list_link cell)) ≡ x) where
-        pub seats_done : left ≤ 0 → t ≡ x
-        seats_done h = fold_none F lists_nil lists_app t x _ e (walked_out owns refl m left cell h)
-
-        pub seats_end : (w : ℕ) → w ≡ control_at m cell → w ≡ 0 → t ≡ x
-        seats_end w ew z = fold_none F lists_nil lists_app t x _ e (walked_end owns refl m left cell w ew z)
-
-        pub seats_turn : (w c g u : ℕ) → 0 < left → w ≡ control_at m cell → (w ≡ 0 → ⊥) → g ≡ place w own_queue → u ≡ marked_all t (L g)
-            → c ≡ place w list_link → marked_lists u L (owns (path (left - 1) m list_link c)) ≡ x
-        seats_turn w c g u l ew z eg eu ec =
-            fold_on F lists_nil lists_app t u x (owns (path left m list_link cell)) (place w own_queue ∷ []) (owns (path (left - 1) m list_link c)) e
-            (walked_on owns refl m left cell (λ p. place p own_queue ∷ []) (λ p ps. refl) w c l ew z ec) (rw (← eg) eu)
-
-  module _ (m : Memory) (t : ℕ) where
-    pub posts_all : marked_lists t L (mails (path 21 m list_link processor_list)) ≡ marked_lists t L (mails (met m processor_list))
-    posts_all = ap (λ (ps : List ℕ). marked_lists t L (mails ps)) (processors_met m)
-
-    pub seats_all : marked_lists t L (owns (path 21 m list_link processor_list)) ≡ marked_lists t L (owns (met m processor_list))
-    seats_all = ap (λ (ps : List ℕ). marked_lists t L (owns ps)) (processors_met m)
+-- ---- the marking, as folds go: along a list, over the processors' mail, their own queues and names, over grants and interrupts
+pub fold_marks : (t : ℕ) (xs : List ℕ) → fold marked t xs ≡ marked_all t xs
+fold_marks t [] = refl
+fold_marks t (x ∷ xs) = fold_marks (marked t x) xs
 
 module _ (m : Memory) where
-  pub used_is : (p f q r : ℕ) → p ≡ marked_all 0 (met m processor_list) → f ≡ marked_all p (met m free_list)
-      → q ≡ marked_lists f (met m) (mails (met m processor_list)) → r ≡ marked_lists q (met m) (range last_name 1 (grant_for 1)) → r ≡ used_marks m
-  unfolding Met.used_marks
-  used_is p f q r ep ef eq er =
+  abbrev pub mails_of : ℕ → ℕ → ℕ
+  mails_of t p = marked_all (marked_all t (met m (place p q1))) (met m (place p q2))
+
+  abbrev pub owns_of : ℕ → ℕ → ℕ
+  owns_of t p = marked_all t (met m (place p own_queue))
+
+  abbrev pub name_of : ℕ → ℕ → ℕ
+  name_of t p = marked t (title (name m p))
+
+  abbrev pub grant_of : ℕ → ℕ → ℕ
+  grant_of t k = marked_all t (met m (grant_for k))
+
+  abbrev pub queue_of : ℕ → ℕ → ℕ
+  queue_of t k = marked_all t (met m (header_after k))
+
+  fold_mails : (t : ℕ) (ps : List ℕ) → fold mails_of t ps ≡ marked_lists t (met m) (mails ps)
+  fold_mails t [] = refl
+  fold_mails t (p ∷ ps) = fold_mails (mails_of t p) ps
+
+  fold_owns : (t : ℕ) (ps : List ℕ) → fold owns_of t ps ≡ marked_lists t (met m) (owns ps)
+  fold_owns t [] = refl
+  fold_owns t (p ∷ ps) = fold_owns (owns_of t p) ps
+
+  fold_names : (t : ℕ) (ps : List ℕ) → fold name_of t ps ≡ marked_all t (titles m ps)
+  fold_names t [] = refl
+  fold_names t (p ∷ ps) = fold_names (name_of t p) ps
+
+  fold_grants : (t : ℕ) → fold grant_of t (range_with_len 1 15) ≡ marked_lists t (met m) (range last_name 1 (grant_for 1))
+  unfolding range
+  fold_grants t = refl
+
+  fold_queues : (t : ℕ) → fold queue_of t (range_with_len 0 54) ≡ marked_lists t (met m) (range interrupts 2 (header_after 0))
+  unfolding range
+  fold_queues t = refl
+
+  lists_app : (t : ℕ) (xs ys : List ℕ) → marked_lists t (met m) (xs ++ ys) ≡ marked_lists (marked_lists t (met m) xs) (met m) ys
+  lists_app t [] ys = refl
+  lists_app t (x ∷ xs) ys = lists_app (marked_all t (met m x)) xs ys
+
+  pub used_is : (l f q r : ℕ) → l ≡ list_marks m → f ≡ marked_all l (met m free_list) → q ≡ fold mails_of f (met m processor_list)
+      → r ≡ fold grant_of q (range_with_len 1 15) → r ≡ used_marks m
+  unfolding Met.used_marks Met.list_marks
+  used_is l f q r el ef eq er =
       let s : used_marks m ≡ marked_lists (marked_all (marked_all 0 (met m processor_list)) (met m free_list)) (met m)
       (mails (met m processor_list) ++ range last_name 1 (grant_for 1)) = refl in
-      er ∙ sym (s ∙ rw (← ep, ← ef, lists_app (met m) f (mails (met m processor_list)) (range last_name 1 (grant_for 1)), ← eq))
+      er ∙ fold_grants q
+      ∙ sym (s ∙ rw (← el, ← ef, lists_app f (mails (met m processor_list)) (range last_name 1 (grant_for 1)), ← fold_mails f (met m processor_list), ← eq))
 
-  pub waits_is : (q o r : ℕ) → q ≡ marked_all 0 (met m page_queue) → o ≡ marked_lists q (met m) (owns (met m processor_list))
-      → r ≡ marked_lists o (met m) (range interrupts 2 (header_after 0)) → r ≡ wait_marks m
+  pub waits_is : (q o r : ℕ) → q ≡ marked_all 0 (met m page_queue) → o ≡ fold owns_of q (met m processor_list)
+      → r ≡ fold queue_of o (range_with_len 0 54) → r ≡ wait_marks m
   unfolding Met.wait_marks
   waits_is q o r eq eo er =
       let s : wait_marks m
       ≡ marked_lists (marked_all 0 (met m page_queue)) (met m) (owns (met m processor_list) ++ range interrupts 2 (header_after 0)) = refl in
-      er ∙ sym (s ∙ rw (← eq, lists_app (met m) q (owns (met m processor_list)) (range interrupts 2 (header_after 0)), ← eo))
+      er ∙ fold_queues o
+      ∙ sym (s ∙ rw (← eq, lists_app q (owns (met m processor_list)) (range interrupts 2 (header_after 0)), ← fold_owns q (met m processor_list), ← eo))
 
-  pub listed_is : (r : ℕ) → r ≡ marked_all 0 (met m processor_list) → r ≡ list_marks m
-  unfolding Met.list_marks
-  listed_is r e = e
-
-  module _ (t left cell : ℕ) (e : marked_all t (titles m (path left m list_link cell)) ≡ name_marks m) where
-    pub titles_done : left ≤ 0 → t ≡ name_marks m
-    titles_done h = fold_none marked_all all_nil all_app t _ _ e (walked_out (titles m) refl m left cell h)
-
-    pub titles_end : (w : ℕ) → w ≡ control_at m cell → w ≡ 0 → t ≡ name_marks m
-    titles_end w ew z = fold_none marked_all all_nil all_app t _ _ e (walked_end (titles m) refl m left cell w ew z)
-
-    pub titles_turn : (w l k c u d : ℕ) → 0 < left → w ≡ control_at m cell → (w ≡ 0 → ⊥) → l ≡ word m w label → k ≡ title (l % 16)
-        → u ≡ marked t k → d ≡ place w list_link → marked_all u (titles m (path (left - 1) m list_link d)) ≡ name_marks m
-    titles_turn w l k c u d h ew z el ek eu ed =
-        fold_on marked_all all_nil all_app t u (name_marks m) (titles m (path left m list_link cell)) (title (name m w) ∷ [])
-        (titles m (path (left - 1) m list_link d)) e
-        (walked_on (titles m) refl m left cell (λ p. title (name m p) ∷ []) (λ p ps. refl) w d h ew z ed) (rw (← el, ← ek) eu)
-
-  pub titles_all : marked_all 0 (titles m (path 21 m list_link processor_list)) ≡ name_marks m
+  pub names_is : (t r : ℕ) → t ≡ 0 → r ≡ fold name_of t (met m processor_list) → r ≡ name_marks m
   unfolding Met.name_marks
-  titles_all = ap (λ (ps : List ℕ). marked_all 0 (titles m ps)) (processors_met m)
-
-pub title_is : (n : ℕ) → first_control + n ≡ title n
-unfolding Met.title
-title_is n = refl
-
-pub ruleset marchings = (
-  cells_done,
-  cells_turn,
-  posts_all,
-  posts_done,
-  posts_end,
-  posts_turn,
-  seats_all,
-  seats_done,
-  seats_end,
-  seats_turn,
-  titles_all,
-  titles_done,
-  titles_end,
-  titles_turn,
-)
+  names_is t r z e = rw z at e ∙ fold_names 0 (met m processor_list)

@@ -1,5 +1,5 @@
 -- How often a control page is met, as two bits of one number: those of page x weigh 2^(2 (x - 236)) and twice that; 2 is twice or oftener.
-use Rattle.std.specs.Prelude.{ℕ, ◌+◌, ◌-◌, ◌*◌, ◌/◌, ◌%◌, ◌^◌, ◌≤◌, cond, List, [], ◌∷◌, ltb}
+use Rattle.std.specs.Prelude.{ℕ, ◌+◌, ◌-◌, ◌*◌, ◌/◌, ◌%◌, ◌^◌, ◌≤◌, cond, List, [], ◌∷◌, leb, ltb}
 use Rattle.model.specs.Map.{first_control, processor_list}
 use Rattle.model.specs.Lists.{Lists, count, each_of, queues}
 use Rattle.model.specs.Classes.{used}
@@ -11,6 +11,10 @@ most = 1099511627776
 
 unfoldable pub times : ℕ → ℕ → ℕ
 times t z = t / 2 ^ (2 * (z - first_control)) % 4
+
+-- how often page z is met; what is no control page is never met
+unfoldable pub seen : ℕ → ℕ → ℕ
+seen t z = cond (leb first_control z) (times t z) 0
 
 -- page x is met once more
 unfoldable pub marked : ℕ → ℕ → ℕ

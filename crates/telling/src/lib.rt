@@ -1,7 +1,6 @@
 // Say what is broken: the class and the lowest address that it tells. Asked class by class only where the judge refuses.
 #![tactic(auto)]
 
-mod cells;
 mod counters;
 mod lowest;
 mod met;
@@ -13,7 +12,7 @@ mod uses;
 mod waits;
 mod walks;
 
-ghost use Rattle.std.specs.Prelude.{◌≡◌, length};
+ghost use Rattle.std.specs.Prelude.{◌≡◌};
 ghost use Rattle.model.specs.Bytes as Model;
 
 use crate::counters::counters;
@@ -22,36 +21,33 @@ use crate::tables::tables;
 use crate::uses::pages;
 use crate::waits::waits;
 use judge::judged;
-use model::{Finding, Memory, map, refusals};
+use model::{Finding, Memory, refusals};
 
 // "The classes are tried in that order".
+#[tactic(auto, using(crate::proofs::InOrder::findings), unfolding(model::specs::Classes::told_of, model::specs::Classes::classes))]
 fn told(m: &Memory) -> Finding
     ensures { result ≡ Model.told_of m.now }
 {
-    let a = pages(m);
-    if a < map::MEMORY_SIZE {
+    if let Some(a) = pages(m) {
         return Finding::Broken(refusals::BROKEN_PAGES, a);
     }
-    let b = waits(m);
-    if b < map::MEMORY_SIZE {
+    if let Some(b) = waits(m) {
         return Finding::Broken(refusals::BROKEN_WAITS, b);
     }
-    let c = records(m);
-    if c < map::MEMORY_SIZE {
+    if let Some(c) = records(m) {
         return Finding::Broken(refusals::BROKEN_RECORDS, c);
     }
-    let d = tables(m);
-    if d < map::MEMORY_SIZE {
+    if let Some(d) = tables(m) {
         return Finding::Broken(refusals::BROKEN_TABLES, d);
     }
-    let e = counters(m);
-    if e < map::MEMORY_SIZE {
+    if let Some(e) = counters(m) {
         return Finding::Broken(refusals::BROKEN_COUNTERS, e);
     }
     Finding::Nothing
 }
 
-// What is found of a memory of 8,192 words.
+// What is found of a memory.
+#[tactic(auto, using(crate::proofs::InOrder::accepted_is))]
 pub fn finding(m: &Memory) -> Finding
     ensures { result ≡ Model.told_of m.now }
 {

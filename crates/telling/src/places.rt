@@ -1,8 +1,8 @@
-// Where a word stands: of interrupt k + 1, of code c, of entry i + 1, and the grant of a name.
-ghost use Rattle.std.specs.Prelude.{◌≡◌, ◌<◌};
+// Where a word stands: of interrupt k + 1, of code c, of entry i + 1, and the grant of a name; and the control page k behind the first.
+ghost use Rattle.std.specs.Prelude.{◌≡◌, ◌<◌, ◌+◌};
 ghost use Rattle.model.specs.Map as Map;
 
-use model::{map, wide};
+use model::{ControlPage, map, wide};
 
 pub fn semaphore_after(k: u8) -> u16
     ensures { (result ≡ Map.semaphore_after k) × (result < 8192) }
@@ -32,4 +32,11 @@ pub fn grant_for(name: u8) -> u16
     ensures { (result ≡ Map.grant_for name) × (result < 8192) }
 {
     map::GRANTS + wide(name)
+}
+
+pub fn control(k: u8) -> ControlPage
+    requires { k < 20 }
+    ensures { result.0 ≡ Map.first_control + k }
+{
+    ControlPage(map::FIRST_CONTROL + k)
 }

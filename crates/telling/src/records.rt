@@ -1,197 +1,147 @@
 // 32, "a processor or message record".
-ghost use Rattle.std.specs.Prelude.{◌≡◌, ◌<◌, ◌≤◌, length};
+ghost use Rattle.std.specs.Prelude.{◌≡◌, ◌∷◌, ◌++◌, ◌<◌};
 ghost use Rattle.model.specs.Map as Map;
 ghost use Rattle.model.specs.Store.{bytes};
 ghost use Rattle.model.specs.Rule.{holds};
 ghost use Rattle.model.specs.Lists.{range, mails};
 ghost use Rattle.model.specs.Walks.{gather};
-ghost use Rattle.model.specs.Tell.{least, offending, offending_in};
+ghost use Rattle.model.specs.Tell.{offending, offending_in};
 ghost use Rattle.model.specs.Judge as Judge;
 ghost use Rattle.model.specs.Classes as Classes;
 ghost use Rattle.model.specs.Bytes as Model;
-ghost use Rattle.telling.specs.Rows.{here, lowest_by};
+ghost use Rattle.telling.specs.Rows.{here, lowest, lowest_by, ranked};
 ghost use Rattle.telling.specs.Met as Met;
 
-use crate::cells::nought;
-use crate::lowest::unless;
-use crate::met::{Marks, name_marks, times, title};
+use crate::lowest::{lowest, unless};
+use crate::met::{Marks, name_marks, title};
 use crate::places::grant_for;
-use crate::walks::control_at;
+use crate::walks::{met, processors};
 use judge::records::{message, zero_bits};
-use lists::{both, lies};
+use judge::tables::is_at;
+use lists::lies;
 use model::{ControlPage, Memory, map};
 use words::at;
 
-// Its name is its own, name and priority are 1-15, by the marks of the names.
-fn label(m: &Memory, marks: Marks, p: ControlPage) -> bool
-    requires { marks ≡ Met.name_marks m.now }
+// Name and priority are 1-15.
+#[tactic(auto, using(crate::proofs::Asking::ranks))]
+fn ranked(w: u8) -> bool
+    ensures { result ≡ holds (ranked w) }
+{
+    lies(w % map::FIELD, 1, map::LAST_NAME) && lies(w / map::FIELD, 1, map::LAST_PRIORITY)
+}
+
+// Its name is its own, by the marks of the names.
+#[tactic(auto, using(crate::proofs::Meeting::labels))]
+fn label(m: &Memory, names: Marks, p: ControlPage) -> bool
+    requires { names ≡ Met.name_marks m.now }
     ensures { result ≡ holds (here (Judge.label bytes) m.now p.0) }
 {
     let w = p.word(m, map::LABEL);
-    let n = times(marks, title(w % map::FIELD));
-    both(
-        n == 1,
-        both(
-            lies(w % map::FIELD, 1, map::LAST_NAME),
-            lies(w / map::FIELD, 1, map::LAST_PRIORITY),
-        ),
-    )
+    names.times(title(w % map::FIELD)) == 1 && ranked(w)
 }
 
-fn all_labels(m: &Memory, marks: Marks, low: u16) -> u16
-    requires { marks ≡ Met.name_marks m.now }
-    ensures { result ≡ lowest_by Classes.page (here (Judge.label bytes) m.now) low (Model.met m.now Map.processor_list) }
+#[tactic(auto, using(crate::proofs::Chains::walk_told))]
+fn all_labels(m: &Memory, names: Marks) -> Option<u16>
+    requires { names ≡ Met.name_marks m.now }
+    ensures { result ≡ lowest_by Classes.page (here (Judge.label bytes) m.now) (Model.met m.now Map.processor_list) }
 {
-    let mut lowest = low;
-    let mut cell = map::PROCESSOR_LIST;
-    let mut left = map::ONE_MORE;
-    while 0 < left {
-        let w = control_at(m, cell);
-        if w == 0 {
-            return lowest;
-        }
-        let p = ControlPage(w);
-        lowest = unless(label(m, marks, p), p.place(map::LINK), lowest);
-        cell = p.place(map::LIST_LINK);
-        left -= 1;
-    }
-    lowest
+    processors(m)
+        .filter_map(|p| unless(label(m, names, p), p.place(map::LINK)))
+        .min()
 }
 
-fn all_zero_bits(m: &Memory, low: u16) -> u16
-    ensures { result ≡ lowest_by Classes.page (Judge.zero_bits bytes m.now) low (Model.met m.now Map.processor_list) }
+#[tactic(auto, using(crate::proofs::Chains::walk_told))]
+fn all_zero_bits(m: &Memory) -> Option<u16>
+    ensures { result ≡ lowest_by Classes.page (Judge.zero_bits bytes m.now) (Model.met m.now Map.processor_list) }
 {
-    let mut lowest = low;
-    let mut cell = map::PROCESSOR_LIST;
-    let mut left = map::ONE_MORE;
-    while 0 < left {
-        let w = control_at(m, cell);
-        if w == 0 {
-            return lowest;
-        }
-        let p = ControlPage(w);
-        lowest = unless(zero_bits(m, p), p.place(map::LINK), lowest);
-        cell = p.place(map::LIST_LINK);
-        left -= 1;
-    }
-    lowest
+    processors(m)
+        .filter_map(|p| unless(zero_bits(m, p), p.place(map::LINK)))
+        .min()
 }
 
-fn labels(m: &Memory, marks: Marks, low: u16) -> u16
-    requires { marks ≡ Met.name_marks m.now }
-    ensures { result ≡ least low (offending (here (Classes.labels bytes) m.now)) }
+#[tactic(auto, using(crate::proofs::Lows::rows), unfolding(model::specs::Classes::labels))]
+fn labels(m: &Memory, names: Marks) -> Option<u16>
+    requires { names ≡ Met.name_marks m.now }
+    ensures { result ≡ lowest (offending (here (Classes.labels bytes) m.now)) }
 {
-    let a = all_labels(m, marks, low);
-    all_zero_bits(m, a)
+    lowest(&[all_labels(m, names), all_zero_bits(m)])
 }
 
 // A grant is that of a name.
-fn existing(m: &Memory, marks: Marks, name: u8) -> bool
-    requires { (name < 16) × (marks ≡ Met.name_marks m.now) }
+#[tactic(auto, using(crate::proofs::Meeting::existing))]
+fn existing(m: &Memory, names: Marks, name: u8) -> bool
+    requires { (name < 16) × (names ≡ Met.name_marks m.now) }
     ensures { result ≡ holds (here (Classes.existing bytes) m.now name) }
 {
-    let w = at(m, grant_for(name));
-    if w == 0 {
-        return true;
-    }
-    let n = times(marks, title(name));
-    1 <= n
+    at(m, grant_for(name)) == 0 || 1 <= names.times(title(name))
 }
 
-fn all_existing(m: &Memory, marks: Marks, low: u16) -> u16
-    requires { marks ≡ Met.name_marks m.now }
-    ensures { result ≡ lowest_by Map.grant_for (here (Classes.existing bytes) m.now) low (range Map.last_name 1 1) }
+fn all_existing(m: &Memory, names: Marks) -> Option<u16>
+    requires { names ≡ Met.name_marks m.now }
+    ensures { result ≡ lowest_by Map.grant_for (here (Classes.existing bytes) m.now) (range Map.last_name 1 1) }
 {
-    let mut lowest = low;
-    let mut x = 1u8;
-    let mut left = map::LAST_NAME;
-    while 0 < left {
-        lowest = unless(existing(m, marks, x), grant_for(x), lowest);
-        left -= 1;
-        x += 1;
-    }
-    lowest
+    (1..map::FIELD)
+        .filter_map(|name| unless(existing(m, names, name), grant_for(name)))
+        .min()
 }
 
-fn rest_nought(m: &Memory, low: u16) -> u16
-    ensures { result ≡ lowest_by Classes.itself (here (Classes.nought bytes) m.now) low (range 16 1 (Map.grant_for 16)) }
+// The other words of page 10 are 0: from name 16 on, and that of name 0 besides.
+fn rest_nought(m: &Memory) -> Option<u16>
+    ensures { result ≡ lowest_by Classes.itself (here (Classes.nought bytes) m.now) (range 16 1 (Map.grant_for 16)) }
 {
-    let mut lowest = low;
-    let mut x = map::GRANTS + 16;
-    let mut left = map::FIELD;
-    while 0 < left {
-        lowest = nought(m, x, lowest);
-        left -= 1;
-        x += 1;
-    }
-    lowest
+    (map::FIELD..map::GRANT_WORDS)
+        .filter_map(|name| unless(is_at(m, grant_for(name), 0), grant_for(name)))
+        .min()
 }
 
-fn granted(m: &Memory, marks: Marks, low: u16) -> u16
-    requires { marks ≡ Met.name_marks m.now }
-    ensures { result ≡ least low (offending (here (Classes.granted bytes) m.now)) }
+#[tactic(auto, using(crate::proofs::Lows::heads, crate::proofs::Lows::one_told), unfolding(model::specs::Classes::nought))]
+fn all_nought(m: &Memory) -> Option<u16>
+    ensures { result ≡ lowest_by Classes.itself (here (Classes.nought bytes) m.now) (Map.grants ∷ range 16 1 (Map.grant_for 16)) }
 {
-    let a = all_existing(m, marks, low);
-    let b = nought(m, map::GRANTS, a);
-    rest_nought(m, b)
+    lowest(&[
+        unless(is_at(m, map::GRANTS, 0), map::GRANTS),
+        rest_nought(m),
+    ])
 }
 
-// The messages of a queue; of the mail of the processors.
-fn messages_from(m: &Memory, cell: u16, left: u8, low: u16) -> u16
-    requires { cell < 8192 }
-    ensures { result ≡ lowest_by Classes.page (Judge.message bytes m.now) low (Model.path left m.now Map.link cell) }
+#[tactic(auto, using(crate::proofs::Lows::rows), unfolding(model::specs::Classes::granted))]
+fn granted(m: &Memory, names: Marks) -> Option<u16>
+    requires { names ≡ Met.name_marks m.now }
+    ensures { result ≡ lowest (offending (here (Classes.granted bytes) m.now)) }
 {
-    if left == 0 {
-        return low;
-    }
-    let w = control_at(m, cell);
-    if w == 0 {
-        return low;
-    }
-    let p = ControlPage(w);
-    let lowest = unless(message(m, p), p.place(map::LINK), low);
-    messages_from(m, p.place(map::LINK), left - 1, lowest)
+    lowest(&[all_existing(m, names), all_nought(m)])
 }
 
-fn messages_in(m: &Memory, p: ControlPage, word: u16, low: u16) -> u16
-    requires { (Map.first_control ≤ p.0) × (word < 32) }
-    ensures { result ≡ lowest_by Classes.page (Judge.message bytes m.now) low (Model.met m.now (Map.place p.0 word)) }
+// The messages in the queue of a head; in the mail of a processor; of all of them.
+#[tactic(auto, using(crate::proofs::Chains::walk_told))]
+fn queued(m: &Memory, head: u16) -> Option<u16>
+    requires { head < 8192 }
+    ensures { result ≡ lowest_by Classes.page (Judge.message bytes m.now) (Model.met m.now head) }
 {
-    messages_from(m, p.place(word), map::ONE_MORE, low)
+    met(m, head)
+        .filter_map(|p| unless(message(m, p), p.place(map::LINK)))
+        .min()
 }
 
-fn all_messages(m: &Memory, low: u16) -> u16
+#[tactic(auto, using(crate::proofs::Lows::heads))]
+fn mailed(m: &Memory, p: ControlPage) -> Option<u16>
     ensures { result ≡ lowest_by Classes.page (Judge.message bytes m.now)
-        low (gather (Model.met m.now) (mails (Model.met m.now Map.processor_list))) }
+        (Model.met m.now (Map.place p.0 Map.q1) ++ Model.met m.now (Map.place p.0 Map.q2)) }
 {
-    let mut lowest = low;
-    let mut cell = map::PROCESSOR_LIST;
-    let mut left = map::ONE_MORE;
-    while 0 < left {
-        let w = control_at(m, cell);
-        if w == 0 {
-            return lowest;
-        }
-        let p = ControlPage(w);
-        lowest = messages_in(m, p, map::Q1, lowest);
-        lowest = messages_in(m, p, map::Q2, lowest);
-        cell = p.place(map::LIST_LINK);
-        left -= 1;
-    }
-    lowest
+    lowest(&[queued(m, p.place(map::Q1)), queued(m, p.place(map::Q2))])
 }
 
-fn messages(m: &Memory, low: u16) -> u16
-    ensures { result ≡ least low (offending (here (Classes.messages bytes) m.now)) }
+#[tactic(auto, using(crate::proofs::Chains::letters_told, crate::proofs::Lows::row_only), unfolding(model::specs::Classes::messages))]
+fn messages(m: &Memory) -> Option<u16>
+    ensures { result ≡ lowest (offending (here (Classes.messages bytes) m.now)) }
 {
-    all_messages(m, low)
+    processors(m).filter_map(|p| mailed(m, p)).min()
 }
 
-pub fn records(m: &Memory) -> u16
-    ensures { result ≡ least 8192 (offending_in (here (Classes.of_records bytes) m.now)) }
+#[tactic(auto, using(crate::proofs::Lows::sentences), unfolding(model::specs::Classes::of_records))]
+pub fn records(m: &Memory) -> Option<u16>
+    ensures { result ≡ lowest (offending_in (here (Classes.of_records bytes) m.now)) }
 {
-    let marks = name_marks(m);
-    let a = labels(m, marks, map::MEMORY_SIZE);
-    let b = granted(m, marks, a);
-    messages(m, b)
+    let names = name_marks(m);
+    lowest(&[labels(m, names), granted(m, names), messages(m)])
 }

@@ -1,78 +1,73 @@
 // 33, "the code or error table".
-ghost use Rattle.std.specs.Prelude.{◌≡◌, [], ◌∷◌, length};
+ghost use Rattle.std.specs.Prelude.{◌≡◌};
 ghost use Rattle.model.specs.Map as Map;
 ghost use Rattle.model.specs.Store.{bytes};
 ghost use Rattle.model.specs.Lists.{range};
-ghost use Rattle.model.specs.Tell.{least, offending, offending_in};
+ghost use Rattle.model.specs.Tell.{offending, offending_in};
 ghost use Rattle.model.specs.Judge as Judge;
 ghost use Rattle.model.specs.Classes as Classes;
-ghost use Rattle.telling.specs.Rows.{here, lowest_by};
+ghost use Rattle.telling.specs.Rows.{here, lowest, lowest_by};
 
-use crate::cells::in_range;
-use crate::lowest::unless;
+use crate::lowest::{lowest, unless};
 use crate::places::{code_word, entry_after};
-use judge::tables::{built_in, entry, foreign, kind};
+use judge::tables::{built_in, entry, foreign, kind, lies_at};
 use model::{Memory, map};
 
-fn kinds(m: &Memory, low: u16) -> u16
-    ensures { result ≡ lowest_by Map.code_word (Judge.kind bytes m.now) low (range Map.all_codes 1 0) }
+fn kinds(m: &Memory) -> Option<u16>
+    ensures { result ≡ lowest_by Map.code_word (Judge.kind bytes m.now) (range Map.all_codes 1 0) }
 {
-    let mut lowest = low;
-    let mut x = 0u8;
-    let mut left = map::ALL_CODES;
-    while 0 < left {
-        lowest = unless(kind(m, x), code_word(x), lowest);
-        left -= 1;
-        x += 1;
-    }
-    lowest
+    (0..map::ALL_CODES)
+        .filter_map(|c| unless(kind(m, c), code_word(c)))
+        .min()
 }
 
-fn tell_built_in(m: &Memory, code: u8, low: u16) -> u16
-    ensures { result ≡ lowest_by Map.code_word (here (Classes.is_built_in bytes) m.now) low (code ∷ []) }
+// Codes 0 and 1 are built in, code 15 is not.
+#[tactic(auto, using(crate::proofs::Lows::heads, crate::proofs::Lows::one_told), unfolding(model::specs::Classes::is_built_in, model::specs::Lists::range))]
+fn both_built_in(m: &Memory) -> Option<u16>
+    ensures { result ≡ lowest_by Map.code_word (here (Classes.is_built_in bytes) m.now) (range 2 1 0) }
 {
-    unless(built_in(m, code), code_word(code), low)
+    lowest(&[
+        unless(built_in(m, 0), code_word(0)),
+        unless(built_in(m, 1), code_word(1)),
+    ])
 }
 
-fn tell_foreign(m: &Memory, code: u8, low: u16) -> u16
-    ensures { result ≡ lowest_by Map.code_word (here (Classes.is_foreign bytes) m.now) low (code ∷ []) }
+#[tactic(auto, using(crate::proofs::Lows::one_told), unfolding(model::specs::Classes::is_foreign, model::specs::Lists::range))]
+fn last_foreign(m: &Memory) -> Option<u16>
+    ensures { result ≡ lowest_by Map.code_word (here (Classes.is_foreign bytes) m.now) (range 1 1 Map.built_in_codes) }
 {
-    unless(foreign(m, code), code_word(code), low)
+    unless(
+        foreign(m, map::BUILT_IN_CODES),
+        code_word(map::BUILT_IN_CODES),
+    )
 }
 
-fn codes(m: &Memory, low: u16) -> u16
-    ensures { result ≡ least low (offending (here (Classes.codes bytes) m.now)) }
+#[tactic(auto, using(crate::proofs::Lows::rows), unfolding(model::specs::Classes::codes))]
+fn codes(m: &Memory) -> Option<u16>
+    ensures { result ≡ lowest (offending (here (Classes.codes bytes) m.now)) }
 {
-    let a = kinds(m, low);
-    let b = tell_built_in(m, 0, a);
-    let c = tell_built_in(m, 1, b);
-    tell_foreign(m, map::BUILT_IN_CODES, c)
+    lowest(&[kinds(m), both_built_in(m), last_foreign(m)])
 }
 
-fn all_entries(m: &Memory, low: u16) -> u16
-    ensures { result ≡ lowest_by Map.entry_after (Judge.entry bytes m.now) low (range Map.entries 1 0) }
+fn all_entries(m: &Memory) -> Option<u16>
+    ensures { result ≡ lowest_by Map.entry_after (Judge.entry bytes m.now) (range Map.entries 1 0) }
 {
-    let mut lowest = low;
-    let mut x = 0u8;
-    let mut left = map::ENTRIES;
-    while 0 < left {
-        lowest = unless(entry(m, x), entry_after(x), lowest);
-        left -= 1;
-        x += 1;
-    }
-    lowest
+    (0..map::ENTRIES)
+        .filter_map(|i| unless(entry(m, i), entry_after(i)))
+        .min()
 }
 
-fn faults(m: &Memory, low: u16) -> u16
-    ensures { result ≡ least low (offending (here (Classes.faults bytes) m.now)) }
+#[tactic(auto, using(crate::proofs::Lows::rows), unfolding(model::specs::Classes::faults, model::specs::Classes::in_range))]
+fn faults(m: &Memory) -> Option<u16>
+    ensures { result ≡ lowest (offending (here (Classes.faults bytes) m.now)) }
 {
-    let a = in_range(m, map::FIRST_UNUSED, low);
-    all_entries(m, a)
+    let first = lies_at(m, map::FIRST_UNUSED, 1, map::ENTRIES_FULL);
+    lowest(&[unless(first, map::FIRST_UNUSED), all_entries(m)])
 }
 
-pub fn tables(m: &Memory) -> u16
-    ensures { result ≡ least 8192 (offending_in (here (Classes.of_tables bytes) m.now)) }
+#[tactic(auto, using(crate::proofs::Lows::sentences), unfolding(model::specs::Classes::of_tables))]
+pub fn tables(m: &Memory) -> Option<u16>
+    ensures { result ≡ lowest (offending_in (here (Classes.of_tables bytes) m.now)) }
 {
-    let a = codes(m, map::MEMORY_SIZE);
-    faults(m, a)
+    lowest(&[codes(m), faults(m)])
 }

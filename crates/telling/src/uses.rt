@@ -1,86 +1,74 @@
 // 30, "a control page used twice or not at all".
-ghost use Rattle.std.specs.Prelude.{◌≡◌, [], ◌∷◌, ◌≤◌, length};
+ghost use Rattle.std.specs.Prelude.{◌≡◌, [], ◌∷◌};
 ghost use Rattle.model.specs.Map as Map;
 ghost use Rattle.model.specs.Store.{bytes};
-ghost use Rattle.model.specs.Rule.{holds};
-ghost use Rattle.model.specs.Tell.{least, offending, offending_in};
+ghost use Rattle.model.specs.Lists.{mails};
+ghost use Rattle.model.specs.Tell.{offending, offending_in};
 ghost use Rattle.model.specs.Classes as Classes;
-ghost use Rattle.telling.specs.Rows.{here, lowest_by};
-ghost use Rattle.telling.specs.Met as Met;
+ghost use Rattle.model.specs.Bytes as Model;
+ghost use Rattle.telling.specs.Rows.{here, lowest, lowest_by, lowest_end};
 
-use crate::lowest::{list_end, mails_end, pointer, unless};
-use crate::met::{Marks, times, used_marks};
+use crate::lowest::{list_end, lowest, pointer, unless};
+use crate::met::used_marks;
+use crate::places::{control, grant_for};
+use crate::walks::processors;
 use model::{ControlPage, Memory, map};
 
-// The page is used once, by the marks of all that is used.
-fn once(m: &[u8], marks: Marks, page: u8) -> bool
-    requires { (Map.first_control ≤ page) × (marks ≡ Met.used_marks m.now) }
-    ensures { result ≡ holds (here (Classes.once bytes) m.now page) }
+// Each page is used once, by the marks of all that is used.
+fn used_once(m: &Memory) -> Option<u16>
+    ensures { result ≡ lowest (offending (here (Classes.used_once bytes) m.now)) }
 {
-    let n = times(marks, page);
-    n == 1
+    let used = used_marks(m);
+    (0..map::CONTROL_PAGES)
+        .filter_map(|k| unless(used.times(control(k)) == 1, control(k).place(map::LINK)))
+        .min()
 }
 
-fn tell_once(m: &[u8], marks: Marks, page: u8, low: u16) -> u16
-    requires { (Map.first_control ≤ page) × (marks ≡ Met.used_marks m.now) }
-    ensures { result ≡ lowest_by Classes.page (here (Classes.once bytes) m.now) low (page ∷ []) }
+// The ends of the mail of a processor, and of all of them.
+#[tactic(auto, using(crate::proofs::Lows::heads))]
+fn mail_end(m: &Memory, p: ControlPage) -> Option<u16>
+    ensures { result ≡ lowest_end m.now (Map.place p.0 Map.q1 ∷ Map.place p.0 Map.q2 ∷ []) }
 {
-    unless(
-        once(m, marks, page),
-        ControlPage(page).place(map::LINK),
-        low,
-    )
+    lowest(&[list_end(m, p.place(map::Q1)), list_end(m, p.place(map::Q2))])
 }
 
-fn each_once(m: &Memory, marks: Marks, low: u16) -> u16
-    requires { marks ≡ Met.used_marks m.now }
-    ensures { result ≡ lowest_by Classes.page (here (Classes.once bytes) m.now) low Classes.controls }
+#[tactic(auto, using(crate::proofs::Chains::mails_told))]
+fn mails_end(m: &Memory) -> Option<u16>
+    ensures { result ≡ lowest_end m.now (mails (Model.met m.now Map.processor_list)) }
 {
-    let mut lowest = low;
-    let mut x = map::FIRST_CONTROL_WIDE;
-    let mut left = map::CONTROL_PAGES;
-    while 0 < left {
-        lowest = tell_once(m, marks, x as u8, lowest);
-        left -= 1;
-        x += 1;
-    }
-    lowest
+    processors(m).filter_map(|p| mail_end(m, p)).min()
 }
 
-fn used_once(m: &Memory, low: u16) -> u16
-    ensures { result ≡ least low (offending (here (Classes.used_once bytes) m.now)) }
+#[tactic(auto, using(crate::proofs::Lows::heads))]
+fn chains_end(m: &Memory) -> Option<u16>
+    ensures { result ≡ lowest_end m.now (Classes.chains (Model.met m.now Map.processor_list)) }
 {
-    let marks = used_marks(m);
-    each_once(m, marks, low)
+    lowest(&[
+        list_end(m, map::PROCESSOR_LIST),
+        list_end(m, map::FREE_LIST),
+        mails_end(m),
+    ])
 }
 
 // A grant is 0 or a control page.
-fn grants_point(m: &Memory, low: u16) -> u16
-    ensures { result ≡ lowest_by Classes.itself (here (Classes.pointer bytes) m.now) low Classes.holders }
+fn grants_point(m: &Memory) -> Option<u16>
+    ensures { result ≡ lowest_by Classes.itself (here (Classes.pointer bytes) m.now) Classes.holders }
 {
-    let mut lowest = low;
-    let mut x = map::GRANTS + 1;
-    let mut left = map::LAST_NAME;
-    while 0 < left {
-        lowest = unless(pointer(m, x), x, lowest);
-        left -= 1;
-        x += 1;
-    }
-    lowest
+    (1..map::FIELD)
+        .filter_map(|name| unless(pointer(m, grant_for(name)), grant_for(name)))
+        .min()
 }
 
-fn uses_end(m: &Memory, low: u16) -> u16
-    ensures { result ≡ least low (offending (here (Classes.uses_end bytes) m.now)) }
+#[tactic(auto, using(crate::proofs::Lows::rows), unfolding(model::specs::Classes::uses_end))]
+fn uses_end(m: &Memory) -> Option<u16>
+    ensures { result ≡ lowest (offending (here (Classes.uses_end bytes) m.now)) }
 {
-    let a = list_end(m, map::PROCESSOR_LIST, low);
-    let b = list_end(m, map::FREE_LIST, a);
-    let c = mails_end(m, b);
-    grants_point(m, c)
+    lowest(&[chains_end(m), grants_point(m)])
 }
 
-pub fn pages(m: &Memory) -> u16
-    ensures { result ≡ least 8192 (offending_in (here (Classes.of_pages bytes) m.now)) }
+#[tactic(auto, using(crate::proofs::Lows::sentences), unfolding(model::specs::Classes::of_pages))]
+pub fn pages(m: &Memory) -> Option<u16>
+    ensures { result ≡ lowest (offending_in (here (Classes.of_pages bytes) m.now)) }
 {
-    let a = used_once(m, map::MEMORY_SIZE);
-    uses_end(m, a)
+    lowest(&[used_once(m), uses_end(m)])
 }

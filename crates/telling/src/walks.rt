@@ -1,94 +1,99 @@
-// Walks on any memory: which control pages are met, where a walk ends, and how often a page is met.
-ghost use Rattle.std.specs.Prelude.{◌≡◌, ◌<◌, ◌≤◌, length};
-ghost use Rattle.model.specs.Lists.{count};
-ghost use Rattle.model.specs.Walks.{last_cell};
+// Walks on any memory: which control pages are met, how many, and where a walk ends.
+ghost use Rattle.std.specs.Prelude.{◌≡◌, ◌<◌, ◌≤◌, ℕ, List, length, eqb};
+ghost use Rattle.std.specs.Iterator.{item_count};
+ghost use Rattle.std.specs.Map.Iter.{TakesFirst};
+ghost use Rattle.model.specs.Map as Map;
 ghost use Rattle.model.specs.Store.{bytes};
+ghost use Rattle.model.specs.Lists.{count};
 ghost use Rattle.model.specs.Classes as Classes;
 ghost use Rattle.model.specs.Bytes as Model;
-ghost use Rattle.telling.specs.Rows.{control_at, here};
+ghost use Rattle.telling.specs.Rows.{here};
 
 use lists::{left_of, lies, link_of};
 use model::{ControlPage, Memory, map};
+use std::marker::Model;
 use words::at;
 
-// The control page in a cell; 0 where its word is no number of one.
-pub fn control_at(m: &Memory, cell: u16) -> u8
-    requires { cell < 8192 }
-    ensures { result ≡ control_at m.now cell }
-{
-    let w = at(m, cell);
-    if lies(w, map::FIRST_CONTROL, map::LAST_CONTROL) {
-        return w;
-    }
-    0
+// The control pages that are met from a cell on along the links in one word, at most so many: a word that is no number of one ends the walk.
+// A clause sees the numbers of those that are left.
+#[derive(Drop)]
+pub struct Path<'m> {
+    m: &'m Memory,
+    link: u16,
+    cell: u16,
+    left: u8,
 }
 
-// How many pages are met from a cell on; in the list of a head.
-fn how_many(m: &Memory, link: u16, cell: u16, left: u8) -> u8
-    requires { (link < 32) × (cell < 8192) }
-    ensures { (result ≡ length (Model.path left m.now link cell)) × (result ≤ left) }
-{
-    if left == 0 {
-        return 0;
-    }
-    let w = control_at(m, cell);
-    if w == 0 {
-        return 0;
-    }
-    how_many(m, link, ControlPage(w).place(link), left - 1) + 1
+impl<'m> Model for Path<'m> {
+    ghost Value = { List ℕ };
+
+    ghost view = { λ w. Model.path w.left w.m.now w.link w.cell };
+
+    ghost invariant = { λ w. (w.link < 32) × (w.cell < 8192) };
 }
 
+impl<'m> Iterator for Path<'m> {
+    type Item = ControlPage;
+
+    ghost next_gives = { TakesFirst (λ p. p.0) };
+
+    ghost remaining = { item_count (λ w. w) };
+
+    fn next(&mut self) -> Option<ControlPage> {
+        if self.left == 0 {
+            return None;
+        }
+        let word = at(self.m, self.cell);
+        if !lies(word, map::FIRST_CONTROL, map::LAST_CONTROL) {
+            return None;
+        }
+        let page = ControlPage(word);
+        self.left -= 1;
+        self.cell = page.place(self.link);
+        Some(page)
+    }
+}
+
+// The list of a head; the processors.
+#[tactic(auto, using(crate::proofs::Walking::met_is))]
+pub fn met(m: &Memory, head: u16) -> Path
+    requires { head < 8192 }
+    ensures { result ≡ Model.met m.now head }
+{
+    Path {
+        m,
+        link: link_of(head),
+        cell: head,
+        left: left_of(head),
+    }
+}
+
+pub fn processors(m: &Memory) -> Path
+    ensures { result ≡ Model.met m.now Map.processor_list }
+{
+    met(m, map::PROCESSOR_LIST)
+}
+
+// How many pages are in the list of a head.
 pub fn length_of(m: &Memory, head: u16) -> u8
     requires { head < 8192 }
     ensures { result ≡ length (Model.met m.now head) }
 {
-    how_many(m, link_of(head), head, left_of(head))
+    met(m, head).count() as u8
 }
 
-// The cell where the walk from a cell on ends; that of the list of a head.
-fn last_cell(m: &Memory, link: u16, cell: u16, left: u8) -> u16
-    requires { (link < 32) × (cell < 8192) }
-    ensures { (result ≡ last_cell link cell (Model.path left m.now link cell)) × (result < 8192) }
-{
-    if left == 0 {
-        return cell;
-    }
-    let w = control_at(m, cell);
-    if w == 0 {
-        return cell;
-    }
-    last_cell(m, link, ControlPage(w).place(link), left - 1)
-}
-
+// The cell where it ends.
 pub fn end(m: &Memory, head: u16) -> u16
     requires { head < 8192 }
     ensures { (result ≡ here (Classes.end bytes) m.now head) × (result < 8192) }
 {
-    last_cell(m, link_of(head), head, left_of(head))
+    let link = link_of(head);
+    met(m, head).fold(head, |_, p| p.place(link))
 }
 
-// How often a page is met from a cell on; in the list of a head.
-fn meets(m: &Memory, page: u8, link: u16, cell: u16, left: u8) -> u8
-    requires { (link < 32) × (cell < 8192) }
-    ensures { (result ≡ count page (Model.path left m.now link cell)) × (result ≤ left) }
+// Whether a page stands once on the processor list.
+pub fn listed_once(m: &Memory, page: u8) -> bool
+    ensures { result ≡ eqb (count page (Model.met m.now Map.processor_list)) 1 }
 {
-    if left == 0 {
-        return 0;
-    }
-    let w = control_at(m, cell);
-    if w == 0 {
-        return 0;
-    }
-    let n = meets(m, page, link, ControlPage(w).place(link), left - 1);
-    if page == w {
-        return n + 1;
-    }
-    n
-}
-
-pub fn met_in(m: &Memory, page: u8, head: u16) -> u8
-    requires { head < 8192 }
-    ensures { result ≡ count page (Model.met m.now head) }
-{
-    meets(m, page, link_of(head), head, left_of(head))
+    processors(m).filter(|p| p.0 == page).count() == 1
 }
