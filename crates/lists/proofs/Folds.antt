@@ -1,6 +1,6 @@
 -- Laws of the rules' parts, and that a rule of each of a list, or of a range, is what `all` tests: they serve every rule. That the list of a head, a
 -- grant too, is a walk, and how many of a list pass.
-use Prim.Native.Nat.{ℕ, zero, suc, ◌+◌, ◌-◌, ◌%◌, ◌≤◌, ◌<◌}
+use Prim.Native.Nat.{ℕ, zero, suc, ◌+◌, ◌≤◌, ◌<◌}
 use mathlib.Core.Path.{◌≡◌, refl, sym, ap, ◌∙◌}
 use mathlib.Core.Bool.{Bool, true, false, cond, ◌&&◌}
 use mathlib.Core.List.{List, [], ◌∷◌, ◌++◌}
@@ -114,8 +114,8 @@ below_all f (suc n) =
     let z : 0 + n ≡ n = omega arith in
     let e : list_all t (range_with_len 0 (suc n)) ≡ (list_all t (range_with_len 0 n) && (t n && true)) =
     ap (list_all t) (more_numbers 0 n)
-        ∙ list_all-append t (range_with_len 0 n) ((0 + n) ∷ [])
-        ∙ ap (λ k. list_all t (range_with_len 0 n) && (t k && true)) z in
+    ∙ list_all-append t (range_with_len 0 n) ((0 + n) ∷ [])
+    ∙ ap (λ k. list_all t (range_with_len 0 n) && (t k && true)) z in
     e ∙ rw (below_all f n) (last_first (holds (f n)) (holds (below n f)))
   where
     last_first : (b c : Bool) → (c && (b && true)) ≡ elim b [ true ↦ c | false ↦ false ]

@@ -14,6 +14,6 @@ folded c = try_fold_is _ _ _ _ _ c.try_fold.ensures.ran (YieldsList-from_rest _ 
 pub returns : goal.returns
 returns c =
     c.is_some.ensures
-        ∙ ap is_some (folded c)
-        ∙ ap (λ b. is_some (onward (with_name c.args.m.now) b (lists c.args.m.now processor_list))) c.none.ensures
-        ∙ names_are c.args.m.now
+    ∙ ap is_some (folded c)
+    ∙ ap (λ b. is_some (onward (with_name c.args.m.now) b (lists c.args.m.now processor_list))) c.none.ensures
+    ∙ names_are c.args.m.now
