@@ -1,23 +1,23 @@
 -- A law for each way through the rules that read a word or count before they test. Premises stand in the code's order.
 use Prim.Native.Nat.{ℕ, suc, ◌+◌, ◌≤◌, ◌<◌}
-use mathlib.Core.Path.{◌≡◌, refl}
-use mathlib.Core.Bool.{Bool, true, ◌&&◌}
+use mathlib.Core.Path.{◌≡◌, refl, sym, ◌∙◌}
+use mathlib.Core.Bool.{Bool, true, false, ◌&&◌}
 use mathlib.Core.List.{List}
 use native.Mathlib.Omega.{arith}
 use lib.ListN.{length}
 use lib.Dec.{eqb, leb}
+use borrow.Author.Tests.{eq-eqb, ne_eqb, le-leb, lt-leb}
 use Rattle.model.specs.Map.{place, upper, lower, less, wait_in, wait_bit, length_in, longest, notice, last_name, last_flag, last_fault}
 use Rattle.model.specs.Map.{entry_after, first_unused, free_list, grant_for, header_after, semaphore_after, processor_list, running_label}
 use Rattle.model.specs.Map.{label, list_link, note, own_queue, own_semaphore, q1, reason, size, state}
 use Rattle.model.specs.Store.{bytes}
-use Rattle.model.specs.Rule.{same, each, among, holds}
+use Rattle.model.specs.Rule.{same, most, both, each, among, holds}
 use Rattle.model.specs.Lists.{Lists, count, each_of}
 use Rattle.model.specs.Judge as Judge
 use Rattle.model.specs.Bytes.{Memory, at, word, walk, lists, name}
 use Rattle.lists.specs.Heads.{rule}
-use Rattle.lists.specs.Seen.{one_more}
-use Rattle.lists.proofs.Folds.{both_yes, both_true, both_is, same_is, most_is, when_yes, when_no, unless_yes, unless_no, least_yes, least_no}
-use Rattle.lists.proofs.Heads.{processors_walk}
+use Rattle.lists.proofs.Folds.{both_yes, both_no, both_true, both_is, same_is, most_is, when_yes, when_no, unless_yes, unless_no, least_yes, least_no}
+use Rattle.lists.proofs.Folds.{processors_walk}
 use Rattle.judge.proofs.Heads.{empty_is, head_none, head_some}
 
 -- ---- reasons
@@ -31,12 +31,25 @@ module _ (m : Memory) (p w : ℕ) (ew : w ≡ word m p state) where
   quiet_waits h = rw (← ew) (when_no _ _ _ h)
 
 -- ---- message waits: x is in the own queue of p
-pub owner_is : (m : Memory) (ps : List ℕ) (L : Lists) (p x w : ℕ) (b d r : Bool) → w ≡ word m p reason
-    → b ≡ holds (each (L (place p q1)) (Judge.unasked bytes m p)) → d ≡ (leb (lower w) last_flag && b)
-    → r ≡ (eqb x p && d) → r ≡ holds (Judge.owner bytes m ps L p x)
-unfolding Judge.owner
-owner_is m ps L p x w b d r ew eb ed er =
-    rw (← ew) (both_is _ _ (eqb x p) d r er (same_is x p) (both_is _ _ (leb (lower w) last_flag) b d ed (most_is (lower w) last_flag) eb))
+module _ (m : Memory) (ps : List ℕ) (L : Lists) (p x w : ℕ) (ew : w ≡ word m p reason) where
+  pub owner_yes : (b : Bool) → x ≡ p → lower w ≤ last_flag → b ≡ holds (each (L (place p q1)) (Judge.unasked bytes m p)) → b ≡ holds (Judge.owner bytes m ps L p x)
+  unfolding Judge.owner
+  owner_yes b ex el eb =
+      rw (← ew)
+      (both_yes _ _ true (sym (eq-eqb x p ex) ∙ same_is x p) b refl (both_yes _ _ true (sym (le-leb (lower w) last_flag el) ∙ most_is (lower w) last_flag) b refl eb))
+
+  pub owner_other : (x ≡ p → ⊥) → false ≡ holds (Judge.owner bytes m ps L p x)
+  unfolding Judge.owner
+  owner_other n = both_no _ _ false (sym (ne_eqb x p n) ∙ same_is x p) refl
+
+  pub owner_flag : last_flag < lower w → false ≡ holds (Judge.owner bytes m ps L p x)
+  unfolding Judge.owner
+  owner_flag l = go (eqb x p) refl
+    where
+      go : (d : Bool) → eqb x p ≡ d → false ≡ holds (both (same x p) (both (most (lower (word m p reason)) last_flag) (each (L (place p q1)) (Judge.unasked bytes m p))))
+      go false h = both_no _ _ false (sym h ∙ same_is x p) refl
+      go true h =
+          both_yes _ _ true (sym h ∙ same_is x p) false refl (rw (← ew) (both_no _ _ false (sym (lt-leb (lower w) last_flag l) ∙ most_is (lower w) last_flag) refl))
 
 -- ---- semaphores
 module _ (m : Memory) (a s : ℕ) where
@@ -70,7 +83,7 @@ module _ (m : Memory) (k i w : ℕ) (ei : i ≡ k) (ew : w ≡ at m (grant_for i
       let e : length (lists m (grant_for k)) ≡ 0 = rw (← ei, head_none m (grant_for i) w ew z) in
       unless_yes (length (lists m (grant_for k))) 0 _ e
 
-  pub grant_some : (n : ℕ) → (w ≡ 0 → ⊥) → n ≡ count k (each_of (name m) (walk one_more m list_link processor_list))
+  pub grant_some : (n : ℕ) → (w ≡ 0 → ⊥) → n ≡ count k (each_of (name m) (walk 21 m list_link processor_list))
       → eqb n 1 ≡ holds (rule (Judge.grant bytes) m k)
   unfolding Judge.grant
   grant_some n h en =
@@ -119,7 +132,9 @@ module _ (m : Memory) (i f j k : ℕ) (ef : f ≡ at m first_unused) (ej : j ≡
 pub ruleset sentences = (
   quiet_idle,
   quiet_waits,
-  owner_is,
+  owner_yes,
+  owner_other,
+  owner_flag,
   waiters_none,
   waiters_some,
   interrupt_semaphore_is,

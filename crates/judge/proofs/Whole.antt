@@ -1,11 +1,11 @@
 -- The whole: the pages used are all pages, once each; those who wait are those with the waiting bit; and the rest.
 use Prim.Native.Nat.{ℕ, ◌≤◌, ◌<◌}
-use mathlib.Core.Path.{◌≡◌, refl, sym, ◌∙◌}
+use mathlib.Core.Path.{◌≡◌, refl, sym, ap, ◌∙◌}
 use mathlib.Core.Bool.{Bool, true, false, ◌&&◌, and_assoc}
 use mathlib.Core.List.{List, [], ◌∷◌, ◌++◌}
 use native.Mathlib.Omega.{arith}
 use lib.Dec.{eqb, leb}
-use borrow.Author.Tests.{eq-eqb, ne_eqb, eqb-true}
+use borrow.Author.Tests.{eqb-true}
 use Rattle.model.specs.Map.{control_pages, first_control, free_list, grants, list_link, page_size, processor_list, word_values}
 use Rattle.model.specs.Store.{bytes}
 use Rattle.model.specs.Rule.{Rule, both, each, holds, all}
@@ -13,12 +13,14 @@ use Rattle.model.specs.Lists.{Lists, count, sum, range, mails, uses, queues}
 use Rattle.model.specs.Judge as Judge
 use Rattle.model.specs.Bytes.{Memory, walk, lists, judged, waiting}
 use Rattle.lists.specs.Heads.{rule}
-use Rattle.lists.specs.Seen.{all_pages, is_page, one_more, see_lists, flags}
+use Rattle.std.specs.Prelude.{Option, Some, None}
+use Rattle.std.specs.Option.{option_eq}
+use Rattle.lists.specs.Seen.{all_pages, is_page, see_lists, flags}
 use Rattle.lists.proofs.Folds.{both_and, cons_and, each_nil}
 use Rattle.lists.proofs.Counting.{if_true}
-use Rattle.lists.proofs.Uses.{good, good_parts, used_once_lem, and_true, range_at}
+use Rattle.lists.proofs.Uses.{good, good_pages, are_all, used_once_lem, and_true, range_at}
 use Rattle.lists.proofs.Waits.{waits_are}
-use Rattle.lists.proofs.Heads.{processors_walk}
+use Rattle.lists.proofs.Folds.{processors_walk}
 use Rattle.judge.specs.Tails as Tails
 use Rattle.judge.specs.Tails.{waited, linked, tabled}
 
@@ -87,13 +89,14 @@ module _ (m : Memory) where
   unfolding holds Judge.waiting_bits Judge.bit Judge.waiter
   waits_good = sym (both_and (each ps (rule (Judge.bit bytes) m)) (each (range control_pages 1 first_control) (rule (Judge.waiter bytes) m)))
 
-  module _ (u : ℕ) (eu : u ≡ see_lists 0 (lists m) (uses ps)) where
-    used_are : eqb u all_pages ≡ (uses_listed && used_once)
+  -- the pages used are all, or not
+  module _ (u : Option ℕ) (eu : u ≡ see_lists (lists m) 0 (uses ps)) where
+    used_are : are_all u ≡ (uses_listed && used_once)
     used_are = rw eu (used_once_lem (lists m) (uses ps) ∙ rw (list_good (uses ps), once_good))
 
-    pub linked_unused : (u ≡ all_pages → ⊥) → false ≡ holds (linked m)
-    linked_unused n =
-        no uses_listed queues_listed used_once (names && (waiting_bits && rest)) (sym used_are ∙ ne_eqb u all_pages n) ∙ sym linked_and
+    unused : are_all u ≡ false → false ≡ holds (linked m)
+    unused h =
+        no uses_listed queues_listed used_once (names && (waiting_bits && rest)) (sym used_are ∙ h) ∙ sym linked_and
       where
         no : (a c b r : Bool) → (a && b) ≡ false → false ≡ ((a && c) && (b && r))
         no true true true r e = cc
@@ -101,45 +104,54 @@ module _ (m : Memory) where
         no true false b r e = refl
         no false c b r e = refl
 
-    module _ (hu : u ≡ all_pages) where
-      parts : (uses_listed ≡ true) × (used_once ≡ true)
-      parts = and_true uses_listed used_once (sym used_are ∙ eq-eqb u all_pages hu)
+    pub linked_none : u ≡ None → false ≡ holds (linked m)
+    linked_none h = unused (ap are_all h)
 
-      -- the processors are control pages, which `wait_bits` asks
-      pub full_pages : all is_page ps ≡ true
-      unfolding all
-      full_pages =
-          let p = if_true (good ps) (all (λ a. good (lists m a)) (free_list ∷ (mails ps ++ range page_size 1 grants))) (list_good (uses ps) ∙ parts.0) in
-          (good_parts ps p.0).1
+    module _ (n : ℕ) (hn : u ≡ Some n) (a : Bool) (ea : a ≡ eqb n all_pages) where
+      pub linked_unused : a ≡ false → false ≡ holds (linked m)
+      linked_unused h = unused (ap are_all hn ∙ sym ea ∙ h)
 
-      single : (z : ℕ) → first_control ≤ z → z < word_values → count z ps ≤ 1
-      single z lo hi =
-          let once = range_at (λ y. eqb (sum y (lists m) (uses ps)) 1) control_pages first_control z (once_good ∙ parts.1) lo (omega arith) in
-          let e = eqb-true (sum z (lists m) (uses ps)) 1 once in
-          omega arith
+      module _ (h : a ≡ true) where
+        parts : (uses_listed ≡ true) × (used_once ≡ true)
+        parts = and_true uses_listed used_once (sym used_are ∙ ap are_all hn ∙ sym ea ∙ h)
 
-      module _ (w f : ℕ) (ew : w ≡ see_lists 0 (lists m) (queues ps)) (ef : f ≡ flags (waiting m) 0 (walk one_more m list_link processor_list)) where
-        waited_are : eqb w f ≡ (queues_listed && waiting_bits)
-        waited_are =
-            let e : f ≡ flags (waiting m) 0 ps = rw (processors_walk m) ef in
-            rw (ew, e) (waits_are (lists m) (queues ps) ps (waiting m) (λ z. omega arith) full_pages single ∙ rw (list_good (queues ps), waits_good))
+        -- the processors are control pages
+        full_pages : all is_page ps ≡ true
+        unfolding all
+        full_pages =
+            let p = if_true (good ps) (all (λ b. good (lists m b)) (free_list ∷ (mails ps ++ range page_size 1 grants))) (list_good (uses ps) ∙ parts.0) in
+            good_pages ps p.0
 
-        pub linked_unwaited : (w ≡ f → ⊥) → false ≡ holds (linked m)
-        linked_unwaited n =
-            no uses_listed queues_listed used_once names waiting_bits rest (sym waited_are ∙ ne_eqb w f n) ∙ sym linked_and
-          where
-            no : (a c b k d r : Bool) → (c && d) ≡ false → false ≡ ((a && c) && (b && (k && (d && r))))
-            no true true true true true r e = cc
-            no true true true true false r e = refl
-            no true true true false d r e = refl
-            no true true false k d r e = refl
-            no true false b k d r e = refl
-            no false c b k d r e = refl
+        single : (z : ℕ) → first_control ≤ z → z < word_values → count z ps ≤ 1
+        single z lo hi =
+            let once = range_at (λ y. eqb (sum y (lists m) (uses ps)) 1) control_pages first_control z (once_good ∙ parts.1) lo (omega arith) in
+            let e = eqb-true (sum z (lists m) (uses ps)) 1 once in
+            omega arith
 
-        pub linked_rest : (r : Bool) → w ≡ f → r ≡ (names && rest) → r ≡ holds (linked m)
-        linked_rest r h er =
-            let q = and_true queues_listed waiting_bits (sym waited_are ∙ eq-eqb w f h) in
-            er ∙ rw (linked_and, parts.0, parts.1, q.0, q.1)
+        -- those that wait are those with the waiting bit, or not; z is where the code begins
+        module _ (w f : Option ℕ) (z : ℕ) (ew : w ≡ see_lists (lists m) 0 (queues ps)) (ez : z ≡ 0) (ef : f ≡ flags (waiting m) z (walk 21 m list_link processor_list))
+            (d : Bool) (ed : d ≡ option_eq eqb w f) where
+          waited_are : d ≡ (queues_listed && waiting_bits)
+          waited_are =
+              let e : f ≡ flags (waiting m) 0 ps = rw (processors_walk m) (rw ez at ef) in
+              ed ∙ rw (ew, e) (waits_are (lists m) (queues ps) ps (waiting m) (λ y. omega arith) full_pages single ∙ rw (list_good (queues ps), waits_good))
+
+          pub linked_unwaited : d ≡ false → false ≡ holds (linked m)
+          linked_unwaited k =
+              no uses_listed queues_listed used_once names waiting_bits rest (sym waited_are ∙ k) ∙ sym linked_and
+            where
+              no : (a c b n d r : Bool) → (c && d) ≡ false → false ≡ ((a && c) && (b && (n && (d && r))))
+              no true true true true true r e = cc
+              no true true true true false r e = refl
+              no true true true false d r e = refl
+              no true true false n d r e = refl
+              no true false b n d r e = refl
+              no false c b n d r e = refl
+
+          pub linked_rest : (r : Bool) → d ≡ true → r ≡ (names && rest) → r ≡ holds (linked m)
+          linked_rest r k er =
+              let q = and_true queues_listed waiting_bits (sym waited_are ∙ k) in
+              er ∙ rw (linked_and, parts.0, parts.1, q.0, q.1)
 
 -- two parts, the second asked only where the first holds
 module _ (b x : Bool) (e : b ≡ x) where
@@ -188,4 +200,4 @@ module _ (m : Memory) where
         go true = sym h ∙ e
         go false = refl
 
-pub ruleset whole = (linked_unused, full_pages, linked_unwaited, linked_rest, and_yes, and_no, judged_no, judged_yes)
+pub ruleset whole = (linked_none, linked_unused, linked_unwaited, linked_rest, and_yes, and_no, judged_no, judged_yes)

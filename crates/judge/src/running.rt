@@ -1,5 +1,5 @@
 // Well-formed: who runs.
-ghost use Rattle.std.specs.Prelude.{◌≡◌, ◌<◌, length};
+ghost use Rattle.std.specs.Prelude.{◌≡◌};
 ghost use Rattle.model.specs.Map as Map;
 ghost use Rattle.model.specs.Store.{bytes};
 ghost use Rattle.model.specs.Rule.{holds, each};
@@ -8,11 +8,12 @@ ghost use Rattle.model.specs.Bytes as Model;
 ghost use Rattle.lists.specs.Heads.{rule};
 
 use crate::tables::is_at;
-use lists::{both, listings};
+use lists::{listings, processors};
 use model::{ControlPage, Memory, map};
 use words::at;
 
 // "word 25 of page 7 is the running one's word 7; the running one is ready": page p.
+#[tactic(auto, using(crate::proofs::WhoRuns::runs))]
 fn runner(m: &Memory, p: ControlPage) -> bool
     ensures { result ≡ holds (rule (Judge.runner bytes) m.now p.0) }
 {
@@ -20,10 +21,11 @@ fn runner(m: &Memory, p: ControlPage) -> bool
     let l = at(m, map::RUNNING_LABEL);
     let w = p.word(m, map::LABEL);
     let s = p.word(m, map::STATE);
-    both(n == 1, both(l == w, s < map::WAIT_BIT))
+    n == 1 && l == w && s < map::WAIT_BIT
 }
 
-// "and none ready is higher": page p; each of the processors from the cell on.
+// "and none ready is higher": page p; each of the processors.
+#[tactic(auto, using(crate::proofs::Sentences::sentences))]
 fn not_higher(m: &Memory, p: ControlPage) -> bool
     ensures { result ≡ holds (rule (Judge.not_higher bytes) m.now p.0) }
 {
@@ -36,35 +38,19 @@ fn not_higher(m: &Memory, p: ControlPage) -> bool
     true
 }
 
-fn none_higher(m: &Memory, cell: u16, left: u8) -> bool
-    requires { cell < 8192 }
-    ensures { result ≡ holds (each (Model.walk left m.now Map.list_link cell) (rule (Judge.not_higher bytes) m.now)) }
+fn none_higher(m: &Memory) -> bool
+    ensures { result ≡ holds (each (Model.lists m.now Map.processor_list) (rule (Judge.not_higher bytes) m.now)) }
 {
-    if left == 0 {
-        return true;
-    }
-    let w = at(m, cell);
-    if w == 0 {
-        return true;
-    }
-    if not_higher(m, ControlPage(w)) {
-        return none_higher(m, ControlPage(w).place(map::LIST_LINK), left - 1);
-    }
-    false
+    processors(m).all(|p| not_higher(m, p))
 }
 
+#[tactic(auto, using(crate::proofs::WhoRuns::runs))]
 pub fn running(m: &Memory) -> bool
     ensures { result ≡ holds (rule (Judge.running bytes) m.now) }
 {
     let p = at(m, map::RUNNING_PAGE);
     if p == 0 {
-        return both(
-            is_at(m, map::RUNNING_LABEL, 0),
-            none_higher(m, map::PROCESSOR_LIST, map::ONE_MORE),
-        );
+        return is_at(m, map::RUNNING_LABEL, 0) && none_higher(m);
     }
-    both(
-        runner(m, ControlPage(p)),
-        none_higher(m, map::PROCESSOR_LIST, map::ONE_MORE),
-    )
+    runner(m, ControlPage(p)) && none_higher(m)
 }

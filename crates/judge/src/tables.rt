@@ -1,5 +1,5 @@
 // Well-formed: the words of pages 7, 8 and 9: codes, the clock, faults; and what is asked of the word at an address.
-ghost use Rattle.std.specs.Prelude.{◌≡◌, ◌<◌, ◌+◌, ◌*◌, length, eqb};
+ghost use Rattle.std.specs.Prelude.{◌≡◌, ◌<◌, ◌+◌, ◌*◌, eqb};
 ghost use Rattle.model.specs.Map as Map;
 ghost use Rattle.model.specs.Store.{bytes};
 ghost use Rattle.model.specs.Rule.{holds, same, never, among, under, below};
@@ -7,11 +7,12 @@ ghost use Rattle.model.specs.Judge as Judge;
 ghost use Rattle.model.specs.Bytes as Model;
 ghost use Rattle.lists.specs.Heads.{rule};
 
-use lists::{both, lies};
+use lists::lies;
 use model::{Memory, instructions, map, wide};
 use words::at;
 
 // The word at an address: v; in low-high; below an end.
+#[tactic(auto, unfolding(model::specs::Rule::holds))]
 pub fn is_at(m: &Memory, a: u16, v: u8) -> bool
     requires { a < 8192 }
     ensures { result ≡ holds (same (Model.at m.now a) v) }
@@ -28,6 +29,7 @@ pub fn lies_at(m: &Memory, a: u16, low: u8, high: u8) -> bool
     lies(w, low, high)
 }
 
+#[tactic(auto, unfolding(model::specs::Rule::holds))]
 pub fn under_at(m: &Memory, a: u16, end: u8) -> bool
     requires { a < 8192 }
     ensures { result ≡ holds (under (Model.at m.now a) end) }
@@ -37,6 +39,7 @@ pub fn under_at(m: &Memory, a: u16, end: u8) -> bool
 }
 
 // Code c is built in; it is not.
+#[tactic(auto, unfolding(model::specs::Rule::holds))]
 pub fn built_in(m: &Memory, c: u8) -> bool
     ensures { result ≡ holds (same (Map.top (Model.at m.now (Map.code_word c))) 1) }
 {
@@ -44,6 +47,7 @@ pub fn built_in(m: &Memory, c: u8) -> bool
     w / map::HIGHS == instructions::BUILT_IN
 }
 
+#[tactic(auto, unfolding(model::specs::Rule::holds))]
 pub fn foreign(m: &Memory, c: u8) -> bool
     ensures { result ≡ holds (never (eqb (Map.top (Model.at m.now (Map.code_word c))) 1)) }
 {
@@ -52,6 +56,7 @@ pub fn foreign(m: &Memory, c: u8) -> bool
 }
 
 // "kinds 0-2, codes 0, 1 built in, 15 absent or own": code c; all of them.
+#[tactic(auto, unfolding(model::specs::Rule::holds, model::specs::Judge::kind))]
 pub fn kind(m: &Memory, c: u8) -> bool
     ensures { result ≡ holds (Judge.kind bytes m.now c) }
 {
@@ -62,27 +67,14 @@ pub fn kind(m: &Memory, c: u8) -> bool
 fn kinds(m: &Memory) -> bool
     ensures { result ≡ holds (below Map.all_codes (Judge.kind bytes m.now)) }
 {
-    let mut k = map::ALL_CODES;
-    while 0 < k {
-        k -= 1;
-        if kind(m, k) {
-            continue;
-        }
-        return false;
-    }
-    true
+    (0..map::ALL_CODES).all(|c| kind(m, c))
 }
 
+#[tactic(auto, using(lists::proofs::Folds::parts), unfolding(model::specs::Judge::codes))]
 pub fn codes(m: &Memory) -> bool
     ensures { result ≡ holds (rule (Judge.codes bytes) m.now) }
 {
-    both(
-        kinds(m),
-        both(
-            built_in(m, 0),
-            both(built_in(m, 1), foreign(m, map::BUILT_IN_CODES)),
-        ),
-    )
+    kinds(m) && built_in(m, 0) && built_in(m, 1) && foreign(m, map::BUILT_IN_CODES)
 }
 
 fn c0_under(m: &Memory) -> bool
@@ -92,44 +84,35 @@ fn c0_under(m: &Memory) -> bool
     under_at(m, map::C0, d)
 }
 
+#[tactic(auto, using(lists::proofs::Folds::parts), unfolding(model::specs::Judge::counters))]
 fn counters(m: &Memory) -> bool
     ensures { result ≡ holds (rule (Judge.counters bytes) m.now) }
 {
-    both(
-        c0_under(m),
-        both(
-            under_at(m, map::C1, map::C1_END),
-            both(
-                under_at(m, map::C2, map::C2_END),
-                under_at(m, map::C3, map::C3_END),
-            ),
-        ),
-    )
+    c0_under(m)
+        && under_at(m, map::C1, map::C1_END)
+        && under_at(m, map::C2, map::C2_END)
+        && under_at(m, map::C3, map::C3_END)
 }
 
+#[tactic(auto, using(lists::proofs::Folds::parts), unfolding(model::specs::Judge::clock))]
 pub fn clock(m: &Memory) -> bool
     ensures { result ≡ holds (rule (Judge.clock bytes) m.now) }
 {
-    both(
-        counters(m),
-        both(
-            lies_at(m, map::DIVIDER, 1, map::A_WORD),
-            lies_at(m, map::CLOCK_LINE, map::FIRST_OUTER, map::LAST_LINE),
-        ),
-    )
+    counters(m)
+        && lies_at(m, map::DIVIDER, 1, map::A_WORD)
+        && lies_at(m, map::CLOCK_LINE, map::FIRST_OUTER, map::LAST_LINE)
 }
 
 // "page 9 in range with names 1-15", "faults 1 to 13", "unused zero": entry i + 1, used; used or not; all of them.
+#[tactic(auto, using(crate::proofs::Sentences::sentences))]
 fn used(m: &Memory, i: u8) -> bool
     ensures { result ≡ holds (Judge.used bytes m.now i) }
 {
     let w = at(m, map::ENTRIES_AFTER + wide(i));
-    both(
-        lies(w / map::FIELD, 1, map::LAST_NAME),
-        lies(w % map::FIELD, 1, map::LAST_FAULT),
-    )
+    lies(w / map::FIELD, 1, map::LAST_NAME) && lies(w % map::FIELD, 1, map::LAST_FAULT)
 }
 
+#[tactic(auto, using(crate::proofs::Sentences::sentences))]
 pub fn entry(m: &Memory, i: u8) -> bool
     ensures { result ≡ holds (Judge.entry bytes m.now i) }
 {
@@ -144,22 +127,12 @@ pub fn entry(m: &Memory, i: u8) -> bool
 fn entries(m: &Memory) -> bool
     ensures { result ≡ holds (below Map.entries (Judge.entry bytes m.now)) }
 {
-    let mut k = map::ENTRIES;
-    while 0 < k {
-        k -= 1;
-        if entry(m, k) {
-            continue;
-        }
-        return false;
-    }
-    true
+    (0..map::ENTRIES).all(|k| entry(m, k))
 }
 
+#[tactic(auto, using(lists::proofs::Folds::parts), unfolding(model::specs::Judge::faults))]
 pub fn faults(m: &Memory) -> bool
     ensures { result ≡ holds (rule (Judge.faults bytes) m.now) }
 {
-    both(
-        lies_at(m, map::FIRST_UNUSED, 1, map::ENTRIES_FULL),
-        entries(m),
-    )
+    lies_at(m, map::FIRST_UNUSED, 1, map::ENTRIES_FULL) && entries(m)
 }

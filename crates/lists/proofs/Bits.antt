@@ -73,3 +73,24 @@ bit_same_all (suc n) a b h l f =
     let p = pow-suc 2 n in
     let q = bit_same_all n (a / 2) (b / 2) (omega arith) (omega arith) (λ k y. f (suc k) (omega arith)) in
     omega (arith, f 0 (omega arith))
+
+-- how many of n bits are 1: at most all, and one bit more
+unfoldable pub ones : ℕ → ℕ → ℕ
+ones zero b = 0
+ones (suc n) b = b % 2 + ones n (b / 2)
+
+pub ones_most : (n b : ℕ) → ones n b ≤ n
+unfolding ones
+ones_most zero b = omega arith
+ones_most (suc n) b = omega (arith, ones_most n (b / 2))
+
+pub ones_more : (n k b : ℕ) → k < n → bit k b ≡ 0 → ones n (b + 2 ^ k) ≡ ones n b + 1
+unfolding ones bit
+ones_more zero k b l e = absurd (omega arith)
+ones_more (suc n) zero b l e =
+    let h : (b + 2 ^ 0) / 2 ≡ b / 2 = omega (arith, pow-zero 2) in
+    omega (arith, pow-zero 2, ap (ones n) h)
+ones_more (suc n) (suc k) b l e =
+    let h : (b + 2 ^ suc k) / 2 ≡ b / 2 + 2 ^ k = omega (arith, pow-suc 2 k) in
+    let r : (b + 2 ^ suc k) % 2 ≡ b % 2 = omega (arith, pow-suc 2 k) in
+    omega (arith, r, ap (ones n) h, ones_more n k (b / 2) (omega arith) e)

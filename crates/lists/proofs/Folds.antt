@@ -1,22 +1,22 @@
--- Laws of the rules' parts, and of the folds of a list, be it a walk or a range, a law for each way out: they serve every rule. And that
--- the list of a head, a grant too, is a walk.
-use Prim.Native.Nat.{ℕ, zero, suc, ◌+◌, ◌-◌, ◌%◌, ◌≤◌, ◌<◌}
-use mathlib.Core.Path.{◌≡◌, refl}
+-- Laws of the rules' parts, and that a rule of each of a list, or of a range, is what `all` tests: they serve every rule. That the list of a head, a
+-- grant too, is a walk, and how many of a list pass.
+use Prim.Native.Nat.{ℕ, zero, suc, ◌+◌, ◌≤◌, ◌<◌}
+use mathlib.Core.Path.{◌≡◌, refl, sym, ap, ◌∙◌}
 use mathlib.Core.Bool.{Bool, true, false, cond, ◌&&◌}
-use mathlib.Core.List.{List, [], ◌∷◌}
+use mathlib.Core.List.{List, [], ◌∷◌, ◌++◌}
 use native.Mathlib.Omega.{arith}
-use native.Mathlib.Numerals.{sub-one}
 use lib.ListN.{length}
 use lib.Dec.{eqb, leb}
 use borrow.Author.Tests.{eq-eqb, ne_eqb, le-leb, lt-leb}
-use Rattle.model.specs.Map.{place, grants, grants_end, header_after, own_queue, processor_list, q1}
+use Rattle.std.specs.Prelude.{filter}
+use Rattle.std.specs.List.{list_all, range_with_len}
+use Rattle.std.proofs.lemmas.List.Folds.{list_all-append}
+use Rattle.model.specs.Map.{place, grants, grants_end, processor_list}
 use Rattle.model.specs.Queue as Queue
 use Rattle.model.specs.Rule.{Rule, same, most, both, each, below, when_same, unless_same, when_most, among, holds, all, every}
 use Rattle.model.specs.Lists as Lists
-use Rattle.model.specs.Lists.{count, each_of, range, some, mails, owns, is_grant, link_of, reach}
-use Rattle.model.specs.Bytes.{Memory, at, word, walk, lists, name}
-use Rattle.queues.proofs.Laws.{walk_none, walk_end, walk_on}
-use Rattle.lists.specs.Heads.{heads_of}
+use Rattle.model.specs.Lists.{hit, count, each_of, some, is_grant, link_of, reach}
+use Rattle.model.specs.Bytes.{Memory, at, walk, lists, name}
 
 -- ---- the parts of a rule
 module _ (r s : Rule) (b : Bool) (e : b ≡ holds r) where
@@ -27,6 +27,8 @@ module _ (r s : Rule) (b : Bool) (e : b ≡ holds r) where
   pub both_no : b ≡ false → false ≡ holds (both r s)
   unfolding holds
   both_no h = rw (← e, h, holds)
+
+pub ruleset parts = (both_yes, both_no)
 
 pub both_true : (r s : Rule) (b : Bool) → b ≡ holds r → true ≡ holds s → b ≡ holds (both r s)
 both_true r s true e k = both_yes r s true e true refl k
@@ -52,9 +54,6 @@ each_nil f = refl
 pub cons_and : (f : ℕ → Rule) (x : ℕ) (xs : List ℕ) → holds (each (x ∷ xs) f) ≡ (holds (f x) && holds (each xs f))
 unfolding holds all
 cons_and f x xs = if_and (holds (f x)) (holds (each xs f))
-
-pub cons_is : (f : ℕ → Rule) (x : ℕ) (xs : List ℕ) (a b c : Bool) → c ≡ (a && b) → a ≡ holds (f x) → b ≡ holds (each xs f) → c ≡ holds (each (x ∷ xs) f)
-cons_is f x xs a b c e ea eb = rw (cons_and f x xs, ← ea, ← eb) e
 
 module _ (x y : ℕ) where
   pub same_is : eqb x y ≡ holds (same x y)
@@ -93,84 +92,40 @@ module _ (x y : ℕ) where
 pub lies_is : (x lo hi : ℕ) (r : Bool) → r ≡ (leb lo x && leb x hi) → r ≡ holds (among x lo hi)
 lies_is x lo hi r e = both_is (most lo x) (most x hi) (leb lo x) (leb x hi) r e (most_is lo x) (most_is x hi)
 
--- ---- a list that is empty, and one that begins with w: each of it, how long it is, how often z stands in it, how many of it have the name z.
--- Where nothing else names w, the cell c does at which a walk goes on.
-module _ (xs : List ℕ) where
-  module _ (f : ℕ → Rule) where
-    pub each_none : xs ≡ [] → true ≡ holds (each xs f)
-    unfolding holds all
-    each_none e = rw e
+-- ---- each of a list, and of 0 .. n - 1, as `all` tests them
+pub each_all : (f : ℕ → Rule) (xs : List ℕ) → list_all (λ x. holds (f x)) xs ≡ holds (each xs f)
+unfolding holds all
+each_all f [] = refl
+each_all f (x ∷ xs) = rw (each_all f xs) (sym (if_and (holds (f x)) (holds (each xs f))))
 
-    module _ (w : ℕ) (ys : List ℕ) (b : Bool) (e : xs ≡ w ∷ ys) (eb : b ≡ holds (f w)) where
-      pub each_bad : b ≡ false → false ≡ holds (each xs f)
-      unfolding holds all
-      each_bad h = rw (e, ← eb, h, all)
+pub all_each : (f : ℕ → Rule) (xs : List ℕ) (r : Bool) → r ≡ list_all (λ x. holds (f x)) xs → r ≡ holds (each xs f)
+all_each f xs r e = e ∙ each_all f xs
 
-      pub each_on : (r : Bool) → b ≡ true → r ≡ holds (each ys f) → r ≡ holds (each xs f)
-      unfolding holds all
-      each_on r h k = rw (e, ← eb, h, all) k
+-- the first n + 1 numbers from a on are the first n and a + n
+more_numbers : (a n : ℕ) → range_with_len a (suc n) ≡ range_with_len a n ++ (a + n) ∷ []
+more_numbers a zero = let e : a + 0 ≡ a = omega arith in rw e
+more_numbers a (suc n) = let e : a + 1 + n ≡ a + suc n = omega arith in rw (more_numbers (a + 1) n, e)
 
-  pub length_none : xs ≡ [] → 0 ≡ length xs
-  length_none e = rw e
-
-  pub length_on : (w c k r : ℕ) (ys : List ℕ) → c ≡ place w k → xs ≡ w ∷ ys → r ≡ length ys → r + 1 ≡ length xs
-  length_on w c k r ys ec e er = rw e (omega arith)
-
-  module _ (z : ℕ) where
-    pub count_none : xs ≡ [] → 0 ≡ count z xs
-    count_none e = rw e
-
-    pub name_none : (m : Memory) → xs ≡ [] → 0 ≡ count z (each_of (name m) xs)
-    name_none m e = rw e
-
-    module _ (w r : ℕ) (ys : List ℕ) (e : xs ≡ w ∷ ys) where
-      module _ (er : r ≡ count z ys) where
-        pub count_here : z ≡ w → r + 1 ≡ count z xs
-        count_here h = rw (e, eq-eqb z w h) (omega arith)
-
-        pub count_other : (c k : ℕ) → c ≡ place w k → (z ≡ w → ⊥) → r ≡ count z xs
-        count_other c k ec h = rw (e, ne_eqb z w h) (omega arith)
-
-      module _ (m : Memory) (x : ℕ) (ex : x ≡ word m w 7) (er : r ≡ count z (each_of (name m) ys)) where
-        pub name_here : z ≡ x % 16 → r + 1 ≡ count z (each_of (name m) xs)
-        name_here h = rw (e, ← ex, eq-eqb z (x % 16) h) (omega arith)
-
-        pub name_other : (z ≡ x % 16 → ⊥) → r ≡ count z (each_of (name m) xs)
-        name_other h = rw (e, ← ex, ne_eqb z (x % 16) h) (omega arith)
-
--- ---- a range, of heads or of pages; each of 0 .. n - 1
-pub range_zero : (n d a : ℕ) → n ≡ 0 → range n d a ≡ []
-unfolding range
-range_zero zero d a e = refl
-range_zero (suc n) d a e = absurd (omega arith)
-
-pub range_suc : (n d a : ℕ) → (n ≡ 0 → ⊥) → range n d a ≡ a ∷ range (n - 1) d (a + d)
-unfolding range
-range_suc zero d a o = absurd (o refl)
-range_suc (suc n) d a o = rw sub-one
-
--- one of it is bad, and what comes after is not looked at
-pub walk_bad : (n : ℕ) (m : Memory) (k a : ℕ) (f : ℕ → Rule) (w : ℕ) (b : Bool) → (n ≡ 0 → ⊥) → w ≡ at m a → (w ≡ 0 → ⊥) → b ≡ holds (f w) → b ≡ false
-    → false ≡ holds (each (walk n m k a) f)
-walk_bad n m k a f w b o e z eb h = each_bad (walk n m k a) f w _ b (walk_on n m k a w (place w k) o e z refl) eb h
-
-pub range_bad : (f : ℕ → Rule) (n d a : ℕ) (b : Bool) → (n ≡ 0 → ⊥) → b ≡ holds (f a) → b ≡ false → false ≡ holds (each (range n d a) f)
-range_bad f n d a b o eb h = each_bad (range n d a) f a _ b (range_suc n d a o) eb h
-
-pub below_none : (f : ℕ → Rule) (n : ℕ) → n ≡ 0 → true ≡ holds (below n f)
+below_all : (f : ℕ → Rule) (n : ℕ) → list_all (λ k. holds (f k)) (range_with_len 0 n) ≡ holds (below n f)
 unfolding holds every
-below_none f zero e = refl
-below_none f (suc n) e = absurd (omega arith)
+below_all f zero = refl
+below_all f (suc n) =
+    let t : ℕ → Bool = λ k. holds (f k) in
+    let z : 0 + n ≡ n = omega arith in
+    let e : list_all t (range_with_len 0 (suc n)) ≡ (list_all t (range_with_len 0 n) && (t n && true)) =
+    ap (list_all t) (more_numbers 0 n)
+    ∙ list_all-append t (range_with_len 0 n) ((0 + n) ∷ [])
+    ∙ ap (λ k. list_all t (range_with_len 0 n) && (t k && true)) z in
+    e ∙ rw (below_all f n) (last_first (holds (f n)) (holds (below n f)))
+  where
+    last_first : (b c : Bool) → (c && (b && true)) ≡ elim b [ true ↦ c | false ↦ false ]
+    last_first true true = refl
+    last_first true false = refl
+    last_first false true = refl
+    last_first false false = refl
 
-pub below_bad : (f : ℕ → Rule) (n : ℕ) (b : Bool) → (n ≡ 0 → ⊥) → b ≡ holds (f (n - 1)) → b ≡ false → false ≡ holds (below n f)
-unfolding holds every
-below_bad f zero b o e h = absurd (o refl)
-below_bad f (suc n) b o e h = let g : b ≡ holds (f n) = simp sub-one at e in rw (← g, h, every)
-
-pub below_on : (f : ℕ → Rule) (n : ℕ) (b r : Bool) → (n ≡ 0 → ⊥) → b ≡ holds (f (n - 1)) → b ≡ true → r ≡ holds (below (n - 1) f) → r ≡ holds (below n f)
-unfolding holds every
-below_on f zero b r o e h er = absurd (o refl)
-below_on f (suc n) b r o e h er = let g : b ≡ holds (f n) = simp sub-one at e in rw (← g, h, every) (simp sub-one at er)
+pub all_below : (f : ℕ → Rule) (n : ℕ) (r : Bool) → r ≡ list_all (λ k. holds (f k)) (range_with_len 0 n) → r ≡ holds (below n f)
+all_below f n r e = e ∙ below_all f n
 
 -- ---- the list of a head
 some_walk : (w : ℕ) → some w ≡ elim (eqb w 0) [ true ↦ [] | false ↦ w ∷ [] ]
@@ -185,31 +140,60 @@ lists_is m a = go (is_grant a)
     go true = some_walk (at m a)
     go false = refl
 
+pub processors_walk : (m : Memory) → lists m processor_list ≡ walk 21 m 1 processor_list
+unfolding Lists.lists Lists.is_grant Lists.link_of
+processors_walk m = refl
+
+-- a walk is no longer than it may go
+pub walk_most : (n : ℕ) (m : Memory) (k a : ℕ) → length (walk n m k a) ≤ n
+unfolding Queue.walk
+walk_most zero m k a = omega arith
+walk_most (suc n) m k a = go (walk_most n m k (place (at m a) k)) (eqb (at m a) 0)
+  where
+    go : length (walk n m k (place (at m a) k)) ≤ n → (b : Bool) → length {A = ℕ} (elim b [ true ↦ [] | false ↦ at m a ∷ walk n m k (place (at m a) k) ]) ≤ suc n
+    go l true = omega arith
+    go l false = omega arith
+
+reach_most : (a : ℕ) → reach a ≤ 21
+unfolding Lists.reach
+reach_most a = go (is_grant a)
+  where
+    go : (b : Bool) → cond b 1 21 ≤ 21
+    go true = omega arith
+    go false = omega arith
+
+pub lists_most : (m : Memory) (a : ℕ) → length (lists m a) ≤ 21
+lists_most m a = omega (arith, ap length (lists_is m a), walk_most (reach a) m (link_of a) a, reach_most a)
+
+-- ---- how many of a list pass
+pub filter_most : (t : ℕ → Bool) (xs : List ℕ) → length (filter t xs) ≤ length xs
+filter_most t [] = omega arith
+filter_most t (x ∷ xs) = go (filter_most t xs) (t x)
+  where
+    go : length (filter t xs) ≤ length xs → (b : Bool) → length (cond b (x ∷ filter t xs) (filter t xs)) ≤ suc (length xs)
+    go l true = omega arith
+    go l false = omega arith
+
+pub count_passed : (z : ℕ) (xs : List ℕ) → length (filter (λ x. eqb z x) xs) ≡ count z xs
+count_passed z [] = refl
+count_passed z (x ∷ xs) = go (count_passed z xs) (eqb z x)
+  where
+    go : length (filter (λ y. eqb z y) xs) ≡ count z xs → (b : Bool) → length (cond b (x ∷ filter (λ y. eqb z y) xs) (filter (λ y. eqb z y) xs)) ≡ hit b + count z xs
+    go e true = omega arith
+    go e false = omega arith
+
+pub names_passed : (m : Memory) (z : ℕ) (xs : List ℕ) → length (filter (λ x. eqb z (name m x)) xs) ≡ count z (each_of (name m) xs)
+names_passed m z [] = refl
+names_passed m z (x ∷ xs) = go (names_passed m z xs) (eqb z (name m x))
+  where
+    go : length (filter (λ y. eqb z (name m y)) xs) ≡ count z (each_of (name m) xs) → (b : Bool)
+        → length (cond b (x ∷ filter (λ y. eqb z (name m y)) xs) (filter (λ y. eqb z (name m y)) xs)) ≡ hit b + count z (each_of (name m) xs)
+    go e true = omega arith
+    go e false = omega arith
+
 module _ (m : Memory) (a k n : ℕ) (ek : k ≡ link_of a) (en : n ≡ reach a) where
-  pub lists_each : (f : ℕ → Rule) (r : Bool) → r ≡ holds (each (walk n m k a) f) → r ≡ holds (each (lists m a) f)
-  lists_each f r e = rw (lists_is m a, ← ek, ← en) e
-
-  pub lists_length : (r : ℕ) → r ≡ length (walk n m k a) → r ≡ length (lists m a)
-  lists_length r e = rw (lists_is m a, ← ek, ← en) e
-
--- Q1 and Q2, and the own queue, as heads in words from 5 and from 4 on
-pub mails_heads : (ps : List ℕ) → mails ps ≡ heads_of 2 q1 ps
-unfolding range
-mails_heads [] = refl
-mails_heads (p ∷ ps) = let e : place p 5 + 1 ≡ place p 6 = omega arith in rw (e, mails_heads ps)
-
-pub owns_heads : (ps : List ℕ) → owns ps ≡ heads_of 1 own_queue ps
-unfolding range
-owns_heads [] = refl
-owns_heads (p ∷ ps) = rw (owns_heads ps)
-
--- at a place, and at the header of interrupt i + 1, as the code reckons them
-pub place_each : (m : Memory) (c p k : ℕ) (f : ℕ → Rule) (r : Bool) → c ≡ place p k → r ≡ holds (each (lists m c) f) → r ≡ holds (each (lists m (place p k)) f)
-place_each m c p k f r e h = rw (← e) h
-
-pub header_each : (m : Memory) (j i : ℕ) (f : ℕ → Rule) (r : Bool) → j ≡ i → r ≡ holds (each (lists m (header_after j)) f)
-    → r ≡ holds (each (lists m (header_after i)) f)
-header_each m j i f r e h = rw (← e) h
+  pub lists_walk : (r : List ℕ) → r ≡ walk n m k a → r ≡ lists m a
+  lists_walk r e = rw (lists_is m a, ← ek, ← en) e
 
 pub link_list : (a : ℕ) → a ≡ processor_list → 1 ≡ link_of a
 unfolding Lists.link_of
@@ -231,37 +215,4 @@ pub left_high : (a : ℕ) → grants_end ≤ a → 21 ≡ reach a
 unfolding Lists.reach Lists.is_grant
 left_high a h = rw (le-leb grants a (omega arith), lt-leb (suc a) grants_end (omega arith))
 
-pub ruleset folds = (
-  both_is,
-  lies_is,
-  cons_is,
-  walk_none,
-  walk_end,
-  walk_on,
-  range_zero,
-  range_suc,
-  walk_bad,
-  range_bad,
-  each_none,
-  each_on,
-  below_none,
-  below_bad,
-  below_on,
-  lists_each,
-  lists_length,
-  place_each,
-  header_each,
-  link_list,
-  link_other,
-  left_low,
-  left_grant,
-  left_high,
-  length_none,
-  length_on,
-  count_none,
-  count_here,
-  count_other,
-  name_none,
-  name_here,
-  name_other,
-)
+pub ruleset folds = (lies_is, lists_walk, link_list, link_other, left_low, left_grant, left_high)

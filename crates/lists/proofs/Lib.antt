@@ -1,9 +1,8 @@
-pub mod Folds
 pub mod Bits
+pub mod Folds
+pub mod Onward
 pub mod Counting
-pub mod Walks
 pub mod Uses
 pub mod Waits
-pub mod Heads
-pub mod Flags
 pub mod Named
+pub mod Heads

@@ -1,20 +1,14 @@
--- The pages seen in lists, as bits of one number: bit x - 236 for the control page x. Twenty bits are all pages; one bit more stands for
--- broken: a page was no control page or came twice, or a list did not end.
-use Rattle.std.specs.Prelude.{ℕ, suc, ◌+◌, ◌-◌, ◌/◌, ◌%◌, ◌^◌, Bool, true, false, cond, List, [], ◌∷◌, length, eqb, ltb}
-use Rattle.model.specs.Map.{upper, lower, link, label, first_control, last_control, control_pages, last_name, last_priority}
+-- The pages seen in lists, as bits of one number: bit x - 236 for the control page x. None: a page was no control page, or came twice. A list
+-- that does not end has a page twice.
+use Rattle.std.specs.Prelude.{ℕ, ◌+◌, ◌-◌, ◌/◌, ◌%◌, ◌^◌, Bool, cond, List, [], ◌∷◌, eqb, Option, Some, None, is_some, filter}
+use Rattle.std.specs.Option.{option_and_then}
+use Rattle.model.specs.Map.{upper, lower, label, first_control, last_control, last_name, last_priority}
 use Rattle.model.specs.Rule.{Rule, among, both, holds}
 use Rattle.model.specs.Lists.{Lists}
-use Rattle.model.specs.Bytes.{Memory, walk, word, name}
-
-abbrev pub broken : ℕ
-broken = 1048576
+use Rattle.model.specs.Bytes.{Memory, word, name}
 
 abbrev pub all_pages : ℕ
 all_pages = 1048575
-
--- a list that has so many pages does not end
-abbrev pub one_more : ℕ
-one_more = suc control_pages
 
 -- a control page
 unfoldable pub is_page : ℕ → Bool
@@ -24,33 +18,26 @@ is_page x = holds (among x first_control last_control)
 unfoldable pub has : ℕ → ℕ → ℕ
 has b z = b / 2 ^ (z - first_control) % 2
 
-unfoldable pub see : ℕ → ℕ → ℕ
-see b x = cond (is_page x) (cond (eqb (has b x) 1) broken (b + 2 ^ (x - first_control))) broken
+-- with the page x
+unfoldable pub see : ℕ → ℕ → Option ℕ
+see b x = cond (is_page x) (cond (eqb (has b x) 1) None (Some (b + 2 ^ (x - first_control)))) None
 
-unfoldable pub see_all : ℕ → List ℕ → ℕ
-see_all b [] = b
-see_all b (x ∷ xs) = cond (eqb (see b x) broken) broken (see_all (see b x) xs)
+-- with what f adds for each of a list, one after the other
+unfoldable pub onward : (ℕ → ℕ → Option ℕ) → ℕ → List ℕ → Option ℕ
+onward f b [] = Some b
+onward f b (x ∷ xs) = option_and_then (λ c. onward f c xs) (f b x)
 
--- a list that ends before n pages
-unfoldable pub up_to : ℕ → ℕ → List ℕ → ℕ
-up_to n b xs = cond (ltb (length xs) n) (see_all b xs) broken
+-- with the pages of a list
+abbrev pub see_all : ℕ → List ℕ → Option ℕ
+see_all b xs = onward see b xs
 
--- the lists of the heads hs
-unfoldable pub see_lists : ℕ → Lists → List ℕ → ℕ
-see_lists b L [] = b
-see_lists b L (a ∷ hs) = cond (eqb (up_to one_more b (L a)) broken) broken (see_lists (up_to one_more b (L a)) L hs)
+-- with the lists of the heads hs
+abbrev pub see_lists : Lists → ℕ → List ℕ → Option ℕ
+see_lists L b hs = onward (λ c a. see_all c (L a)) b hs
 
--- the page p if f is 1 for it, and those of ps for which f is 1
-unfoldable pub with_flag : (ℕ → ℕ) → ℕ → ℕ → ℕ
-with_flag f b p = cond (eqb (f p) 1) (see b p) b
-
-unfoldable pub flags : (ℕ → ℕ) → ℕ → List ℕ → ℕ
-flags f b [] = b
-flags f b (p ∷ ps) = cond (eqb (with_flag f b p) broken) broken (flags f (with_flag f b p) ps)
-
--- the list of a head that is no grant, and not the processor list
-abbrev pub walks : Memory → Lists
-walks m a = walk one_more m link a
+-- with those of the pages ps for which f is 1
+abbrev pub flags : (ℕ → ℕ) → ℕ → List ℕ → Option ℕ
+flags f b ps = see_all b (filter (λ p. eqb (f p) 1) ps)
 
 -- a label with a name and a priority of 1-15
 unfoldable pub titled_by : ℕ → Rule
@@ -59,10 +46,9 @@ titled_by l = both (among (lower l) 1 last_name) (among (upper l) 1 last_priorit
 abbrev pub titled : Memory → ℕ → Rule
 titled m p = titled_by (word m p label)
 
--- the name of p, which stands as page 236 + n; and whether those of ps are good and differ
-unfoldable pub with_name : Memory → ℕ → ℕ → ℕ
-with_name m b p = cond (holds (titled m p)) (see b (first_control + name m p)) broken
+-- with the name of p, which stands as page 236 + n, if its label is good; and whether those of ps are good and differ
+unfoldable pub with_name : Memory → ℕ → ℕ → Option ℕ
+with_name m b p = cond (holds (titled m p)) (see b (first_control + name m p)) None
 
-unfoldable pub named : Memory → ℕ → List ℕ → Bool
-named m b [] = true
-named m b (p ∷ ps) = cond (eqb (with_name m b p) broken) false (named m (with_name m b p) ps)
+abbrev pub named : Memory → ℕ → List ℕ → Bool
+named m b ps = is_some (onward (with_name m) b ps)

@@ -1,35 +1,32 @@
-// The lists of the judge: how long they are, how often a page or a name stands in the processor list; which pages they hold (seen), and
-// whether names differ (names).
+// The lists of the judge: which pages a head has, how long a list is, how often a page or a name stands in the processor list; which pages lists
+// hold (seen), and whether names differ (names).
 #![tactic(auto)]
 
 pub mod names;
-pub mod page;
 pub mod seen;
 
-ghost use Rattle.std.specs.Prelude.{◌≡◌, ◌&&◌, ◌<◌, ◌≤◌, ◌+◌, length};
+ghost use Rattle.std.specs.Prelude.{◌≡◌, ◌&&◌, ◌<◌, ◌≤◌, length};
 ghost use Rattle.model.specs.Map as Map;
 ghost use Rattle.model.specs.Rule.{holds, among};
 ghost use Rattle.model.specs.Lists.{count, each_of, link_of, reach};
 ghost use Rattle.model.specs.Bytes as Model;
 
-use model::{ControlPage, Memory, map, wide};
-use words::at;
+use model::{Memory, map, wide};
+use queues::Walk;
 
-// Whether both hold; a rule that is two is tested so.
+// Whether both hold; `telling` asks both, whatever the first says.
 pub fn both(a: bool, b: bool) -> bool
     ensures { result ≡ (a && b) }
 {
-    if a {
-        return b;
-    }
-    false
+    a && b
 }
 
 // Whether the value lies in low-high.
+#[tactic(auto, using(crate::proofs::Folds::lies_is))]
 pub fn lies(value: u8, low: u8, high: u8) -> bool
     ensures { result ≡ holds (among value low high) }
 {
-    both(low <= value, value <= high)
+    low <= value && value <= high
 }
 
 // a - b as a signed byte.
@@ -40,6 +37,7 @@ pub fn less(a: u8, b: u8) -> u8
 }
 
 // The word that links the list of the head.
+#[tactic(auto, using(crate::proofs::Folds::folds))]
 pub fn link_of(head: u16) -> u16
     ensures { (result ≡ link_of head) × (result < 32) }
 {
@@ -50,6 +48,7 @@ pub fn link_of(head: u16) -> u16
 }
 
 // How far it goes: one page more than there are, and one page for a grant.
+#[tactic(auto, using(crate::proofs::Folds::folds))]
 pub fn left_of(head: u16) -> u8
     ensures { result ≡ reach head }
 {
@@ -62,19 +61,19 @@ pub fn left_of(head: u16) -> u8
     map::ONE_MORE
 }
 
-// How many pages hang from the cell.
-fn how_many(m: &Memory, link: u16, cell: u16, left: u8) -> u8
-    requires { (link < 32) × (cell < 8192) }
-    ensures { (result ≡ length (Model.walk left m.now link cell)) × (result ≤ left) }
+// The list of the head; the processors, in the order of their list.
+#[tactic(auto, using(crate::proofs::Folds::folds))]
+pub fn list_of(m: &Memory, head: u16) -> Walk<'_>
+    requires { head < 8192 }
+    ensures { result ≡ Model.lists m.now head }
 {
-    if left == 0 {
-        return 0;
-    }
-    let w = at(m, cell);
-    if w == 0 {
-        return 0;
-    }
-    how_many(m, link, ControlPage(w).place(link), left - 1) + 1
+    Walk::new(m, link_of(head), head, left_of(head))
+}
+
+pub fn processors(m: &Memory) -> Walk<'_>
+    ensures { result ≡ Model.lists m.now Map.processor_list }
+{
+    list_of(m, map::PROCESSOR_LIST)
 }
 
 // How long the list of the head is.
@@ -82,7 +81,7 @@ pub fn length_of(m: &Memory, head: u16) -> u8
     requires { head < 8192 }
     ensures { result ≡ length (Model.lists m.now head) }
 {
-    how_many(m, link_of(head), head, left_of(head))
+    list_of(m, head).count() as u8
 }
 
 // How often the page stands in the processor list, from the cell on.
@@ -90,18 +89,9 @@ pub fn listings(m: &Memory, page: u8, cell: u16, left: u8) -> u8
     requires { cell < 8192 }
     ensures { (result ≡ count page (Model.walk left m.now Map.list_link cell)) × (result ≤ left) }
 {
-    if left == 0 {
-        return 0;
-    }
-    let w = at(m, cell);
-    if w == 0 {
-        return 0;
-    }
-    let n = listings(m, page, ControlPage(w).place(map::LIST_LINK), left - 1);
-    if page == w {
-        return n + 1;
-    }
-    n
+    Walk::new(m, map::LIST_LINK, cell, left)
+        .filter(|p| page == p.0)
+        .count() as u8
 }
 
 // How many of the processor list, from the cell on, have the name.
@@ -109,17 +99,7 @@ pub fn bearers(m: &Memory, name: u8, cell: u16, left: u8) -> u8
     requires { cell < 8192 }
     ensures { (result ≡ count name (each_of (Model.name m.now) (Model.walk left m.now Map.list_link cell))) × (result ≤ left) }
 {
-    if left == 0 {
-        return 0;
-    }
-    let w = at(m, cell);
-    if w == 0 {
-        return 0;
-    }
-    let x = ControlPage(w).word(m, map::LABEL);
-    let n = bearers(m, name, ControlPage(w).place(map::LIST_LINK), left - 1);
-    if name == x % map::FIELD {
-        return n + 1;
-    }
-    n
+    Walk::new(m, map::LIST_LINK, cell, left)
+        .filter(|p| name == p.word(m, map::LABEL) % map::FIELD)
+        .count() as u8
 }

@@ -1,8 +1,0 @@
-use Rattle.std.proofs.Common.{rules}
-use Rattle.model.specs.Judge as Judge
-use Rattle.judge.proofs.Laws.{rulings}
-use Rattle.judge.proofs.tables.codes.Goals as goal
-
-pub returns : goal.returns
-unfolding Judge.codes
-returns c = search (rules, rulings)
