@@ -9,8 +9,8 @@ ghost use Rattle.lists.specs.Heads.{rule};
 
 use crate::tables::is_at;
 use lists::{length_of, less, lies, list_of, processors};
-use mail::fits;
-use model::{ControlPage, Memory, Name, map, wide};
+use mail::Note;
+use model::{ControlPage, Memory, map, wide};
 use words::at;
 
 // ---- "reasons 1-255 in interrupt queues, 0 in the page queue and when not waiting"
@@ -79,9 +79,7 @@ pub fn reasons(m: &Memory) -> bool
 pub fn unasked(m: &Memory, p: ControlPage, q: ControlPage) -> bool
     ensures { result ≡ holds (Judge.unasked bytes m.now p.0 q.0) }
 {
-    let w = p.word(m, map::REASON);
-    let x = q.word(m, map::NOTE);
-    !fits(Name(w / map::FIELD), w % map::FIELD, x)
+    !Note::of(p.word(m, map::REASON)).fits(q.word(m, map::NOTE))
 }
 
 // Nothing in its Q1 is what page p waits for; page x is in the own queue of page p.

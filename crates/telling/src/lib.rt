@@ -13,6 +13,7 @@ mod waits;
 mod walks;
 
 ghost use Rattle.std.specs.Prelude.{◌≡◌};
+ghost use Rattle.model.specs.Coded.{broken_told};
 ghost use Rattle.model.specs.Bytes as Model;
 
 use crate::counters::counters;
@@ -21,38 +22,62 @@ use crate::tables::tables;
 use crate::uses::pages;
 use crate::waits::waits;
 use judge::judged;
-use model::{Finding, Memory, refusals};
+use model::{Broken, Class, Memory};
 
 // "The classes are tried in that order".
-#[tactic(auto, using(crate::proofs::InOrder::findings), unfolding(model::specs::Classes::told_of, model::specs::Classes::classes))]
-fn told(m: &Memory) -> Finding
-    ensures { result ≡ Model.told_of m.now }
+#[tactic(
+    auto,
+    using(crate::proofs::InOrder::findings),
+    unfolding(
+        model::specs::Classes::told_of,
+        model::specs::Classes::classes,
+        model::specs::Coded::broken_told,
+        model::specs::Coded::class_number
+    )
+)]
+fn told(m: &Memory) -> Result<(), Broken>
+    ensures { broken_told result ≡ Model.told_of m.now }
 {
-    if let Some(a) = pages(m) {
-        return Finding::Broken(refusals::BROKEN_PAGES, a);
+    if let Some(address) = pages(m) {
+        return Err(Broken {
+            class: Class::Pages,
+            address,
+        });
     }
-    if let Some(b) = waits(m) {
-        return Finding::Broken(refusals::BROKEN_WAITS, b);
+    if let Some(address) = waits(m) {
+        return Err(Broken {
+            class: Class::Waits,
+            address,
+        });
     }
-    if let Some(c) = records(m) {
-        return Finding::Broken(refusals::BROKEN_RECORDS, c);
+    if let Some(address) = records(m) {
+        return Err(Broken {
+            class: Class::Records,
+            address,
+        });
     }
-    if let Some(d) = tables(m) {
-        return Finding::Broken(refusals::BROKEN_TABLES, d);
+    if let Some(address) = tables(m) {
+        return Err(Broken {
+            class: Class::Tables,
+            address,
+        });
     }
-    if let Some(e) = counters(m) {
-        return Finding::Broken(refusals::BROKEN_COUNTERS, e);
+    if let Some(address) = counters(m) {
+        return Err(Broken {
+            class: Class::Counters,
+            address,
+        });
     }
-    Finding::Nothing
+    Ok(())
 }
 
 // What is found of a memory.
-#[tactic(auto, using(crate::proofs::InOrder::accepted_is))]
-pub fn finding(m: &Memory) -> Finding
-    ensures { result ≡ Model.told_of m.now }
+#[tactic(auto, using(crate::proofs::InOrder::accepted_is), unfolding(model::specs::Coded::broken_told))]
+pub fn finding(m: &Memory) -> Result<(), Broken>
+    ensures { broken_told result ≡ Model.told_of m.now }
 {
     if judged(m) {
-        return Finding::Nothing;
+        return Ok(());
     }
     told(m)
 }
