@@ -1,57 +1,39 @@
--- The arguments by shape, and whether EXI's lie within their fields.
-use Prim.Native.Nat.{ℕ, zero, suc, ◌-◌, ◌≤◌, ◌<◌}
-use mathlib.Core.Path.{◌≡◌, refl}
+-- Whether so many argument words lie within their fields, tested from the first on, or as the definition goes, from the last.
+use Prim.Native.Nat.{ℕ, zero, suc, ◌+◌, ◌≤◌, ◌<◌}
+use mathlib.Core.Path.{◌≡◌, refl, ap, ◌∙◌}
 use mathlib.Core.Bool.{Bool, true, false}
-use mathlib.Core.List.{List, [], ◌∷◌}
-use lib.ListN.{get_or, get_or-eq_default}
-use borrow.Author.Tests.{le-leb, lt-leb}
-use native.Mathlib.Numerals.{sub-one}
+use mathlib.Core.List.{List, [], ◌∷◌, ◌++◌}
+use lib.Dec.{leb}
+use lib.ListN.{get_or}
 use native.Mathlib.Omega.{arith}
-use Rattle.model.specs.declared.Arguments.{Arguments}
+use Rattle.std.specs.List.{list_all, range_with_len}
+use Rattle.std.specs.Prelude.{◌&&◌}
+use Rattle.std.proofs.lemmas.List.Folds.{list_all-append}
 use Rattle.model.specs.Instruction as Instruction
-use Rattle.model.specs.Instruction.{limit_for, arguments, counted_arguments}
+use Rattle.model.specs.Instruction.{limit_for}
 use Rattle.model.specs.Bytes.{Memory, argument, within}
 
--- ---- the arguments by shape, direct and for EXI: the row of shape s, the first where there is none
-pub row : (s k : ℕ) (r d : Arguments) (xs : List Arguments) → s ≡ k → r ≡ get_or xs k d → r ≡ get_or xs s d
-row s k r d xs e h = rw e h
+-- the first n + 1 numbers from a on are the first n and a + n
+more_numbers : (a n b : ℕ) → b ≡ a + n → range_with_len a (suc n) ≡ range_with_len a n ++ b ∷ []
+more_numbers a zero b e = let s : b ≡ a = omega arith in rw s
+more_numbers a (suc n) b e = ap (λ xs. a ∷ xs) (more_numbers (a + 1) n b (omega arith))
 
-pub row_none : (s : ℕ) (r d t u v w x y : Arguments) → (s ≡ 1 → ⊥) → (s ≡ 2 → ⊥) → (s ≡ 3 → ⊥) → (s ≡ 4 → ⊥) → (s ≡ 5 → ⊥) → (s ≡ 6 → ⊥) → r ≡ d
-    → r ≡ get_or (d ∷ t ∷ u ∷ v ∷ w ∷ x ∷ y ∷ []) s d
-row_none zero r d t u v w x y a b c e f g h = h
-row_none (suc s) r d t u v w x y a b c e f g h =
-    let q : 7 ≤ suc s = omega arith in
-    rw (get_or-eq_default (d ∷ t ∷ u ∷ v ∷ w ∷ x ∷ y ∷ []) d q) h
+both_ways : (b c : Bool) → (c && (b && true)) ≡ elim b [ true ↦ c | false ↦ false ]
+both_ways true true = refl
+both_ways true false = refl
+both_ways false true = refl
+both_ways false false = refl
 
--- ---- what was found, in its place
-module _ (r : Arguments) where
-  pub arguments_of : (f g t u a b : ℕ) → r ≡ arguments f t 0 a → f ≡ g → t ≡ u → a ≡ b → r ≡ arguments g u 0 b
-  arguments_of f g t u a b e ef et ea = rw (← ef, ← et, ← ea) e
+module _ (m : Memory) (e s : ℕ) (limits : List ℕ) (h : (i : ℕ) → i < 5 → get_or limits i 0 ≡ limit_for s i) where
+  abbrev pub fits : ℕ → Bool
+  fits i = leb (argument m e i) (get_or limits i 0)
 
-  pub counted_of : (k l c d : ℕ) → r ≡ counted_arguments k c → k ≡ l → c ≡ d → r ≡ counted_arguments l d
-  counted_of k l c d e ek ec = rw (← ek, ← ec) e
-
-module _ (m : Memory) (e s : ℕ) where
-  pub within_none : (n : ℕ) → n ≡ 0 → true ≡ within n m e s
+  pub fits_all : (n : ℕ) → n ≤ 5 → list_all fits (range_with_len 0 n) ≡ within n m e s
   unfolding Instruction.within
-  within_none zero z = refl
-  within_none (suc n) z = absurd (omega arith)
-
-  -- i is n - 1 made wide
-  pub within_on : (n i v l : ℕ) (r : Bool) → (n ≡ 0 → ⊥) → i ≡ n - 1 → v ≡ argument m e i → l ≡ limit_for s (n - 1) → v ≤ l
-      → r ≡ within (n - 1) m e s
-      → r ≡ within n m e s
-  unfolding Instruction.within
-  within_on zero i v l r o ei ev el h er = absurd (o refl)
-  within_on (suc n) i v l r o ei ev el h er =
-      let g : i ≡ n = omega arith in
-      rw (← g, ← ev, g, ← (simp sub-one at el), le-leb v l h, Instruction.within) (simp sub-one at er)
-
-  pub within_bad : (n i v l : ℕ) → (n ≡ 0 → ⊥) → i ≡ n - 1 → v ≡ argument m e i → l ≡ limit_for s (n - 1) → l < v → false ≡ within n m e s
-  unfolding Instruction.within
-  within_bad zero i v l o ei ev el h = absurd (o refl)
-  within_bad (suc n) i v l o ei ev el h =
-      let g : i ≡ n = omega arith in
-      rw (← g, ← ev, g, ← (simp sub-one at el), lt-leb v l h, Instruction.within)
-
-pub ruleset arguing = (row, row_none, arguments_of, counted_of, within_none, within_on, within_bad)
+  fits_all zero l = refl
+  fits_all (suc n) l =
+      ap (list_all fits) (more_numbers 0 n n (omega arith))
+      ∙ list_all-append fits (range_with_len 0 n) (n ∷ [])
+      ∙ both_ways (fits n) (list_all fits (range_with_len 0 n))
+      ∙ ap (λ c. elim (fits n) [ true ↦ c | false ↦ false ]) (fits_all n (omega arith))
+      ∙ ap (λ k. elim (leb (argument m e n) k) [ true ↦ within n m e s | false ↦ false ]) (h n (omega arith))

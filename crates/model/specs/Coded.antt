@@ -1,5 +1,5 @@
 -- The code's own types in the paper's numbers: faults, refusals, answers, and pages by their numbers.
-use Rattle.std.specs.Prelude.{ℕ, Option, Some, None, Result, Ok, Err, cond, eqb}
+use Rattle.std.specs.Prelude.{ℕ, Option, Some, None, Result, Ok, Err, cond, eqb, [], ◌∷◌, get_or}
 use Rattle.model.specs.declared.ControlPage.{ControlPage}
 use Rattle.model.specs.declared.Registers.{Registers}
 use Rattle.model.specs.declared.Answer.{Answer as Answered}
@@ -10,6 +10,17 @@ use Rattle.model.specs.declared.refusal.Class.{Class}
 use Rattle.model.specs.declared.refusal.Class.TheVariants.{Pages, Waits, Records, Tables, Counters}
 use Rattle.model.specs.declared.refusal.Refusal.{Refusal}
 use Rattle.model.specs.declared.refusal.Refusal.TheVariants.{WrongLength, Idle, NoInstruction, NoInterrupt, NoInterruptAt, WrongClass, WrongClassAt, OutOfRange, WrongList, BrokenLayout, TooNew, Broken, NoRoom}
+use Rattle.model.specs.declared.instructions.Code.{Code}
+use Rattle.model.specs.declared.instructions.Code.TheVariants.{Cvi, Dvi, Gin, Win, Sme, Wnm, Rme, Tme, St1, Stp, St2, Crp, Dep, Thirteen, Exi}
+use Rattle.model.specs.declared.instructions.Kind.{Kind}
+use Rattle.model.specs.declared.instructions.Kind.TheVariants.{Absent, BuiltIn, Own}
+use Rattle.model.specs.declared.instructions.NoKind.{NoKind}
+use Rattle.model.specs.declared.instructions.Operation.{Operation}
+use Rattle.model.specs.declared.instructions.Operation.TheVariants.{Add, Store, And, Increment, Jump, Vep}
+use Rattle.model.specs.declared.instructions.Shape.{Shape}
+use Rattle.model.specs.declared.instructions.Shape.TheVariants.{Bare, Plain, Addressed, Counted, Flagged, Complete, Creating}
+use Rattle.model.specs.Instruction.{absent, built_in, own, sme_code, rme_code, st1_code, stp_code, crp_code, dep_code, exi_code, jump_operation, vep_operation}
+use Rattle.model.specs.Instruction.{bare, plain, addressed, counted, flagged, complete, creating}
 use Rattle.model.specs.Told.{Answer, Held, Verdict, Finding, Checked, Fit, Writing}
 use Rattle.model.specs.Answer.{wrong_length, idle, no_instruction, no_interrupt, wrong_class, out_of_range, wrong_list, broken_layout, too_new, no_room}
 use Rattle.model.specs.Answer.{broken_pages, broken_waits, broken_records, broken_tables, broken_counters}
@@ -39,6 +50,59 @@ fault_number Fault.AboveItself = above_itself
 unfoldable pub fault_or_none : Option Faulted → ℕ
 fault_or_none None = 0
 fault_or_none (Some f) = fault_number f
+
+-- ---- instructions: the codes that are built in, kinds of code, CODE1 and shapes, and what a number that has none comes to
+unfoldable pub code_number : Code → ℕ
+code_number Cvi = 0
+code_number Dvi = 1
+code_number Gin = 2
+code_number Win = 3
+code_number Sme = sme_code
+code_number Wnm = 5
+code_number Rme = rme_code
+code_number Tme = 7
+code_number St1 = st1_code
+code_number Stp = stp_code
+code_number St2 = 10
+code_number Crp = crp_code
+code_number Dep = dep_code
+code_number Thirteen = 13
+code_number Exi = exi_code
+
+unfoldable pub code_of : ℕ → Result Code Faulted
+code_of n =
+    get_or
+    (Ok Cvi ∷ Ok Dvi ∷ Ok Gin ∷ Ok Win ∷ Ok Sme ∷ Ok Wnm ∷ Ok Rme ∷ Ok Tme ∷ Ok St1 ∷ Ok Stp ∷ Ok St2 ∷ Ok Crp ∷ Ok Dep ∷ Ok Thirteen ∷ Ok Exi ∷ [])
+    n
+    (Err Fault.AbsentCode)
+
+unfoldable pub kind_number : Kind → ℕ
+kind_number Absent = absent
+kind_number BuiltIn = built_in
+kind_number Own = own
+
+unfoldable pub kind_of : ℕ → Result Kind NoKind
+kind_of n = get_or (Ok Absent ∷ Ok BuiltIn ∷ Ok Own ∷ []) n (Err (record { 0 = n }))
+
+unfoldable pub operation_number : Operation → ℕ
+operation_number Add = 0
+operation_number Store = 1
+operation_number And = 2
+operation_number Increment = 3
+operation_number Jump = jump_operation
+operation_number Vep = vep_operation
+
+unfoldable pub operation_of : ℕ → Result Operation Faulted
+operation_of n = get_or (Ok Add ∷ Ok Store ∷ Ok And ∷ Ok Increment ∷ Ok Jump ∷ Ok Vep ∷ []) n (Err Fault.BadArgument)
+
+unfoldable pub shape_number : Shape → ℕ
+shape_number Bare = bare
+shape_number Plain = plain
+shape_number Addressed = addressed
+shape_number Counted = counted
+shape_number Flagged = flagged
+shape_number Complete = complete
+shape_number Creating = creating
 
 -- ---- refusals
 unfoldable pub class_number : Class → ℕ

@@ -7,6 +7,7 @@ pub mod Address
 pub mod Queue
 pub mod Processor
 -- Instructions; Pages; Sending; Deleting; Interrupts; Who runs
+pub mod Given
 pub mod Instruction
 pub mod Operate
 pub mod Wait

@@ -13,6 +13,7 @@ ghost use Rattle.model.specs.Bytes as Model;
 
 pub use fault::Fault;
 pub use refusal::{Class, Refusal};
+use std::marker::Model;
 
 // "8,192 words of 8 bits".
 pub type Memory = [u8; map::MEMORY_WORDS];
@@ -54,6 +55,52 @@ pub struct Arguments {
     pub address: u16,
     pub interrupt: u8,
     pub count: u8,
+}
+
+impl Model for Arguments {
+    ghost use Rattle.std.specs.Prelude.{◌<◌};
+    ghost use Rattle.model.specs.Given.{Given};
+
+    ghost Value = { Given };
+
+    ghost view = { λ a. record { field = a.field; second = a.second; w = a.w; address = a.address; interrupt = a.interrupt; count = a.count } };
+
+    ghost invariant = { λ a. (a.field < 16) × (a.second < 16) × (a.w < 16) × (a.address < 8192) };
+
+    ghost inverse = { λ g. record { field = g.field; second = g.second; w = g.w; address = g.address; interrupt = g.interrupt; count = g.count } };
+}
+
+impl Arguments {
+    ghost use Rattle.std.specs.Prelude.{◌≡◌, ◌<◌};
+    ghost use Rattle.model.specs.Instruction as Instruction;
+
+    // A field, the number behind it, W and an address; or WIN's IK and count.
+    pub fn of(field: u8, second: u8, w: u8, address: u16) -> Self
+        requires { (field < 16) × (second < 16) × (w < 16) × (address < 8192) }
+        ensures { result ≡ Instruction.arguments field second w address }
+    {
+        Self {
+            field,
+            second,
+            w,
+            address,
+            interrupt: 0,
+            count: 0,
+        }
+    }
+
+    pub fn counted(interrupt: u8, count: u8) -> Self
+        ensures { result ≡ Instruction.counted_arguments interrupt count }
+    {
+        Self {
+            field: 0,
+            second: 0,
+            w: 0,
+            address: 0,
+            interrupt,
+            count,
+        }
+    }
 }
 
 // What a call that is not refused answers. Handed out: the program's address, and that of n+1 or of the arguments. A fault with the name of who made it.
