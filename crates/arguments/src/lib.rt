@@ -87,7 +87,8 @@ impl<'m> Words<'m> {
         }
     }
 
-    // EXI's arguments at the start, by their shape. It is no twin of the one above over where a field stands: flags, and CRP's priority and W, are cut otherwise too.
+    // EXI's arguments at the start, by their shape. Not one function with the last: not only where a field stands differs, but also how flags, and CRP's
+    // priority and W, are cut from their words.
     #[tactic(auto, unfolding(model::specs::Instruction::pointed, model::specs::Instruction::pointed_creating, model::specs::Coded::shape_number))]
     pub fn pointed(&self, shape: Shape) -> Arguments
         ensures { result ≡ Model.pointed self.now.m.now self.now.start (shape_number shape) }

@@ -19,7 +19,8 @@ use Rattle.model.specs.declared.instructions.Operation.{Operation}
 use Rattle.model.specs.declared.instructions.Operation.TheVariants.{Add, Store, And, Increment, Jump, Vep}
 use Rattle.model.specs.declared.instructions.Shape.{Shape}
 use Rattle.model.specs.declared.instructions.Shape.TheVariants.{Bare, Plain, Addressed, Counted, Flagged, Complete, Creating}
-use Rattle.model.specs.Instruction.{absent, built_in, own, sme_code, rme_code, st1_code, stp_code, crp_code, dep_code, exi_code, jump_operation, vep_operation}
+use Rattle.model.specs.Instruction.{absent, built_in, own, sme_code, rme_code, st1_code, stp_code, crp_code, dep_code, exi_code}
+use Rattle.model.specs.Instruction.{jump_operation, vep_operation}
 use Rattle.model.specs.Instruction.{bare, plain, addressed, counted, flagged, complete, creating}
 use Rattle.model.specs.Told.{Answer, Held, Verdict, Finding, Checked, Fit, Writing}
 use Rattle.model.specs.Answer.{wrong_length, idle, no_instruction, no_interrupt, wrong_class, out_of_range, wrong_list, broken_layout, too_new, no_room}
