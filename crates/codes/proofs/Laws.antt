@@ -1,22 +1,33 @@
 -- What WIN and code 13 come to behind their faults.
-use Prim.Native.Nat.{ℕ, ◌+◌, ◌/◌, ◌≤◌, ◌<◌}
-use mathlib.Core.Path.{◌≡◌, ◌∙◌}
-use mathlib.Core.List.{[], ◌∷◌}
-use lib.ListN.{get_or-eq_default}
-use borrow.Author.Tests.{lt-leb, le-leb}
+use Prim.Native.Nat.{ℕ, zero, suc, ◌+◌, ◌/◌, ◌≤◌, ◌<◌}
+use mathlib.Core.Path.{◌≡◌, refl, sym, ap, ◌∙◌}
+use mathlib.Core.Bool.{Bool, true, false, cond}
+use lib.Dec.{eqb}
+use borrow.Author.Tests.{lt-leb, le-leb, lt-ltb, eq-eqb, ne_eqb}
 use native.Mathlib.Omega.{arith}
+use Rattle.std.specs.Prelude.{Result, Ok, Err}
 use Rattle.model.specs.declared.Registers.{Registers}
-use Rattle.model.specs.Map.{place, word_values, word_a, low, semaphore_of, x_register, index_number}
-use Rattle.model.specs.Address.{wrapped}
+use Rattle.model.specs.declared.fault.Fault.{Fault}
+use Rattle.model.specs.declared.fault.Fault.TheVariants.{Protected}
+use Rattle.model.specs.declared.instructions.Operation.{Operation}
+use Rattle.model.specs.declared.instructions.Operation.TheVariants.{Add, Store, And, Increment, Jump, Vep}
+use Rattle.model.specs.Coded.{fault_number, operation_number, operation_of}
+use Rattle.model.specs.Map.{place, word_values, word_a, low, semaphore_of, x_register, index_number, indirect, index_part}
+use Rattle.model.specs.Address.{wrapped, clear}
+use Rattle.model.specs.Answer.{protected}
 use Rattle.model.specs.Instruction as Instruction
 use Rattle.model.specs.Processor as Processor
 use Rattle.model.specs.Processor.{accumulated, carried}
 use Rattle.model.specs.Operate as Operate
-use Rattle.model.specs.Bytes.{Memory, Step, at, word, running, registers_of, hand_back, address_at, lr, advance, jumps, waits, adds, stores_a, ands}
-use Rattle.model.specs.Bytes.{increments, worked, return_to, reaches, follows, indexed}
+use Rattle.model.specs.Bytes.{Memory, Step, at, word, running, registers_of, hand_back, address_at, lr, advance, jumps, waits, adds, fault}
+use Rattle.model.specs.Bytes.{return_to, reaches, follows, thirteen, indexed}
 use Rattle.codes.specs.Sum as Sum
 use Rattle.codes.specs.Sum.{summed}
+use Rattle.codes.specs.Target as Target
+use Rattle.codes.specs.Target.{followed, target}
 use Rattle.processors.proofs.Records.{Bytes, back_added}
+use Rattle.processors.proofs.Ways.{ways}
+use Rattle.answers.proofs.Laws.{done_of}
 
 -- i is k made wide
 pub win_waits : (m m₁ : Memory) (o : Step) (k c i len : ℕ) → m₁ ≡ advance m len → i ≡ k → o ≡ waits m₁ (semaphore_of i) c
@@ -42,25 +53,10 @@ add_is m m₁ a p r b ep er e₁ =
     e₁ ∙ rw er (rw (← ep) (back_added m p b (low s) (s / word_values) f g))
 
 module _ (m : Memory) where
-  pub work_at : (m₁ : Memory) (o a k : ℕ) → o ≡ k → m₁ ≡ worked m k a → m₁ ≡ worked m o a
-  work_at m₁ o a k e h = rw e h
-
-  pub work_none : (o a : ℕ) → (o ≡ 0 → ⊥) → (o ≡ 1 → ⊥) → (o ≡ 2 → ⊥) → (o ≡ 3 → ⊥) → m ≡ worked m o a
-  unfolding Operate.worked
-  work_none o a w x y z =
-      let q : 4 ≤ o = omega arith in
-      rw (get_or-eq_default (adds m a ∷ stores_a m a ∷ ands m a ∷ increments m a ∷ []) m q)
-
   module _ (r : Step) (o a len : ℕ) where
-    pub vep_jumps : (m₁ : Memory) (l n : ℕ) → l ≡ lr m → n ≡ wrapped l len → m₁ ≡ return_to m n → r ≡ jumps m₁ a → r ≡ jumps (return_to m (wrapped (lr m) len)) a
+    pub vep_jumps : (m₁ : Memory) (l n : ℕ) → l ≡ lr m → n ≡ wrapped l len → m₁ ≡ return_to m n → r ≡ jumps m₁ a
+        → r ≡ jumps (return_to m (wrapped (lr m) len)) a
     vep_jumps m₁ l n el en e₁ e = rw (← el, ← en, ← e₁) e
-
-    module _ (b : ℕ) (eb : b ≡ a) where
-      pub reach_at : r ≡ reaches m o b len → r ≡ reaches m o a len
-      reach_at e = rw (← eb) e
-
-      pub follow_at : (i : ℕ) → r ≡ follows m i o b len → r ≡ follows m i o a len
-      follow_at i e = rw (← eb) e
 
   module _ (x a : ℕ) where
     -- i is XN made wide
@@ -72,4 +68,66 @@ module _ (m : Memory) where
     unfolding Instruction.indexed
     indexed_no h = rw (lt-leb 4 x h)
 
-pub ruleset codes = (sum_is, add_is, win_waits, vep_jumps, reach_at, follow_at, indexed_yes, indexed_no)
+pub ruleset ends = (done_of, ways)
+
+pub ruleset codes = (win_waits, indexed_yes, indexed_no)
+
+pub ruleset reaching = (vep_jumps, ends)
+
+-- ---- code 13 by its target: what is done at it, or the fault that comes before
+abbrev pub ended : Memory → ℕ → Result (Operation × ℕ) Fault → Step
+ended m len (Ok t) = reaches m (operation_number t.0) t.1 len
+ended m len (Err f) = fault m (fault_number f)
+
+module _ (m : Memory) (len : ℕ) where
+  chosen : (p : Operation) (a : ℕ) (b c : Bool)
+      → cond b (reaches m (operation_number p) a len) (cond c (reaches m (operation_number p) (address_at m a) len) (fault m protected))
+      ≡ ended m len (cond b (Ok (p, a)) (cond c (Ok (p, address_at m a)) (Err Protected)))
+  unfolding fault_number
+  chosen p a true c = refl
+  chosen p a false true = refl
+  chosen p a false false = refl
+
+  followed_is : (i : ℕ) (p : Operation) (a : ℕ) → follows m i (operation_number p) a len ≡ ended m len (followed m i p a)
+  unfolding Operate.follows
+  followed_is i p a = chosen p a (eqb i 0) (clear 2 a)
+
+  module _ (x a : ℕ) where
+    pub thirteen_by : (o : ℕ) → thirteen m x o a len ≡ ended m len (target m x o a)
+    unfolding Operate.thirteen Target.target operation_of operation_number fault_number
+    thirteen_by zero = followed_is (indirect x) Add (indexed m (index_part x) a)
+    thirteen_by (suc zero) = followed_is (indirect x) Store (indexed m (index_part x) a)
+    thirteen_by (suc (suc zero)) = followed_is (indirect x) And (indexed m (index_part x) a)
+    thirteen_by (suc (suc (suc zero))) = followed_is (indirect x) Increment (indexed m (index_part x) a)
+    thirteen_by (suc (suc (suc (suc zero)))) = followed_is (indirect x) Jump (indexed m (index_part x) a)
+    thirteen_by (suc (suc (suc (suc (suc zero))))) = followed_is (indirect x) Vep (indexed m (index_part x) a)
+    thirteen_by (suc (suc (suc (suc (suc (suc o)))))) =
+        let h : 5 < suc (suc (suc (suc (suc (suc o))))) = omega arith in
+        rw (lt-ltb 5 (suc (suc (suc (suc (suc (suc o)))))) h)
+
+    pub thirteen_done : (o b : ℕ) (p : Operation) (r : Step) → Ok (p, b) ≡ target m x o a → r ≡ reaches m (operation_number p) b len → r ≡ thirteen m x o a len
+    thirteen_done o b p r e h = h ∙ ap (ended m len) e ∙ sym (thirteen_by o)
+
+    pub thirteen_fault : (o : ℕ) (f : Fault) (r : Step) → Err f ≡ target m x o a → r ≡ fault m (fault_number f) → r ≡ thirteen m x o a len
+    thirteen_fault o f r e h = h ∙ ap (ended m len) e ∙ sym (thirteen_by o)
+
+module _ (m : Memory) (x o a : ℕ) (r : Result Operation Fault) (er : r ≡ operation_of o) where
+  pub target_none : (f : Fault) → r ≡ Err f → Err f ≡ target m x o a
+  unfolding Target.target
+  target_none f e = rw (← er, e)
+
+  module _ (p : Operation) (b : ℕ) (e : r ≡ Ok p) (eb : b ≡ indexed m (index_part x) a) where
+    pub target_direct : x < 8 → Ok (p, b) ≡ target m x o a
+    unfolding Target.target
+    target_direct h = let z : x / 8 ≡ 0 = omega arith in rw (← er, e, ← eb, eq-eqb (x / 8) 0 z)
+
+    module _ (t : Bool) (et : t ≡ clear 2 b) (h : 8 ≤ x) where
+      pub target_clear : (d : ℕ) → t ≡ true → d ≡ address_at m b → Ok (p, d) ≡ target m x o a
+      unfolding Target.target
+      target_clear d z ed = rw (← er, e, ← eb, ne_eqb (x / 8) 0 (λ w. omega arith), ← et, z, ed)
+
+      pub target_guarded : t ≡ false → Err Protected ≡ target m x o a
+      unfolding Target.target
+      target_guarded z = rw (← er, e, ← eb, ne_eqb (x / 8) 0 (λ w. omega arith), ← et, z)
+
+pub ruleset targets = (thirteen_done, thirteen_fault, target_none, target_direct, target_clear, target_guarded)

@@ -1,24 +1,31 @@
 // Instructions: CVI, DVI, GIN, WIN and code 13; page 8. The length is what LR grows by.
 #![tactic(auto)]
 
-ghost use Rattle.std.specs.Prelude.{◌≡◌, ◌<◌};
-ghost use Rattle.std.proofs.Math.ListN as List;
+ghost use Rattle.std.specs.Prelude.{◌≡◌, ◌<◌, eqb, IfOk};
 ghost use Rattle.model.specs.Answer.Outcome.{gives};
-ghost use Rattle.model.specs.Coded.{answered};
+ghost use Rattle.model.specs.Coded.{answered, kind_number, kind_of, operation_number};
 ghost use Rattle.model.specs.Bytes as Model;
 ghost use Rattle.codes.specs.Sum.{summed};
+ghost use Rattle.codes.specs.Target as Target;
 
 use answers::{done, fault, jump, wait};
 use interrupts::serve;
-use model::{Answer, ControlPage, Fault, Memory, Registers, instructions, map, wide};
+use model::instructions::{self, Kind, NoKind, Operation};
+use model::{Answer, ControlPage, Fault, Memory, Registers, map, wide};
 use processors::{accumulate, advance, lr, name, running};
 use words::{address_at, at, clear, guarded, high, low, raised, wrapped, write};
 
-// The kind of a code, and its program's address.
-pub fn kind(m: &Memory, code: u8) -> u8
-    ensures { result ≡ Model.kind m.now code }
+// The kind of a code, whether it is of that one, and its program's address.
+pub fn kind(m: &Memory, code: u8) -> Result<Kind, NoKind>
+    ensures { result ≡ kind_of (Model.kind m.now code) }
 {
-    at(m, map::CODE_WORDS + 2 * wide(code)) / map::HIGHS
+    Kind::try_from(at(m, map::CODE_WORDS + 2 * wide(code)) / map::HIGHS)
+}
+
+pub fn is_of_kind(m: &Memory, code: u8, wanted: Kind) -> bool
+    ensures { result ≡ eqb (Model.kind m.now code) (kind_number wanted) }
+{
+    kind(m, code) == Ok(wanted)
 }
 
 pub fn program(m: &Memory, code: u8) -> u16
@@ -28,30 +35,31 @@ pub fn program(m: &Memory, code: u8) -> u16
 }
 
 // The code becomes of that kind, at the address.
-fn set_code(m: &mut Memory, code: u8, kind: u8, address: u16)
-    requires { kind < 8 }
-    ensures { m.new ≡ Model.set_code m.old code kind address }
+#[tactic(auto, unfolding(model::specs::Instruction::set_code))]
+fn set_code(m: &mut Memory, code: u8, kind: Kind, address: u16)
+    ensures { m.new ≡ Model.set_code m.old code (kind_number kind) address }
 {
     write(
         m,
         map::CODE_WORDS + 2 * wide(code),
-        kind * map::HIGHS + high(address),
+        u8::from(kind) * map::HIGHS + high(address),
     );
     write(m, map::CODE_LOWS + 2 * wide(code), low(address));
 }
 
+#[tactic(auto, using(crate::proofs::Laws::ends), unfolding(model::specs::Coded::fault_number, model::specs::Operate::cvi, model::specs::Coded::kind_number))]
 pub fn cvi(m: &mut Memory, code: u8, address: u16, length: u16) -> Answer
     requires { length < 8192 }
     ensures { gives (answered result) m.new ≡ Model.cvi m.old code address length }
 {
-    let k = kind(m, code);
-    if k == instructions::ABSENT {
-        set_code(m, code, instructions::OWN, address);
+    if is_of_kind(m, code, Kind::Absent) {
+        set_code(m, code, Kind::Own, address);
         return done(m, length);
     }
     fault(m, Fault::CodeExists)
 }
 
+#[tactic(auto, using(crate::proofs::Laws::ends), unfolding(model::specs::Coded::fault_number, model::specs::Operate::dvi, model::specs::Coded::kind_number))]
 pub fn dvi(m: &mut Memory, code: u8, length: u16) -> Answer
     requires { length < 8192 }
     ensures { gives (answered result) m.new ≡ Model.dvi m.old code length }
@@ -59,11 +67,10 @@ pub fn dvi(m: &mut Memory, code: u8, length: u16) -> Answer
     if code < instructions::FIRST_GOING {
         return fault(m, Fault::KeptCode);
     }
-    let k = kind(m, code);
-    if k == instructions::ABSENT {
+    if is_of_kind(m, code, Kind::Absent) {
         return fault(m, Fault::AbsentCode);
     }
-    set_code(m, code, instructions::ABSENT, 0);
+    set_code(m, code, Kind::Absent, 0);
     done(m, length)
 }
 
@@ -78,17 +85,12 @@ pub fn gin(m: &mut Memory, length: u16) -> Answer
     done(m, length)
 }
 
+#[tactic(auto, using(crate::proofs::Laws::codes, processors::proofs::Ways::ways), unfolding(model::specs::Coded::fault_number, model::specs::Operate::win))]
 pub fn win(m: &mut Memory, interrupt: u8, count: u8, length: u16) -> Answer
     requires { length < 8192 }
     ensures { gives (answered result) m.new ≡ Model.win m.old interrupt count length }
 {
-    if interrupt == instructions::ABSENT {
-        return fault(m, Fault::BadWait);
-    }
-    if map::INTERRUPTS < interrupt {
-        return fault(m, Fault::BadWait);
-    }
-    if count == 0 {
+    if interrupt == 0 || map::INTERRUPTS < interrupt || count == 0 {
         return fault(m, Fault::BadWait);
     }
     advance(m, length);
@@ -96,6 +98,7 @@ pub fn win(m: &mut Memory, interrupt: u8, count: u8, length: u16) -> Answer
 }
 
 // The registers of the page with the sum of A and the word at the address.
+#[tactic(auto, using(crate::proofs::Laws::sum_is))]
 fn sum(m: &Memory, page: ControlPage, address: u16) -> Registers
     requires { address < 8192 }
     ensures { result ≡ summed m.now page.0 address }
@@ -107,6 +110,7 @@ fn sum(m: &Memory, page: ControlPage, address: u16) -> Registers
 }
 
 // Code 13's work on the word at the address: 0 adds, 1 stores, 2 ands, 3 increments.
+#[tactic(auto, using(crate::proofs::Laws::add_is))]
 fn add(m: &mut Memory, address: u16)
     requires { address < 8192 }
     ensures { m.new ≡ Model.adds m.old address }
@@ -116,6 +120,7 @@ fn add(m: &mut Memory, address: u16)
     r.hand_back(m, p);
 }
 
+#[tactic(auto, unfolding(model::specs::Operate::stores_a))]
 fn store_a(m: &mut Memory, address: u16)
     requires { address < 8192 }
     ensures { m.new ≡ Model.stores_a m.old address }
@@ -126,6 +131,7 @@ fn store_a(m: &mut Memory, address: u16)
     accumulate(m, p, 0);
 }
 
+#[tactic(auto, unfolding(model::specs::Operate::ands))]
 fn and(m: &mut Memory, address: u16)
     requires { address < 8192 }
     ensures { m.new ≡ Model.ands m.old address }
@@ -136,6 +142,7 @@ fn and(m: &mut Memory, address: u16)
     accumulate(m, p, v & w);
 }
 
+#[tactic(auto, unfolding(model::specs::Operate::increments))]
 fn increment(m: &mut Memory, address: u16)
     requires { address < 8192 }
     ensures { m.new ≡ Model.increments m.old address }
@@ -144,20 +151,22 @@ fn increment(m: &mut Memory, address: u16)
     write(m, address, raised(w));
 }
 
-fn work(m: &mut Memory, operation: u8, address: u16)
+#[tactic(auto, unfolding(model::specs::Operate::worked, model::specs::Coded::operation_number))]
+fn work(m: &mut Memory, operation: Operation, address: u16)
     requires { address < 8192 }
-    ensures { m.new ≡ Model.worked m.old operation address }
+    ensures { m.new ≡ Model.worked m.old (operation_number operation) address }
 {
     match operation {
-        instructions::ADD => add(m, address),
-        instructions::STORE => store_a(m, address),
-        instructions::AND => and(m, address),
-        instructions::INCREMENT => increment(m, address),
-        _ => (),
+        Operation::Add => add(m, address),
+        Operation::Store => store_a(m, address),
+        Operation::And => and(m, address),
+        Operation::Increment => increment(m, address),
+        Operation::Jump | Operation::Vep => (),
     }
 }
 
 // VEP's return words.
+#[tactic(auto, unfolding(model::specs::Operate::return_to))]
 fn return_to(m: &mut Memory, address: u16)
     ensures { m.new ≡ Model.return_to m.old address }
 {
@@ -166,41 +175,30 @@ fn return_to(m: &mut Memory, address: u16)
 }
 
 // CODE1 at its address.
-fn reach(m: &mut Memory, operation: u8, address: u16, length: u16) -> Answer
+#[tactic(auto, using(crate::proofs::Laws::reaching), unfolding(model::specs::Coded::fault_number, model::specs::Operate::reaches, model::specs::Coded::operation_number))]
+fn reach(m: &mut Memory, operation: Operation, address: u16, length: u16) -> Answer
     requires { (address < 8192) × (length < 8192) }
-    ensures { gives (answered result) m.new ≡ Model.reaches m.old operation address length }
+    ensures { gives (answered result) m.new ≡ Model.reaches m.old (operation_number operation) address length }
 {
-    if operation == instructions::VEP {
-        let n = wrapped(lr(m), length);
-        return_to(m, n);
-        return jump(m, address);
+    match operation {
+        Operation::Vep => {
+            let n = wrapped(lr(m), length);
+            return_to(m, n);
+            jump(m, address)
+        }
+        Operation::Jump => jump(m, address),
+        Operation::Add | Operation::Store | Operation::And | Operation::Increment => {
+            if guarded(address) {
+                return fault(m, Fault::Protected);
+            }
+            work(m, operation, address);
+            done(m, length)
+        }
     }
-    if operation == instructions::JUMP {
-        return jump(m, address);
-    }
-    if guarded(address) {
-        return fault(m, Fault::Protected);
-    }
-    work(m, operation, address);
-    done(m, length)
-}
-
-// Indirection, if the bit is set.
-fn follow(m: &mut Memory, indirect: u8, operation: u8, address: u16, length: u16) -> Answer
-    requires { (address < 8192) × (length < 8192) }
-    ensures { gives (answered result) m.new ≡ Model.follows m.old indirect operation address length }
-{
-    if indirect == 0 {
-        return reach(m, operation, address, length);
-    }
-    if clear(2, address) {
-        let b = address_at(m, address);
-        return reach(m, operation, b, length);
-    }
-    fault(m, Fault::Protected)
 }
 
 // The address, indexed where X and XN say so.
+#[tactic(auto, using(crate::proofs::Laws::codes))]
 pub fn indexed(m: &Memory, index: u8, address: u16) -> u16
     requires { address < 8192 }
     ensures { (result ≡ Model.indexed m.now index address) × (result < 8192) }
@@ -212,13 +210,30 @@ pub fn indexed(m: &Memory, index: u8, address: u16) -> u16
     address
 }
 
+// CODE1 and the address that it is done at, indexed and, if the bit is set, indirect; or the fault that comes before.
+#[tactic(auto, using(crate::proofs::Laws::targets))]
+fn target(m: &Memory, field: u8, operation: u8, address: u16) -> Result<(Operation, u16), Fault>
+    requires { address < 8192 }
+    ensures { (result ≡ Target.target m.now field operation address) × IfOk result (λ t. t.1 < 8192) }
+{
+    let operation = Operation::try_from(operation)?;
+    let place = indexed(m, field % map::INDIRECT_BIT, address);
+    if field < map::INDIRECT_BIT {
+        return Ok((operation, place));
+    }
+    if clear(2, place) {
+        return Ok((operation, address_at(m, place)));
+    }
+    Err(Fault::Protected)
+}
+
+#[tactic(auto, using(crate::proofs::Laws::targets))]
 pub fn thirteen(m: &mut Memory, field: u8, operation: u8, address: u16, length: u16) -> Answer
     requires { (address < 8192) × (length < 8192) }
     ensures { gives (answered result) m.new ≡ Model.thirteen m.old field operation address length }
 {
-    if instructions::VEP < operation {
-        return fault(m, Fault::BadArgument);
+    match target(m, field, operation, address) {
+        Ok((operation, place)) => reach(m, operation, place, length),
+        Err(found) => fault(m, found),
     }
-    let b = indexed(m, field % map::INDIRECT_BIT, address);
-    follow(m, field / map::INDIRECT_BIT, operation, b, length)
 }
