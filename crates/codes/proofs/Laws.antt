@@ -52,6 +52,10 @@ add_is m m₁ a p r b ep er e₁ =
     let g : s / word_values < 2 = omega arith in
     e₁ ∙ rw er (rw (← ep) (back_added m p b (low s) (s / word_values) f g))
 
+pub guarded_reached : (m : Memory) (r : Step) → r ≡ fault m (fault_number Protected) → r ≡ fault m protected
+unfolding fault_number
+guarded_reached m r e = e
+
 module _ (m : Memory) where
   module _ (r : Step) (o a len : ℕ) where
     pub vep_jumps : (m₁ : Memory) (l n : ℕ) → l ≡ lr m → n ≡ wrapped l len → m₁ ≡ return_to m n → r ≡ jumps m₁ a
@@ -72,7 +76,7 @@ pub ruleset ends = (done_of, ways)
 
 pub ruleset codes = (win_waits, indexed_yes, indexed_no)
 
-pub ruleset reaching = (vep_jumps, ends)
+pub ruleset reaching = (guarded_reached, vep_jumps, ends)
 
 -- ---- code 13 by its target: what is done at it, or the fault that comes before
 abbrev pub ended : Memory → ℕ → Result (Operation × ℕ) Fault → Step

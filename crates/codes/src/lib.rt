@@ -175,7 +175,7 @@ fn return_to(m: &mut Memory, address: u16)
 }
 
 // CODE1 at its address.
-#[tactic(auto, using(crate::proofs::Laws::reaching), unfolding(model::specs::Coded::fault_number, model::specs::Operate::reaches, model::specs::Coded::operation_number))]
+#[tactic(auto, using(crate::proofs::Laws::reaching), unfolding(model::specs::Operate::reaches, model::specs::Coded::operation_number))]
 fn reach(m: &mut Memory, operation: Operation, address: u16, length: u16) -> Answer
     requires { (address < 8192) × (length < 8192) }
     ensures { gives (answered result) m.new ≡ Model.reaches m.old (operation_number operation) address length }
