@@ -2,95 +2,100 @@
 #![tactic(auto)]
 
 ghost use Rattle.std.specs.Prelude.{◌≡◌, ◌<◌, ◌≤◌};
-ghost use Rattle.std.proofs.Math.ListN as List;
 ghost use Rattle.model.specs.Answer.Outcome.{gives};
-ghost use Rattle.model.specs.Coded.{answered};
+ghost use Rattle.model.specs.Coded.{answered, code_number, told};
 ghost use Rattle.model.specs.Instruction as Instruction;
 ghost use Rattle.model.specs.Bytes as Model;
+ghost use Rattle.execute.specs.Given as Given;
 
 use answers::fault;
-use arguments::{count_for, direct, length_for, pointed, shape_for, within};
-use codes::{cvi, dvi, gin, indexed, kind, program, thirteen, win};
+use arguments::Words;
+use codes::{cvi, dvi, gin, indexed, is_of_kind, program, thirteen, win};
 use creating::{crp, named, st2};
-use model::{Answer, Arguments, Fault, Memory, Name, instructions, map, refusals, wide};
+use model::instructions::{self, Code, Kind};
+use model::{Answer, Arguments, Fault, Memory, Name, Refusal, map, wide};
 use sending::{rme, sme, tme, wnm};
 use words::{at, clear, guarded, wrapped};
 
 // A code that is not built in: an own one is handed out, with its program's address and this one; else it is absent.
+#[tactic(auto, using(crate::proofs::Laws::foreign_codes), unfolding(model::specs::Coded::answered))]
 fn foreign(m: &mut Memory, code: u8, address: u16) -> Answer
     ensures { gives (answered result) m.new ≡ Model.foreign m.old code address }
 {
-    let k = kind(m, code);
-    if k == instructions::OWN {
-        let p = program(m, code);
-        return Answer::HandedOut(p, address);
+    if is_of_kind(m, code, Kind::Own) {
+        return Answer::HandedOut(program(m, code), address);
     }
     fault(m, Fault::AbsentCode)
 }
 
 // Whether EXI meets a code that is not built in; an EXI of EXI is left to the depth.
+#[tactic(auto, using(crate::proofs::Laws::foreign_codes))]
 fn is_foreign(m: &Memory, code: u8) -> bool
     ensures { result ≡ Model.is_foreign m.now code }
 {
-    if code == instructions::EXI {
-        return false;
-    }
-    let k = kind(m, code);
-    if k == instructions::BUILT_IN {
-        return false;
-    }
-    true
+    code != instructions::EXI && !is_of_kind(m, code, Kind::BuiltIn)
 }
 
-// The fault in EXI's argument words; 0: none.
-fn argument_fault(m: &Memory, code: u8, start: u16) -> u8
-    requires { start < 8192 }
-    ensures { (result ≡ Model.argument_fault m.now code start) × (result < 16) }
+// The instruction with that code at the address, and what it is given; or the fault that comes before.
+#[tactic(auto, using(crate::proofs::Laws::given))]
+fn direct(m: &Memory, address: u16, code: u8) -> Result<(Code, Arguments), Fault>
+    requires { address < 8192 }
+    ensures { result ≡ Given.direct m.now address code }
 {
-    if code == instructions::EXI {
-        return faults::NONE;
+    let code = Code::try_from(code)?;
+    let row = code.row();
+    if clear(row.length - 2, wrapped(address, 2)) {
+        return Ok((code, Words::new(m, address).direct(row.shape)));
     }
-    let count = count_for(code);
-    if clear(count, start) {
-        let shape = shape_for(code);
-        if within(m, start, shape, count) {
-            return faults::NONE;
-        }
-        return Fault::BadArgument;
+    Err(Fault::Protected)
+}
+
+// The same of the instruction that EXI points at, with its arguments at the start. An EXI of EXI has none: the depth answers it.
+#[tactic(auto, using(crate::proofs::Laws::given))]
+fn pointed(m: &Memory, code: u8, start: u16) -> Result<(Code, Arguments), Fault>
+    requires { start < 8192 }
+    ensures { result ≡ Given.pointed m.now code start }
+{
+    let code = Code::try_from(code)?;
+    let row = code.row();
+    if !clear(row.count, start) {
+        return Err(Fault::Protected);
     }
-    Fault::Protected
+    let words = Words::new(m, start);
+    if words.within(row.shape, row.count) {
+        return Ok((code, words.pointed(row.shape)));
+    }
+    Err(Fault::BadArgument)
 }
 
 // What EXI advances by, whatever it runs.
+#[tactic(auto, unfolding(model::specs::Coded::code_number))]
 fn exi_length() -> u16
     ensures { (result ≡ Instruction.length_for Instruction.exi_code) × (result ≤ 5) }
 {
-    wide(length_for(instructions::EXI))
+    wide(Code::Exi.row().length)
 }
 
 // The instruction with the code and what it is given; depth more EXIs are allowed.
 #[cycle(execute_exi_step)]
-pub fn execute(m: &mut Memory, code: u8, given: Arguments, length: u16, depth: u8) -> Answer
-    requires { (given.field < 16) × (given.second < 16) × (given.w < 16) × (given.address < 8192) × (length < 8192) }
-    ensures { gives (answered result) m.new ≡ Model.execute depth m.old code given length }
+#[tactic(auto, unfolding(model::specs::Execute::run, model::specs::Coded::code_number))]
+pub fn execute(m: &mut Memory, code: Code, given: Arguments, length: u16, depth: u8) -> Answer
+    requires { length < 8192 }
+    ensures { gives (answered result) m.new ≡ Model.execute depth m.old (code_number code) given length }
 {
     match code {
-        instructions::CVI => cvi(m, given.field, given.address, length),
-        instructions::DVI => dvi(m, given.field, length),
-        instructions::GIN => gin(m, length),
-        instructions::WIN => win(m, given.interrupt, given.count, length),
-        instructions::SME => sme(m, Name(given.field), given.second, given.address, length),
-        instructions::WNM => wnm(m, Name(given.field), given.second, length),
-        instructions::RME => rme(m, Name(given.field), given.second, given.address, length),
-        instructions::TME => tme(m, Name(given.field), given.second, given.address, length),
-        instructions::ST1 | instructions::STP | instructions::DEP => named(
-            m,
-            code,
-            Name(given.field),
-            length,
-        ),
-        instructions::ST2 => st2(m, Name(given.field), given.address, length),
-        instructions::CRP => crp(
+        Code::Cvi => cvi(m, given.field, given.address, length),
+        Code::Dvi => dvi(m, given.field, length),
+        Code::Gin => gin(m, length),
+        Code::Win => win(m, given.interrupt, given.count, length),
+        Code::Sme => sme(m, Name(given.field), given.second, given.address, length),
+        Code::Wnm => wnm(m, Name(given.field), given.second, length),
+        Code::Rme => rme(m, Name(given.field), given.second, given.address, length),
+        Code::Tme => tme(m, Name(given.field), given.second, given.address, length),
+        Code::St1 => named(m, instructions::ST1, Name(given.field), length),
+        Code::Stp => named(m, instructions::STP, Name(given.field), length),
+        Code::St2 => st2(m, Name(given.field), given.address, length),
+        Code::Crp => crp(
             m,
             Name(given.field),
             given.second,
@@ -98,85 +103,78 @@ pub fn execute(m: &mut Memory, code: u8, given: Arguments, length: u16, depth: u
             given.address,
             length,
         ),
-        instructions::THIRTEEN => thirteen(m, given.field, given.second, given.address, length),
-        instructions::EXI => exi_step(m, given, depth),
-        _ => fault(m, Fault::AbsentCode),
+        Code::Dep => named(m, instructions::DEP, Name(given.field), length),
+        Code::Thirteen => thirteen(m, given.field, given.second, given.address, length),
+        Code::Exi => exi_step(m, given, depth),
     }
 }
 
 // EXI: it runs another instruction by the same rules, and advances by 4.
 #[cycle(execute_exi_step)]
+#[tactic(auto, using(crate::proofs::Laws::exis))]
 fn exi_step(m: &mut Memory, given: Arguments, depth: u8) -> Answer
-    requires { (given.field < 16) × (given.second < 16) × (given.w < 16) × (given.address < 8192) }
     ensures { gives (answered result) m.new ≡ Model.exi depth m.old given }
 {
     if depth == 0 {
         return fault(m, Fault::ExiOfExi);
     }
-    let code = given.field;
     let start = indexed(m, given.second, given.address);
-    if is_foreign(m, code) {
-        return foreign(m, code, start);
+    if is_foreign(m, given.field) {
+        return foreign(m, given.field, start);
     }
-    let f = argument_fault(m, code, start);
-    if f == faults::NONE {
-        let shape = shape_for(code);
-        let y = pointed(m, start, shape);
-        return execute(m, code, y, exi_length(), depth - 1);
+    match pointed(m, given.field, start) {
+        Ok((code, pointed)) => execute(m, code, pointed, exi_length(), depth - 1),
+        Err(found) => fault(m, found),
     }
-    fault(m, f)
 }
 
 // The instruction at the address with that code, which is built in.
+#[tactic(auto, using(crate::proofs::Laws::executing))]
 fn taken(m: &mut Memory, address: u16, code: u8) -> Answer
     requires { address < 8192 }
     ensures { gives (answered result) m.new ≡ Model.taken m.old address code }
 {
-    let length = length_for(code);
-    let b = wrapped(address, 2);
-    if clear(length - 2, b) {
-        let shape = shape_for(code);
-        let x = direct(m, address, shape);
-        return execute(m, code, x, wide(length), 1);
+    match direct(m, address, code) {
+        Ok((code, given)) => execute(m, code, given, wide(code.row().length), 1),
+        Err(found) => fault(m, found),
     }
-    fault(m, Fault::Protected)
 }
 
+#[tactic(auto, using(crate::proofs::Laws::executing))]
 fn decoded(m: &mut Memory, address: u16, code: u8) -> Answer
     requires { address < 8192 }
     ensures { gives (answered result) m.new ≡ Model.decoded m.old address code }
 {
-    let k = kind(m, code);
-    if k == instructions::BUILT_IN {
+    if is_of_kind(m, code, Kind::BuiltIn) {
         return taken(m, address, code);
     }
-    let a = wrapped(address, 1);
-    foreign(m, code, a)
+    foreign(m, code, wrapped(address, 1))
 }
 
+#[tactic(auto, using(crate::proofs::Laws::executing))]
 fn coded(m: &mut Memory, address: u16) -> Answer
     requires { address < 8192 }
     ensures { gives (answered result) m.new ≡ Model.coded m.old address }
 {
-    let a = wrapped(address, 1);
-    if guarded(a) {
+    let behind = wrapped(address, 1);
+    if guarded(behind) {
         return fault(m, Fault::Protected);
     }
-    let w = at(m, a);
-    decoded(m, address, w / map::FIELD)
+    let word = at(m, behind);
+    decoded(m, address, word / map::FIELD)
 }
 
 // The instruction at the address.
-pub fn fetched(m: &mut Memory, address: u16) -> Answer
+#[tactic(auto, using(crate::proofs::Laws::fetching), unfolding(model::specs::Coded::told, model::specs::Coded::refusal))]
+pub fn fetched(m: &mut Memory, address: u16) -> Result<Answer, Refusal>
     requires { address < 8192 }
-    ensures { gives (answered result) m.new ≡ Model.fetched m.old address }
+    ensures { gives (told result) m.new ≡ Model.fetched m.old address }
 {
     if guarded(address) {
-        return fault(m, Fault::Protected);
+        return Ok(fault(m, Fault::Protected));
     }
-    let w = at(m, address);
-    if w == instructions::FIRST_WORD {
-        return coded(m, address);
+    if at(m, address) == instructions::FIRST_WORD {
+        return Ok(coded(m, address));
     }
-    Answer::Refused(refusals::NO_INSTRUCTION)
+    Err(Refusal::NoInstruction)
 }

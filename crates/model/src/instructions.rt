@@ -36,6 +36,8 @@ pub const STP: u8 = Code::Stp as u8;
 
 pub const DEP: u8 = Code::Dep as u8;
 
+pub const EXI: u8 = Code::Exi as u8;
+
 // "4 deleting code 0 or 1": the first that may go.
 pub const FIRST_GOING: u8 = 2;
 
