@@ -79,9 +79,9 @@ pub fn gin(m: &mut Memory, length: u16) -> Answer
     requires { length < 8192 }
     ensures { gives (answered result) m.new ≡ Model.gin m.old length }
 {
-    let p = running(m);
-    let n = name(m, p);
-    serve(m, n.0, 0);
+    let runner = running(m);
+    let interrupt = name(m, runner).0;
+    serve(m, interrupt, 0);
     done(m, length)
 }
 
@@ -90,7 +90,7 @@ pub fn win(m: &mut Memory, interrupt: u8, count: u8, length: u16) -> Answer
     requires { length < 8192 }
     ensures { gives (answered result) m.new ≡ Model.win m.old interrupt count length }
 {
-    if interrupt == 0 || map::INTERRUPTS < interrupt || count == 0 {
+    if !(1..=map::INTERRUPTS).contains(&interrupt) || count == 0 {
         return fault(m, Fault::BadWait);
     }
     advance(m, length);
@@ -103,10 +103,11 @@ fn sum(m: &Memory, page: ControlPage, address: u16) -> Registers
     requires { address < 8192 }
     ensures { result ≡ summed m.now page.0 address }
 {
-    let r = Registers::of(m, page);
-    let s = r.a + wide(at(m, address));
-    let n = r.set_accumulator(s % map::WORD_VALUES);
-    n.set_carry(s / map::WORD_VALUES)
+    let registers = Registers::of(m, page);
+    let sum = registers.a + wide(at(m, address));
+    registers
+        .set_accumulator(sum % map::WORD_VALUES)
+        .set_carry(sum / map::WORD_VALUES)
 }
 
 // Code 13's work on the word at the address: 0 adds, 1 stores, 2 ands, 3 increments.
@@ -115,9 +116,8 @@ fn add(m: &mut Memory, address: u16)
     requires { address < 8192 }
     ensures { m.new ≡ Model.adds m.old address }
 {
-    let p = running(m);
-    let r = sum(m, p, address);
-    r.hand_back(m, p);
+    let runner = running(m);
+    sum(m, runner, address).hand_back(m, runner);
 }
 
 #[tactic(auto, unfolding(model::specs::Operate::stores_a))]
@@ -125,10 +125,10 @@ fn store_a(m: &mut Memory, address: u16)
     requires { address < 8192 }
     ensures { m.new ≡ Model.stores_a m.old address }
 {
-    let p = running(m);
-    let v = p.word(m, map::WORD_A);
-    write(m, address, v);
-    accumulate(m, p, 0);
+    let runner = running(m);
+    let accumulator = runner.word(m, map::WORD_A);
+    write(m, address, accumulator);
+    accumulate(m, runner, 0);
 }
 
 #[tactic(auto, unfolding(model::specs::Operate::ands))]
@@ -136,10 +136,10 @@ fn and(m: &mut Memory, address: u16)
     requires { address < 8192 }
     ensures { m.new ≡ Model.ands m.old address }
 {
-    let p = running(m);
-    let v = p.word(m, map::WORD_A);
-    let w = at(m, address);
-    accumulate(m, p, v & w);
+    let runner = running(m);
+    let accumulator = runner.word(m, map::WORD_A);
+    let word = at(m, address);
+    accumulate(m, runner, accumulator & word);
 }
 
 #[tactic(auto, unfolding(model::specs::Operate::increments))]
@@ -147,8 +147,8 @@ fn increment(m: &mut Memory, address: u16)
     requires { address < 8192 }
     ensures { m.new ≡ Model.increments m.old address }
 {
-    let w = at(m, address);
-    write(m, address, raised(w));
+    let word = at(m, address);
+    write(m, address, raised(word));
 }
 
 #[tactic(auto, unfolding(model::specs::Operate::worked, model::specs::Coded::operation_number))]
@@ -182,8 +182,8 @@ fn reach(m: &mut Memory, operation: Operation, address: u16, length: u16) -> Ans
 {
     match operation {
         Operation::Vep => {
-            let n = wrapped(lr(m), length);
-            return_to(m, n);
+            let behind = wrapped(lr(m), length);
+            return_to(m, behind);
             jump(m, address)
         }
         Operation::Jump => jump(m, address),
@@ -204,8 +204,8 @@ pub fn indexed(m: &Memory, index: u8, address: u16) -> u16
     ensures { (result ≡ Model.indexed m.now index address) × (result < 8192) }
 {
     if map::INDEX_BIT <= index {
-        let b = address_at(m, map::X_REGISTERS + 2 * wide(index % map::INDEX_BIT));
-        return wrapped(address, b);
+        let register = address_at(m, map::X_REGISTERS + 2 * wide(index % map::INDEX_BIT));
+        return wrapped(address, register);
     }
     address
 }

@@ -12,7 +12,7 @@ use answers::fault;
 use arguments::Words;
 use codes::{cvi, dvi, gin, indexed, is_of_kind, program, thirteen, win};
 use creating::{crp, named, st2};
-use model::instructions::{self, Code, Kind};
+use model::instructions::{Code, FIRST_WORD, Kind};
 use model::{Answer, Arguments, Fault, Memory, Name, Refusal, map, wide};
 use sending::{rme, sme, tme, wnm};
 use words::{at, clear, guarded, wrapped};
@@ -33,7 +33,7 @@ fn foreign(m: &mut Memory, code: u8, address: u16) -> Answer
 fn is_foreign(m: &Memory, code: u8) -> bool
     ensures { result ≡ Model.is_foreign m.now code }
 {
-    code != instructions::EXI && !is_of_kind(m, code, Kind::BuiltIn)
+    code != Code::Exi as u8 && !is_of_kind(m, code, Kind::BuiltIn)
 }
 
 // The instruction with that code at the address, and what it is given; or the fault that comes before.
@@ -92,8 +92,8 @@ pub fn execute(m: &mut Memory, code: Code, given: Arguments, length: u16, depth:
         Code::Wnm => wnm(m, Name(given.field), given.second, length),
         Code::Rme => rme(m, Name(given.field), given.second, given.address, length),
         Code::Tme => tme(m, Name(given.field), given.second, given.address, length),
-        Code::St1 => named(m, instructions::ST1, Name(given.field), length),
-        Code::Stp => named(m, instructions::STP, Name(given.field), length),
+        Code::St1 => named(m, Code::St1 as u8, Name(given.field), length),
+        Code::Stp => named(m, Code::Stp as u8, Name(given.field), length),
         Code::St2 => st2(m, Name(given.field), given.address, length),
         Code::Crp => crp(
             m,
@@ -103,7 +103,7 @@ pub fn execute(m: &mut Memory, code: Code, given: Arguments, length: u16, depth:
             given.address,
             length,
         ),
-        Code::Dep => named(m, instructions::DEP, Name(given.field), length),
+        Code::Dep => named(m, Code::Dep as u8, Name(given.field), length),
         Code::Thirteen => thirteen(m, given.field, given.second, given.address, length),
         Code::Exi => exi_step(m, given, depth),
     }
@@ -173,7 +173,7 @@ pub fn fetched(m: &mut Memory, address: u16) -> Result<Answer, Refusal>
     if guarded(address) {
         return Ok(fault(m, Fault::Protected));
     }
-    if at(m, address) == instructions::FIRST_WORD {
+    if at(m, address) == FIRST_WORD {
         return Ok(coded(m, address));
     }
     Err(Refusal::NoInstruction)

@@ -29,14 +29,10 @@ pub enum Code {
     Exi = 14,
 }
 
-// The numbers of those that are told apart by number.
+// ST1 and STP by their numbers.
 pub const ST1: u8 = Code::St1 as u8;
 
 pub const STP: u8 = Code::Stp as u8;
-
-pub const DEP: u8 = Code::Dep as u8;
-
-pub const EXI: u8 = Code::Exi as u8;
 
 // "4 deleting code 0 or 1": the first that may go.
 pub const FIRST_GOING: u8 = 2;
@@ -53,7 +49,7 @@ pub enum Kind {
 #[derive(Clone, Copy, PartialEq, Eq)]
 pub struct NoKind(pub u8);
 
-// The same as numbers, and the word of a code that is built in.
+// The last two by their numbers, and the word of a code that is built in.
 pub const BUILT_IN: u8 = Kind::BuiltIn as u8;
 
 pub const OWN: u8 = Kind::Own as u8;

@@ -141,8 +141,6 @@ pub const ALL_CODES: u8 = 16;
 
 pub const BUILT_IN_CODES: u8 = 15;
 
-pub const TABLE_ROWS: usize = 15;
-
 // "Page 9: word 0 is the first unused word, 1-32"; entry i + 1, for counting from 0.
 pub const FIRST_UNUSED: u16 = 9 * 32;
 
