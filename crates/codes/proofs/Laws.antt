@@ -29,10 +29,9 @@ use Rattle.processors.proofs.Records.{Bytes, back_added}
 use Rattle.processors.proofs.Ways.{ways}
 use Rattle.answers.proofs.Laws.{done_of}
 
--- i is k made wide
-pub win_waits : (m m₁ : Memory) (o : Step) (k c i len : ℕ) → m₁ ≡ advance m len → i ≡ k → o ≡ waits m₁ (semaphore_of i) c
-    → o ≡ waits (advance m len) (semaphore_of k) c
-win_waits m m₁ o k c i len e₁ ei e = rw (← e₁, ← ei) e
+-- s is the semaphore of the queue
+pub win_waits : (m m₁ : Memory) (o : Step) (k c s len : ℕ) → m₁ ≡ advance m len → s ≡ semaphore_of k → o ≡ waits m₁ s c → o ≡ waits (advance m len) (semaphore_of k) c
+win_waits m m₁ o k c s len e₁ es e = rw (← e₁, ← es) e
 
 -- ---- code 13
 -- the record that was read, u the word at a, v the same made wide, A as x, P as y

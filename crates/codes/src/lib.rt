@@ -9,10 +9,10 @@ ghost use Rattle.codes.specs.Sum.{summed};
 ghost use Rattle.codes.specs.Target as Target;
 
 use answers::{done, fault, jump, wait};
-use interrupts::serve;
+use interrupts::Interrupt;
 use model::instructions::{self, Kind, NoKind, Operation};
 use model::{Answer, ControlPage, Fault, Memory, Registers, map, wide};
-use processors::{accumulate, advance, lr, name, running};
+use processors::{WaitQueue, accumulate, advance, lr, name, running};
 use words::{address_at, at, clear, guarded, high, low, raised, wrapped, write};
 
 // The kind of a code, whether it is of that one, and its program's address.
@@ -80,8 +80,8 @@ pub fn gin(m: &mut Memory, length: u16) -> Answer
     ensures { gives (answered result) m.new ≡ Model.gin m.old length }
 {
     let runner = running(m);
-    let interrupt = name(m, runner).0;
-    serve(m, interrupt, 0);
+    let number = name(m, runner).0;
+    Interrupt { number, class: 0 }.serve(m);
     done(m, length)
 }
 
@@ -94,7 +94,7 @@ pub fn win(m: &mut Memory, interrupt: u8, count: u8, length: u16) -> Answer
         return fault(m, Fault::BadWait);
     }
     advance(m, length);
-    wait(m, map::SEMAPHORES + 2 * wide(interrupt), count)
+    wait(m, WaitQueue::for_interrupt(interrupt), count)
 }
 
 // The registers of the page with the sum of A and the word at the address.
