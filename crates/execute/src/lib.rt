@@ -11,7 +11,8 @@ ghost use Rattle.execute.specs.Given as Given;
 use answers::fault;
 use arguments::Words;
 use codes::{cvi, dvi, gin, indexed, is_of_kind, program, thirteen, win};
-use creating::{crp, named, st2};
+use creating::{Newcomer, Order, crp, named, st2};
+use mail::Note;
 use model::instructions::{Code, FIRST_WORD, Kind};
 use model::{Answer, Arguments, Fault, Memory, Name, Refusal, map, wide};
 use sending::{rme, sme, tme, wnm};
@@ -68,6 +69,18 @@ fn pointed(m: &Memory, code: u8, start: u16) -> Result<(Code, Arguments), Fault>
     Err(Fault::BadArgument)
 }
 
+// Whom CRP makes: NI, priority, W and LR.
+fn newcomer(given: Arguments) -> Newcomer
+    ensures { (result.name.0 ≡ given.field) × (result.priority ≡ given.second) × (result.w ≡ given.w) × (result.address ≡ given.address) }
+{
+    Newcomer {
+        name: Name(given.field),
+        priority: given.second,
+        w: given.w,
+        address: given.address,
+    }
+}
+
 // What EXI advances by, whatever it runs.
 #[tactic(auto, unfolding(model::specs::Coded::code_number))]
 fn exi_length() -> u16
@@ -83,27 +96,25 @@ pub fn execute(m: &mut Memory, code: Code, given: Arguments, length: u16, depth:
     requires { length < 8192 }
     ensures { gives (answered result) m.new ≡ Model.execute depth m.old (code_number code) given length }
 {
+    let name = Name(given.field);
+    let note = Note {
+        name,
+        flag: given.second,
+    };
     match code {
         Code::Cvi => cvi(m, given.field, given.address, length),
         Code::Dvi => dvi(m, given.field, length),
         Code::Gin => gin(m, length),
         Code::Win => win(m, given.interrupt, given.count, length),
-        Code::Sme => sme(m, Name(given.field), given.second, given.address, length),
-        Code::Wnm => wnm(m, Name(given.field), given.second, length),
-        Code::Rme => rme(m, Name(given.field), given.second, given.address, length),
-        Code::Tme => tme(m, Name(given.field), given.second, given.address, length),
-        Code::St1 => named(m, Code::St1 as u8, Name(given.field), length),
-        Code::Stp => named(m, Code::Stp as u8, Name(given.field), length),
-        Code::St2 => st2(m, Name(given.field), given.address, length),
-        Code::Crp => crp(
-            m,
-            Name(given.field),
-            given.second,
-            given.w,
-            given.address,
-            length,
-        ),
-        Code::Dep => named(m, Code::Dep as u8, Name(given.field), length),
+        Code::Sme => sme(m, note, given.address, length),
+        Code::Wnm => wnm(m, note, length),
+        Code::Rme => rme(m, note, given.address, length),
+        Code::Tme => tme(m, note, given.address, length),
+        Code::St1 => named(m, Order::Start, name, length),
+        Code::Stp => named(m, Order::Stop, name, length),
+        Code::St2 => st2(m, name, given.address, length),
+        Code::Crp => crp(m, newcomer(given), length),
+        Code::Dep => named(m, Order::Delete, name, length),
         Code::Thirteen => thirteen(m, given.field, given.second, given.address, length),
         Code::Exi => exi_step(m, given, depth),
     }
