@@ -2,20 +2,29 @@
 #![tactic(auto)]
 
 ghost use Rattle.std.specs.Prelude.{◌≡◌, ◌<◌};
-ghost use Rattle.std.proofs.Math.ListN as List;
 ghost use Rattle.model.specs.Processor as Processor;
 ghost use Rattle.model.specs.Answer.Outcome.{gives};
 ghost use Rattle.model.specs.Coded.{answered};
 ghost use Rattle.model.specs.Bytes as Model;
+ghost use Rattle.creating.specs.Ordered.{code_of};
 
 use answers::{done, fault, wait_for_page};
 use deleting::delete;
-use model::{Answer, ControlPage, Fault, Memory, Name, Registers, instructions, map, wide};
+use model::{Answer, ControlPage, Fault, Memory, Name, Registers, map, wide};
 use pages::take_page;
 use processors::{page_of, priority, running, set_lr, start, stop};
-use queues::join;
+use queues::Queue;
 use words::zero;
 
+// What ST1, STP and DEP do with a processor.
+#[derive(Clone, Copy, PartialEq, Eq)]
+pub enum Order {
+    Start,
+    Stop,
+    Delete,
+}
+
+#[tactic(auto, unfolding(model::specs::Operate::st1))]
 fn st1(m: &mut Memory, page: ControlPage, length: u16) -> Answer
     requires { length < 8192 }
     ensures { gives (answered result) m.new ≡ Model.st1 m.old page.0 length }
@@ -24,6 +33,7 @@ fn st1(m: &mut Memory, page: ControlPage, length: u16) -> Answer
     done(m, length)
 }
 
+#[tactic(auto, unfolding(model::specs::Operate::stp))]
 fn stp(m: &mut Memory, page: ControlPage, length: u16) -> Answer
     requires { length < 8192 }
     ensures { gives (answered result) m.new ≡ Model.stp m.old page.0 length }
@@ -32,6 +42,7 @@ fn stp(m: &mut Memory, page: ControlPage, length: u16) -> Answer
     done(m, length)
 }
 
+#[tactic(auto, using(processors::proofs::Ways::ways), unfolding(model::specs::Operate::dep, model::specs::Coded::fault_number))]
 fn dep(m: &mut Memory, page: ControlPage, length: u16) -> Answer
     requires { length < 8192 }
     ensures { gives (answered result) m.new ≡ Model.dep m.old page.0 length }
@@ -44,35 +55,34 @@ fn dep(m: &mut Memory, page: ControlPage, length: u16) -> Answer
     fault(m, Fault::NotStopped)
 }
 
-// ST1, STP or DEP, by its code, of the processor of the page.
-fn on_page(m: &mut Memory, code: u8, page: ControlPage, length: u16) -> Answer
+// The order, on the processor of the page.
+#[tactic(auto, unfolding(model::specs::Operate::on_page))]
+fn on_page(m: &mut Memory, order: Order, page: ControlPage, length: u16) -> Answer
     requires { length < 8192 }
-    ensures { gives (answered result) m.new ≡ Model.on_page m.old code page.0 length }
+    ensures { gives (answered result) m.new ≡ Model.on_page m.old (code_of order) page.0 length }
 {
-    if code == instructions::ST1 {
-        return st1(m, page, length);
+    match order {
+        Order::Start => st1(m, page, length),
+        Order::Stop => stp(m, page, length),
+        Order::Delete => dep(m, page, length),
     }
-    if code == instructions::STP {
-        return stp(m, page, length);
-    }
-    dep(m, page, length)
 }
 
 // The same of the processor of that name.
-pub fn named(m: &mut Memory, code: u8, name: Name, length: u16) -> Answer
+pub fn named(m: &mut Memory, order: Order, name: Name, length: u16) -> Answer
     requires { length < 8192 }
-    ensures { gives (answered result) m.new ≡ Model.named m.old code name.0 length }
+    ensures { gives (answered result) m.new ≡ Model.named m.old (code_of order) name.0 length }
 {
     if name.0 == 0 {
         return fault(m, Fault::BadArgument);
     }
-    let page = page_of(m, name);
-    if page.0 == 0 {
-        return fault(m, Fault::NoName);
+    match page_of(m, name) {
+        Some(page) => on_page(m, order, page, length),
+        None => fault(m, Fault::NoName),
     }
-    on_page(m, code, page, length)
 }
 
+#[tactic(auto, using(crate::proofs::Laws::second_starts), unfolding(model::specs::Coded::fault_number))]
 fn st2_found(m: &mut Memory, page: ControlPage, address: u16, length: u16) -> Answer
     requires { length < 8192 }
     ensures { gives (answered result) m.new ≡ Model.st2_found m.old page.0 address length }
@@ -96,79 +106,89 @@ pub fn st2(m: &mut Memory, name: Name, address: u16, length: u16) -> Answer
     if name.0 == 0 {
         return fault(m, Fault::BadArgument);
     }
-    let page = page_of(m, name);
-    if page.0 == 0 {
-        return fault(m, Fault::NoName);
+    match page_of(m, name) {
+        Some(page) => st2_found(m, page, address, length),
+        None => fault(m, Fault::NoName),
     }
-    st2_found(m, page, address, length)
 }
 
-// The registers of a new processor: it is stopped.
-fn new_registers(address: u16, w: u8) -> Registers
-    ensures { result ≡ Processor.stopped_once (Processor.starting_at address w) }
-{
-    let r = Registers::starting_at(address, wide(w));
-    r.set_stopped()
+// What a new processor is made with: its name and priority, W and LR.
+#[derive(Clone, Copy)]
+pub struct Newcomer {
+    pub name: Name,
+    pub priority: u8,
+    pub w: u8,
+    pub address: u16,
+    ghost name_fits: { name.0 < 16 },
+    ghost priority_fits: { priority < 16 },
 }
 
-// The page, cleared, gets name, priority, W and LR.
-#[tactic(auto, unfolding(model::specs::Operate::headed))]
-fn head(m: &mut Memory, page: ControlPage, name: Name, priority: u8, w: u8, address: u16)
-    requires { (name.0 < 16) × (priority < 16) }
-    ensures { m.new ≡ Model.headed m.old page.0 name.0 priority w address }
-{
-    page.store(m, map::LABEL, priority * map::FIELD + name.0);
-    let r = new_registers(address, w);
-    r.hand_back(m, page);
-}
-
-pub fn create(m: &mut Memory, page: ControlPage, name: Name, priority: u8, w: u8, address: u16)
-    requires { (name.0 < 16) × (priority < 16) }
-    ensures { m.new ≡ Model.created m.old page.0 name.0 priority w address }
-{
-    zero(m, page.place(map::LINK), map::PAGE_SIZE);
-    head(m, page, name, priority, w, address);
-    join(m, map::PROCESSOR_LIST, map::LIST_LINK, page);
-}
-
-fn crp_page(m: &mut Memory, name: Name, priority: u8, w: u8, address: u16, length: u16) -> Answer
-    requires { (name.0 < 16) × (priority < 16) × (length < 8192) }
-    ensures { gives (answered result) m.new ≡ Model.crp_page m.old name.0 priority w address length }
-{
-    let r = running(m);
-    let page = take_page(m, r);
-    if page.0 == 0 {
-        return wait_for_page(m);
+impl Newcomer {
+    // Its registers: it is stopped.
+    fn registers(self) -> Registers
+        ensures { result ≡ Processor.stopped_once (Processor.starting_at self.address self.w) }
+    {
+        Registers::starting_at(self.address, wide(self.w)).set_stopped()
     }
-    create(m, page, name, priority, w, address);
-    done(m, length)
+
+    // The page, cleared, gets name, priority, W and LR.
+    #[tactic(auto, unfolding(model::specs::Operate::headed))]
+    fn head(self, m: &mut Memory, page: ControlPage)
+        ensures { m.new ≡ Model.headed m.old page.0 self.name.0 self.priority self.w self.address }
+    {
+        page.store(m, map::LABEL, self.priority * map::FIELD + self.name.0);
+        self.registers().hand_back(m, page);
+    }
+
+    // It is made on the page.
+    #[tactic(auto, using(crate::proofs::Laws::created_is))]
+    pub fn create(self, m: &mut Memory, page: ControlPage)
+        ensures { m.new ≡ Model.created m.old page.0 self.name.0 self.priority self.w self.address }
+    {
+        zero(m, page.place(map::LINK), map::PAGE_SIZE);
+        self.head(m, page);
+        Queue::processors().join(m, page);
+    }
+}
+
+fn crp_page(m: &mut Memory, new: Newcomer, length: u16) -> Answer
+    requires { length < 8192 }
+    ensures { gives (answered result) m.new ≡ Model.crp_page m.old new.name.0 new.priority new.w new.address length }
+{
+    let runner = running(m);
+    match take_page(m, runner) {
+        Some(page) => {
+            new.create(m, page);
+            done(m, length)
+        }
+        None => wait_for_page(m),
+    }
 }
 
 // The priority of the one that runs.
+#[tactic(auto, using(crate::proofs::Laws::own_is))]
 fn own_priority(m: &Memory) -> u8
     ensures { result ≡ Model.priority m.now (Model.running m.now) }
 {
-    let r = running(m);
-    priority(m, r)
+    priority(m, running(m))
 }
 
-pub fn crp(m: &mut Memory, new: Name, priority: u8, w: u8, address: u16, length: u16) -> Answer
-    requires { (new.0 < 16) × (priority < 16) × (length < 8192) }
-    ensures { gives (answered result) m.new ≡ Model.crp m.old new.0 priority w address length }
+pub fn crp(m: &mut Memory, new: Newcomer, length: u16) -> Answer
+    requires { length < 8192 }
+    ensures { gives (answered result) m.new ≡ Model.crp m.old new.name.0 new.priority new.w new.address length }
 {
-    if new.0 == 0 {
+    if new.name.0 == 0 {
         return fault(m, Fault::BadArgument);
     }
-    if priority == 0 {
+    if new.priority == 0 {
         return fault(m, Fault::BadArgument);
     }
     let own = own_priority(m);
-    if own < priority {
+    if own < new.priority {
         return fault(m, Fault::AboveItself);
     }
-    let namesake = page_of(m, new);
-    if namesake.0 == 0 {
-        return crp_page(m, new, priority, w, address, length);
+    if page_of(m, new.name).is_some() {
+        return fault(m, Fault::NameExists);
     }
-    fault(m, Fault::NameExists)
+    crp_page(m, new, length)
 }

@@ -3,22 +3,26 @@ use Prim.Native.Nat.{ℕ, ◌+◌, ◌≤◌, ◌<◌}
 use mathlib.Core.Path.{◌≡◌}
 use mathlib.Core.Bool.{Bool, true, false}
 use borrow.Author.Tests.{lt-ltb, le-ltb, eq-eqb, ne_eqb}
+use Rattle.std.specs.Prelude.{Some, None}
+use Rattle.model.specs.declared.ControlPage.{ControlPage}
+use Rattle.model.specs.Coded.{found}
+use Rattle.queues.proofs.Laws.{none_is, some_is, some_not}
 use Rattle.model.specs.Map.{place, pair, length_in, own_semaphore, link, q2, size, longest, head_words, control_pages}
 use Rattle.model.specs.Address.{wrapped, clear}
 use Rattle.model.specs.Mail.Tested.{tested}
 use Rattle.model.specs.Answer.{bad_argument, protected, no_match}
 use Rattle.model.specs.Operate as Operate
 use Rattle.model.specs.Bytes.{Memory, Step, at, word, running, page_of, done, jumps, waits, fault, deliver, make_notice, write_message}
-use Rattle.model.specs.Bytes.{posted, leave, give_back, copy_out, sent, sme_text, in_q1, in_q2, move, wnm, received, rme, test_q1, tme_q1}
+use Rattle.model.specs.Bytes.{posted, leave, give_back, copy_out, sent, sme_text, in_q1, in_q2, move, wnm, received, rme, test_q1, tme_q1, tme}
 
-module _ (m m₁ m₂ : Memory) (q n f a l p : ℕ) (ep : p ≡ page_of m n) where
-  pub posted_notice : (r : ℕ) → p ≡ 0 → r ≡ running m → m₁ ≡ make_notice m q n f → m₂ ≡ deliver m₁ r q → m₂ ≡ posted m q n f a l
+module _ (m m₁ m₂ : Memory) (q n f a l : ℕ) where
+  pub posted_notice : (r : ℕ) → None ≡ found (page_of m n) → r ≡ running m → m₁ ≡ make_notice m q n f → m₂ ≡ deliver m₁ r q → m₂ ≡ posted m q n f a l
   unfolding Operate.posted
-  posted_notice r z er e₁ e₂ = rw (← ep, eq-eqb p 0 z, ← er, ← e₁) e₂
+  posted_notice r z er e₁ e₂ = rw (eq-eqb (page_of m n) 0 (none_is _ z), ← er, ← e₁) e₂
 
-  pub posted_message : (b : ℕ) → (p ≡ 0 → ⊥) → b ≡ wrapped a 1 → m₁ ≡ write_message m q f b l → m₂ ≡ deliver m₁ p q → m₂ ≡ posted m q n f a l
+  pub posted_message : (p : ControlPage) (b : ℕ) → Some p ≡ found (page_of m n) → b ≡ wrapped a 1 → m₁ ≡ write_message m q f b l → m₂ ≡ deliver m₁ p.0 q → m₂ ≡ posted m q n f a l
   unfolding Operate.posted
-  posted_message b z eb e₁ e₂ = rw (← ep, ne_eqb p 0 z, ← eb, ← e₁) e₂
+  posted_message p b z eb e₁ e₂ = rw (ne_eqb (page_of m n) 0 (some_not _ p z), ← eb, ← e₁, ← (some_is _ p z)) e₂
 
 pub received_is : (m m₁ m₂ m₃ : Memory) (q a r h : ℕ) → r ≡ running m → m₁ ≡ copy_out m q a → h ≡ place r q2 → m₂ ≡ leave m₁ h link q → m₃ ≡ give_back m₂ q
     → m₃ ≡ received m q a
@@ -40,28 +44,35 @@ module _ (m : Memory) (o : Step) (n f a len : ℕ) where
       unfolding Operate.sme_text
       text_guarded z e = rw (← el, le-ltb longest l h, ← eb, ← ec, z) e
 
-  module _ (r q : ℕ) (er : r ≡ running m) (eq : q ≡ in_q1 m n f) where
-    pub wnm_waits : (s : ℕ) → q ≡ 0 → s ≡ place r own_semaphore → o ≡ waits m s (pair n f) → o ≡ wnm m n f len
+  module _ (r : ℕ) (er : r ≡ running m) where
+    pub wnm_waits : (s w : ℕ) → None ≡ found (in_q1 m n f) → s ≡ place r own_semaphore → w ≡ pair n f → o ≡ waits m s w → o ≡ wnm m n f len
     unfolding Operate.wnm
-    wnm_waits s z es e = rw (← eq, eq-eqb q 0 z, ← er, ← es) e
+    wnm_waits s w z es ew e = rw (eq-eqb (in_q1 m n f) 0 (none_is _ z), ← er, ← es, ← ew) e
 
-    pub wnm_moves : (m₁ : Memory) → (q ≡ 0 → ⊥) → m₁ ≡ move m r q → o ≡ done m₁ len → o ≡ wnm m n f len
+    pub wnm_moves : (p : ControlPage) (m₁ : Memory) → Some p ≡ found (in_q1 m n f) → m₁ ≡ move m r p.0 → o ≡ done m₁ len → o ≡ wnm m n f len
     unfolding Operate.wnm
-    wnm_moves m₁ z e₁ e = rw (← eq, ne_eqb q 0 z, ← er, ← e₁) e
+    wnm_moves p m₁ z e₁ e = rw (ne_eqb (in_q1 m n f) 0 (some_not _ p z), ← (some_is _ p z), ← er, ← e₁) e
 
-  module _ (q : ℕ) (eq : q ≡ in_q2 m n f) where
-    pub rme_none : q ≡ 0 → o ≡ fault m no_match → o ≡ rme m n f a len
+  pub rme_none : None ≡ found (in_q2 m n f) → o ≡ fault m no_match → o ≡ rme m n f a len
+  unfolding Operate.rme
+  rme_none z e = rw (eq-eqb (in_q2 m n f) 0 (none_is _ z)) e
+
+  module _ (p : ControlPage) (l : ℕ) (c : Bool) (z : Some p ≡ found (in_q2 m n f)) (el : l ≡ word m p.0 size) (ec : c ≡ clear (head_words + length_in l) a) where
+    pub rme_done : (m₁ : Memory) → c ≡ true → m₁ ≡ received m p.0 a → o ≡ done m₁ len → o ≡ rme m n f a len
     unfolding Operate.rme
-    rme_none z e = rw (← eq, eq-eqb q 0 z) e
+    rme_done m₁ h e₁ e = rw (ne_eqb (in_q2 m n f) 0 (some_not _ p z), ← (some_is _ p z), ← el, ← ec, h, ← e₁) e
 
-    module _ (l : ℕ) (c : Bool) (z : q ≡ 0 → ⊥) (el : l ≡ word m q size) (ec : c ≡ clear (head_words + length_in l) a) where
-      pub rme_done : (m₁ : Memory) → c ≡ true → m₁ ≡ received m q a → o ≡ done m₁ len → o ≡ rme m n f a len
-      unfolding Operate.rme
-      rme_done m₁ h e₁ e = rw (← eq, ne_eqb q 0 z, ← el, ← ec, h, ← e₁) e
+    pub rme_guarded : c ≡ false → o ≡ fault m protected → o ≡ rme m n f a len
+    unfolding Operate.rme
+    rme_guarded h e = rw (ne_eqb (in_q2 m n f) 0 (some_not _ p z), ← (some_is _ p z), ← el, ← ec, h) e
 
-      pub rme_guarded : c ≡ false → o ≡ fault m protected → o ≡ rme m n f a len
-      unfolding Operate.rme
-      rme_guarded h e = rw (← eq, ne_eqb q 0 z, ← el, ← ec, h) e
+  pub tme_none : None ≡ found (in_q2 m n f) → o ≡ tme_q1 m n f a len → o ≡ tme m n f a len
+  unfolding Operate.tme
+  tme_none z e = rw (eq-eqb (in_q2 m n f) 0 (none_is _ z)) e
+
+  pub tme_some : (p : ControlPage) → Some p ≡ found (in_q2 m n f) → o ≡ jumps m a → o ≡ tme m n f a len
+  unfolding Operate.tme
+  tme_some p z e = rw (ne_eqb (in_q2 m n f) 0 (some_not _ p z)) e
 
   module _ (m₁ : Memory) (r : ℕ) (b : Bool) (er : r ≡ running m) (eb : tested b m₁ ≡ test_q1 control_pages m r n f) where
     pub q1_found : b ≡ true → o ≡ jumps m₁ a → o ≡ tme_q1 m n f a len
@@ -72,18 +83,6 @@ module _ (m : Memory) (o : Step) (n f a len : ℕ) where
     unfolding Operate.tme_q1
     q1_none h e = rw (← er, ← eb, Operate.tme_q1, h) e
 
-pub ruleset sends = (
-  posted_notice,
-  posted_message,
-  text_long,
-  text_sent,
-  text_guarded,
-  wnm_waits,
-  wnm_moves,
-  received_is,
-  rme_none,
-  rme_done,
-  rme_guarded,
-  q1_found,
-  q1_none,
-)
+pub ruleset texts = (text_long, text_sent, text_guarded)
+
+pub ruleset tests = (q1_found, q1_none)

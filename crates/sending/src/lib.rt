@@ -2,113 +2,120 @@
 #![tactic(auto)]
 
 ghost use Rattle.std.specs.Prelude.{◌≡◌, ◌<◌};
-ghost use Rattle.std.proofs.Math.ListN as List;
 ghost use Rattle.model.specs.Answer.Outcome.{gives};
 ghost use Rattle.model.specs.Coded.{answered};
 ghost use Rattle.model.specs.Bytes as Model;
 
 use answers::{done, fault, jump, wait, wait_for_page};
-use mail::{copy_out, deliver, in_q1, in_q2, make_notice, move_message, test_q1, write_message};
-use model::{Answer, ControlPage, Fault, Memory, Name, map};
+use mail::{
+    Note, copy_out, deliver, in_q1, in_q2, make_notice, move_message, test_q1, write_message,
+};
+use model::{Answer, ControlPage, Fault, Memory, map};
 use pages::{give_back, take_page};
-use processors::{page_of, running};
-use queues::leave;
+use processors::{WaitQueue, page_of, running};
+use queues::Queue;
 use words::{at, clear, guarded, wrapped};
 
 // The page is posted to the processor of that name, with the text of that size behind the address; where there is none, it comes back as a notice.
-fn post(m: &mut Memory, page: ControlPage, name: Name, flag: u8, address: u16, size: u8)
-    requires { (name.0 < 16) × (flag < 16) × (address < 8192) }
-    ensures { m.new ≡ Model.posted m.old page.0 name.0 flag address size }
+#[tactic(auto, using(crate::proofs::Laws::posted_notice))]
+fn post(m: &mut Memory, page: ControlPage, note: Note, address: u16, size: u8)
+    requires { address < 8192 }
+    ensures { m.new ≡ Model.posted m.old page.0 note.name.0 note.flag address size }
 {
-    let p = page_of(m, name);
-    if p.0 == 0 {
-        let r = running(m);
-        make_notice(m, page, name, flag);
-        deliver(m, r, page);
-        return;
+    match page_of(m, note.name) {
+        Some(receiver) => {
+            write_message(m, page, note.flag, wrapped(address, 1), size);
+            deliver(m, receiver, page);
+        }
+        None => {
+            let sender = running(m);
+            make_notice(m, page, note);
+            deliver(m, sender, page);
+        }
     }
-    write_message(m, page, flag, wrapped(address, 1), size);
-    deliver(m, p, page);
 }
 
 // A page is taken and posted; with none, the runner waits for one.
-fn send(m: &mut Memory, name: Name, flag: u8, address: u16, size: u8, length: u16) -> Answer
-    requires { (name.0 < 16) × (flag < 16) × (address < 8192) × (length < 8192) }
-    ensures { gives (answered result) m.new ≡ Model.sent m.old name.0 flag address size length }
+#[tactic(auto, using(pages::proofs::Laws::page_none), unfolding(model::specs::Operate::sent))]
+fn send(m: &mut Memory, note: Note, address: u16, size: u8, length: u16) -> Answer
+    requires { (address < 8192) × (length < 8192) }
+    ensures { gives (answered result) m.new ≡ Model.sent m.old note.name.0 note.flag address size length }
 {
-    let r = running(m);
-    let q = take_page(m, r);
-    if q.0 == 0 {
-        return wait_for_page(m);
+    let runner = running(m);
+    match take_page(m, runner) {
+        Some(page) => {
+            post(m, page, note, address, size);
+            done(m, length)
+        }
+        None => wait_for_page(m),
     }
-    post(m, q, name, flag, address, size);
-    done(m, length)
 }
 
-fn sme_text(m: &mut Memory, name: Name, flag: u8, address: u16, length: u16) -> Answer
-    requires { (name.0 < 16) × (flag < 16) × (address < 8192) × (length < 8192) }
-    ensures { gives (answered result) m.new ≡ Model.sme_text m.old name.0 flag address length }
+#[tactic(auto, using(crate::proofs::Laws::texts), unfolding(model::specs::Coded::fault_number))]
+fn sme_text(m: &mut Memory, note: Note, address: u16, length: u16) -> Answer
+    requires { (address < 8192) × (length < 8192) }
+    ensures { gives (answered result) m.new ≡ Model.sme_text m.old note.name.0 note.flag address length }
 {
     let size = at(m, address);
     if map::LONGEST < size {
         return fault(m, Fault::BadArgument);
     }
-    let b = wrapped(address, 1);
-    if clear(size, b) {
-        return send(m, name, flag, address, size, length);
+    if clear(size, wrapped(address, 1)) {
+        return send(m, note, address, size, length);
     }
     fault(m, Fault::Protected)
 }
 
-pub fn sme(m: &mut Memory, name: Name, flag: u8, address: u16, length: u16) -> Answer
-    requires { (name.0 < 16) × (flag < 16) × (address < 8192) × (length < 8192) }
-    ensures { gives (answered result) m.new ≡ Model.sme m.old name.0 flag address length }
+#[tactic(auto, using(processors::proofs::Ways::ways), unfolding(model::specs::Operate::sme, model::specs::Coded::fault_number))]
+pub fn sme(m: &mut Memory, note: Note, address: u16, length: u16) -> Answer
+    requires { (address < 8192) × (length < 8192) }
+    ensures { gives (answered result) m.new ≡ Model.sme m.old note.name.0 note.flag address length }
 {
-    if name.0 == 0 {
+    if note.name.0 == 0 {
         return fault(m, Fault::BadArgument);
     }
-    if flag == 0 {
+    if note.flag == 0 {
         return fault(m, Fault::BadArgument);
     }
     if guarded(address) {
         return fault(m, Fault::Protected);
     }
-    sme_text(m, name, flag, address, length)
+    sme_text(m, note, address, length)
 }
 
-pub fn wnm(m: &mut Memory, name: Name, flag: u8, length: u16) -> Answer
-    requires { (name.0 < 16) × (flag < 16) × (length < 8192) }
-    ensures { gives (answered result) m.new ≡ Model.wnm m.old name.0 flag length }
+pub fn wnm(m: &mut Memory, asked: Note, length: u16) -> Answer
+    requires { length < 8192 }
+    ensures { gives (answered result) m.new ≡ Model.wnm m.old asked.name.0 asked.flag length }
 {
-    let r = running(m);
-    let q = in_q1(m, name, flag);
-    if q.0 == 0 {
-        let asked = name.0;
-        return wait(m, r.place(map::OWN_SEMAPHORE), asked * map::FIELD + flag);
+    let runner = running(m);
+    match in_q1(m, asked) {
+        Some(message) => {
+            move_message(m, runner, message);
+            done(m, length)
+        }
+        None => wait(m, WaitQueue::own(runner), asked.word()),
     }
-    move_message(m, r, q);
-    done(m, length)
 }
 
 // The message is read: copied out, unlinked, its page given back.
+#[tactic(auto, using(crate::proofs::Laws::received_is))]
 fn receive(m: &mut Memory, message: ControlPage, address: u16)
     requires { address < 8192 }
     ensures { m.new ≡ Model.received m.old message.0 address }
 {
-    let r = running(m);
+    let runner = running(m);
     copy_out(m, message, address);
-    leave(m, r.place(map::Q2), map::LINK, message);
+    Queue::at(runner.place(map::Q2)).leave(m, message);
     give_back(m, message);
 }
 
-pub fn rme(m: &mut Memory, name: Name, flag: u8, address: u16, length: u16) -> Answer
+pub fn rme(m: &mut Memory, asked: Note, address: u16, length: u16) -> Answer
     requires { (address < 8192) × (length < 8192) }
-    ensures { gives (answered result) m.new ≡ Model.rme m.old name.0 flag address length }
+    ensures { gives (answered result) m.new ≡ Model.rme m.old asked.name.0 asked.flag address length }
 {
-    let message = in_q2(m, name, flag);
-    if message.0 == 0 {
+    let Some(message) = in_q2(m, asked) else {
         return fault(m, Fault::NoMatch);
-    }
+    };
     let size = message.word(m, map::SIZE);
     if clear(map::HEAD_WORDS + size % map::MARK, address) {
         receive(m, message, address);
@@ -117,24 +124,24 @@ pub fn rme(m: &mut Memory, name: Name, flag: u8, address: u16, length: u16) -> A
     fault(m, Fault::Protected)
 }
 
-fn tme_q1(m: &mut Memory, name: Name, flag: u8, address: u16, length: u16) -> Answer
+#[tactic(auto, using(crate::proofs::Laws::tests))]
+fn tme_q1(m: &mut Memory, asked: Note, address: u16, length: u16) -> Answer
     requires { length < 8192 }
-    ensures { gives (answered result) m.new ≡ Model.tme_q1 m.old name.0 flag address length }
+    ensures { gives (answered result) m.new ≡ Model.tme_q1 m.old asked.name.0 asked.flag address length }
 {
-    let r = running(m);
-    if test_q1(m, r, name, flag, map::CONTROL_PAGES) {
+    let runner = running(m);
+    if test_q1(m, runner, asked, map::CONTROL_PAGES) {
         return jump(m, address);
     }
     done(m, length)
 }
 
-pub fn tme(m: &mut Memory, name: Name, flag: u8, address: u16, length: u16) -> Answer
+pub fn tme(m: &mut Memory, asked: Note, address: u16, length: u16) -> Answer
     requires { length < 8192 }
-    ensures { gives (answered result) m.new ≡ Model.tme m.old name.0 flag address length }
+    ensures { gives (answered result) m.new ≡ Model.tme m.old asked.name.0 asked.flag address length }
 {
-    let q = in_q2(m, name, flag);
-    if q.0 == 0 {
-        return tme_q1(m, name, flag, address, length);
+    match in_q2(m, asked) {
+        Some(_) => jump(m, address),
+        None => tme_q1(m, asked, address, length),
     }
-    jump(m, address)
 }

@@ -1,0 +1,2 @@
+-- What contracts cite beside the model.
+pub mod Ordered
