@@ -53,9 +53,6 @@ module _ (m : Memory) (ps : List ℕ) (L : Lists) (p x w : ℕ) (ew : w ≡ word
 
 -- ---- semaphores
 module _ (m : Memory) (a s : ℕ) where
-  pub waiters_none : (w : ℕ) → w ≡ at m a → w ≡ 0 → eqb s 0 ≡ holds (same s (less 0 (length (lists m a))))
-  waiters_none w ew z = rw (head_none m a w ew z) (same_is s 0)
-
   pub waiters_some : (n d : ℕ) → n ≡ length (lists m a) → d ≡ less 0 n → eqb s d ≡ holds (same s (less 0 (length (lists m a))))
   waiters_some n d en ed = rw (← en, ← ed) (same_is s d)
 
@@ -135,7 +132,6 @@ pub ruleset sentences = (
   owner_yes,
   owner_other,
   owner_flag,
-  waiters_none,
   waiters_some,
   interrupt_semaphore_is,
   message_semaphore_is,

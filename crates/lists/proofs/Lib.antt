@@ -1,6 +1,7 @@
 pub mod Bits
 pub mod Folds
 pub mod Onward
+pub mod Each
 pub mod Counting
 pub mod Uses
 pub mod Waits

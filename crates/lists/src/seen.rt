@@ -1,5 +1,5 @@
 // "every control page is used once", "waiting bit set exactly if in one wait queue": the pages seen in lists.
-ghost use Rattle.std.specs.Prelude.{◌≡◌, ◌==◌, ℕ, ◌<◌, [], ◌∷◌};
+ghost use Rattle.std.specs.Prelude.{◌≡◌, ◌==◌, ℕ, ◌<◌, ◌^◌, [], ◌∷◌};
 ghost use Rattle.model.specs.Map as Map;
 ghost use Rattle.model.specs.Lists.{mails, owns, range, uses, queues};
 ghost use Rattle.model.specs.Bytes as Model;
@@ -24,7 +24,7 @@ impl Model for Seen {
 
     ghost view = { λ s. s.bits };
 
-    ghost invariant = { λ s. s.bits < 1048576 };
+    ghost invariant = { λ s. s.bits < 2 ^ Map.control_pages };
 
     ghost inverse = { λ n. record { bits = n } };
 }
