@@ -1,6 +1,11 @@
 -- What a fresh start from settings rests on.
-use Rattle.std.proofs.Common.{◌≡◌, refl, sym, ap, ◌∙◌, ℕ, ◌+◌, ◌*◌, ◌≤◌, ◌<◌, true, List, [], ◌∷◌, length, get_or, arith}
+use Rattle.std.proofs.Common.{◌≡◌, refl, sym, ap, ◌∙◌, ℕ, ◌≤◌, ◌<◌, Bool, true, false, cond, eqb, eqb-true, Option, Some, None, unwrap_or}
+use Rattle.std.proofs.Common.{List, [], ◌∷◌, length, get_or, arith}
+use Rattle.model.specs.declared.ControlPage.{ControlPage}
 use Rattle.model.specs.declared.Entry.{Entry}
+use Rattle.model.specs.Coded as Coded
+use Rattle.model.specs.Coded.{found}
+use Rattle.pages.specs.Taken.{Gives}
 use Rattle.model.specs.Page.{Taken}
 use Rattle.model.specs.Page.Taken.{took}
 use Rattle.model.specs.Layout.{version_of, count_of, block_bytes, entries_of, is_entry, are_entries, is_good, of_block}
@@ -8,12 +13,33 @@ use Rattle.model.specs.Settings as Settings
 use Rattle.model.specs.Bytes.{Memory, running, take_page, created, made, all_made, started, settled}
 use Rattle.laws.specs.Fits.{Sets, block_of, entry_of, first_entry, good_is, laid_least}
 
--- ---- one entry: p is the one that runs, q the page that it takes
-pub made_is : (m m₁ m₂ : Memory) (e : Entry) (p q : ℕ) → p ≡ running m → took q m₁ ≡ take_page m p
-    → m₂ ≡ created m₁ q e.name e.priority e.w e.address
+-- ---- one entry: p is the one that runs, r what is taken, q the page
+-- the page taken, or page 0
+abbrev page_or_zero : Option ControlPage → ControlPage
+page_or_zero r = unwrap_or r (record { 0 = 0 })
+
+page_is : (n : ℕ) (q : ControlPage) → q ≡ page_or_zero (found n) → q.0 ≡ n
+unfolding Coded.found
+page_is n q e = ap (λ (x : ControlPage). x.0) e ∙ go (eqb n 0) refl
+  where
+    number : Option ControlPage → ℕ
+    number r = let x : ControlPage = page_or_zero r in x.0
+
+    go : (x : Bool) → eqb n 0 ≡ x → number (cond x None (Some (record { 0 = n }))) ≡ n
+    go true h = sym (eqb-true n 0 h)
+    go false h = refl
+
+taken_is : (t : Taken Memory) (r : Option ControlPage) (m : Memory) (q : ControlPage) → Gives t r m → q ≡ page_or_zero r → took q.0 m ≡ t
+taken_is (took n m₀) r m q g e =
+    let a : q.0 ≡ n = page_is n q (e ∙ ap page_or_zero g.0) in
+    let b : m ≡ m₀ = g.1 in
+    rw (a, b) refl
+
+pub made_is : (m m₁ m₂ : Memory) (e : Entry) (p : ℕ) (r : Option ControlPage) (q : ControlPage) → p ≡ running m → Gives (take_page m p) r m₁
+    → q ≡ unwrap_or r (record { 0 = 0 }) → m₂ ≡ created m₁ q.0 e.name e.priority e.w e.address
     → m₂ ≡ made m e
 unfolding Settings.made
-made_is m m₁ m₂ e p q ep eq e₂ = rw (← ep, ← eq) e₂
+made_is m m₁ m₂ e p r q ep g eq e₂ = rw (← ep, ← taken_is (take_page m p) r m₁ q g eq) e₂
 
 -- ---- the settings of a good block
 module _ (b : List ℕ) (h : is_good (of_block b) ≡ true) where

@@ -5,22 +5,27 @@ ghost use Rattle.std.specs.Prelude.{◌≡◌, true, ◌<◌};
 ghost use Rattle.model.specs.Layout as Layout;
 ghost use Rattle.model.specs.Bytes as Model;
 
-use creating::create;
+use creating::Newcomer;
 use fresh::start;
-use model::{Entry, Memory, Name, layout};
+use model::{ControlPage, Entry, Memory, Name, layout};
 use pages::take_page;
 use processors::running;
 use settings::entries::Entries;
 
-// What CRP does when it is done, but for its LR.
-#[tactic(auto, using(crate::proofs::Laws::made_is))]
+// What CRP does when it is done, but for its LR. Page 0 stands for no page, as in the definition; a fresh start has one for each entry.
 fn make(m: &mut Memory, e: Entry)
     requires { (e.name < 16) × (e.priority < 16) }
     ensures { m.new ≡ Model.made m.old e }
 {
+    let newcomer = Newcomer {
+        name: Name(e.name),
+        priority: e.priority,
+        w: e.w,
+        address: e.address,
+    };
     let runner = running(m);
-    let page = take_page(m, runner);
-    create(m, page, Name(e.name), e.priority, e.w, e.address);
+    let page = take_page(m, runner).unwrap_or(ControlPage(0));
+    newcomer.create(m, page);
 }
 
 // The fresh start with the settings of a good block.
