@@ -9,7 +9,7 @@ ghost use Rattle.model.specs.Answer.Outcome.{gives};
 ghost use Rattle.model.specs.Bytes as Model;
 ghost use Rattle.arrivals.specs.Good.{AllGood};
 
-use interrupts::deliver;
+use interrupts::Interrupt;
 use model::{Answer, Checked, Memory, map, refusals, wide};
 use turn::who_runs;
 use words::low;
@@ -51,7 +51,7 @@ fn arrive(m: &mut Memory, number: u16, class: u16)
     requires { (Call.is_outer number ≡ true) × (Call.is_class number class ≡ true) }
     ensures { m.new ≡ Model.who_runs (Model.delivered m.old number class) }
 {
-    deliver(m, in_byte(number), low(class));
+    Interrupt { number: in_byte(number), class: low(class) }.deliver(m);
     who_runs(m);
 }
 

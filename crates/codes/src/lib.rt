@@ -9,9 +9,9 @@ ghost use Rattle.model.specs.Bytes as Model;
 ghost use Rattle.codes.specs.Sum.{summed};
 
 use answers::{done, fault, jump, wait};
-use interrupts::serve;
+use interrupts::Interrupt;
 use model::{Answer, ControlPage, Fault, Memory, Registers, instructions, map, wide};
-use processors::{accumulate, advance, lr, name, running};
+use processors::{WaitQueue, accumulate, advance, lr, name, running};
 use words::{address_at, at, clear, guarded, high, low, raised, wrapped, write};
 
 // The kind of a code, and its program's address.
@@ -74,7 +74,7 @@ pub fn gin(m: &mut Memory, length: u16) -> Answer
 {
     let p = running(m);
     let n = name(m, p);
-    serve(m, n.0, 0);
+    Interrupt { number: n.0, class: 0 }.serve(m);
     done(m, length)
 }
 
@@ -92,7 +92,7 @@ pub fn win(m: &mut Memory, interrupt: u8, count: u8, length: u16) -> Answer
         return fault(m, Fault::BadWait);
     }
     advance(m, length);
-    wait(m, map::SEMAPHORES + 2 * wide(interrupt), count)
+    wait(m, WaitQueue::for_interrupt(interrupt), count)
 }
 
 // The registers of the page with the sum of A and the word at the address.

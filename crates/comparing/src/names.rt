@@ -6,7 +6,7 @@ ghost use Rattle.model.specs.Bytes as Model;
 
 use crate::letters::same_mail;
 use model::{ControlPage, Memory, Name, Parts, Said, Side, State, map};
-use processors::{page_of, priority, queued, running, seat};
+use processors::{page_of, priority, running, seat};
 
 // A queue that no semaphore outside a processor's page stands for: one's own message wait, and none.
 const FOR_MESSAGE: u16 = 1;
@@ -26,9 +26,9 @@ fn queue_at(semaphore: u16) -> u16
 fn queue_of(m: &Memory, page: ControlPage) -> u16
     ensures { result ≡ Model.queue_of m.now page.0 }
 {
-    let semaphore = seat(m, page, map::INTERRUPTS);
-    if queued(m, semaphore, page) {
-        return queue_at(semaphore);
+    let queue = seat(m, page, map::INTERRUPTS);
+    if queue.holds(m, page) {
+        return queue_at(queue.semaphore);
     }
     NO_QUEUE
 }
@@ -158,7 +158,7 @@ pub fn said(first: &Memory, second: &Memory, name: Name) -> Said
     requires { length second.now ≡ 8192 }
     ensures { result ≡ Model.said first.now second.now name.0 }
 {
-    let p = page_of(first, name);
-    let q = page_of(second, name);
+    let p = page_of(first, name).unwrap_or(ControlPage(0));
+    let q = page_of(second, name).unwrap_or(ControlPage(0));
     said_of(first, p, second, q)
 }

@@ -11,7 +11,8 @@ ghost use Rattle.model.specs.Bytes as Model;
 use answers::fault;
 use arguments::{count_for, direct, length_for, pointed, shape_for, within};
 use codes::{cvi, dvi, gin, indexed, kind, program, thirteen, win};
-use creating::{crp, named, st2};
+use creating::{Newcomer, Order, crp, named, st2};
+use mail::Note;
 use model::{Answer, Arguments, Fault, Memory, Name, instructions, map, refusals, wide};
 use sending::{rme, sme, tme, wnm};
 use words::{at, clear, guarded, wrapped};
@@ -74,28 +75,28 @@ pub fn execute(m: &mut Memory, code: u8, given: Arguments, length: u16, depth: u
     requires { (given.field < 16) × (given.second < 16) × (given.w < 16) × (given.address < 8192) × (length < 8192) }
     ensures { gives (answered result) m.new ≡ Model.execute depth m.old code given length }
 {
+    let note = Note { name: Name(given.field), flag: given.second };
     match code {
         instructions::CVI => cvi(m, given.field, given.address, length),
         instructions::DVI => dvi(m, given.field, length),
         instructions::GIN => gin(m, length),
         instructions::WIN => win(m, given.interrupt, given.count, length),
-        instructions::SME => sme(m, Name(given.field), given.second, given.address, length),
-        instructions::WNM => wnm(m, Name(given.field), given.second, length),
-        instructions::RME => rme(m, Name(given.field), given.second, given.address, length),
-        instructions::TME => tme(m, Name(given.field), given.second, given.address, length),
-        instructions::ST1 | instructions::STP | instructions::DEP => named(
-            m,
-            code,
-            Name(given.field),
-            length,
-        ),
+        instructions::SME => sme(m, note, given.address, length),
+        instructions::WNM => wnm(m, note, length),
+        instructions::RME => rme(m, note, given.address, length),
+        instructions::TME => tme(m, note, given.address, length),
+        instructions::ST1 => named(m, Order::Start, Name(given.field), length),
+        instructions::STP => named(m, Order::Stop, Name(given.field), length),
+        instructions::DEP => named(m, Order::Delete, Name(given.field), length),
         instructions::ST2 => st2(m, Name(given.field), given.address, length),
         instructions::CRP => crp(
             m,
-            Name(given.field),
-            given.second,
-            given.w,
-            given.address,
+            Newcomer {
+                name: Name(given.field),
+                priority: given.second,
+                w: given.w,
+                address: given.address,
+            },
             length,
         ),
         instructions::THIRTEEN => thirteen(m, given.field, given.second, given.address, length),

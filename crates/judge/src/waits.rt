@@ -9,8 +9,8 @@ ghost use Rattle.lists.specs.Heads.{rule};
 
 use crate::tables::is_at;
 use lists::{both, left_of, length_of, less, lies};
-use mail::fits;
-use model::{ControlPage, Memory, Name, map, wide};
+use mail::Note;
+use model::{ControlPage, Memory, map, wide};
 use words::at;
 
 // ---- "reasons 1-255 in interrupt queues, 0 in the page queue and when not waiting"
@@ -135,7 +135,7 @@ pub fn unasked(m: &Memory, p: ControlPage, q: ControlPage) -> bool
 {
     let w = p.word(m, map::REASON);
     let x = q.word(m, map::NOTE);
-    !fits(Name(w / map::FIELD), w % map::FIELD, x)
+    !Note::of(w).fits(x)
 }
 
 fn all_unasked(m: &Memory, p: ControlPage, cell: u16, left: u8) -> bool

@@ -170,7 +170,7 @@ fn processor<P: Print>(rt: &P, m: &[u8], page: ControlPage) -> io::Result<()>
     row(rt, m, page)?;
     if waits(m, page) {
         text(rt, b"  ")?;
-        awaited(rt, m, page, seat(m, page, map::INTERRUPTS))?;
+        awaited(rt, m, page, seat(m, page, map::INTERRUPTS).semaphore)?;
     }
     text(rt, b"\n")?;
     mail(rt, m, page, map::Q1, b"        Q1  ")?;

@@ -5,9 +5,9 @@ ghost use Rattle.std.specs.Prelude.{◌≡◌, true, ◌<◌, ◌≤◌, ◌+◌
 ghost use Rattle.model.specs.Layout as Layout;
 ghost use Rattle.model.specs.Bytes as Model;
 
-use creating::create;
+use creating::Newcomer;
 use fresh::start;
-use model::{Entry, Memory, Name, layout};
+use model::{ControlPage, Entry, Memory, Name, layout};
 use pages::take_page;
 use processors::running;
 use settings::block::head_bytes;
@@ -19,8 +19,8 @@ fn make(m: &mut Memory, e: Entry)
     ensures { m.new ≡ Model.made m.old e }
 {
     let runner = running(m);
-    let page = take_page(m, runner);
-    create(m, page, Name(e.name), e.priority, e.w, e.address);
+    let page = take_page(m, runner).unwrap_or(ControlPage(0));
+    Newcomer { name: Name(e.name), priority: e.priority, w: e.w, address: e.address }.create(m, page);
 }
 
 // So many entries of a block from the cursor on, in order.
