@@ -82,6 +82,8 @@ module _ (m : Memory) (o : Step) (n b w a len : ℕ) where
       crp_goes None l er t h = rw (ne_eqb n 0 zn, ne_eqb b 0 zb, ← ev, le-ltb v b l, eq-eqb (page_of m n) 0 (none_is _ er)) h
       crp_goes (Some p) l er t h = cc
 
+pub ruleset crps = (crp_nobody, crp_last, crp_above, crp_exists, crp_goes)
+
 pub created_is : (m m₁ m₂ m₃ : Memory) (q n b w a s : ℕ) → s ≡ place q link → m₁ ≡ zeroed page_size m s → m₂ ≡ headed m₁ q n b w a
     → m₃ ≡ join m₂ processor_list list_link q → m₃ ≡ created m q n b w a
 unfolding Operate.created

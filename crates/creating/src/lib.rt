@@ -173,6 +173,7 @@ fn own_priority(m: &Memory) -> u8
     priority(m, running(m))
 }
 
+#[tactic(auto, using(crate::proofs::Laws::crps), unfolding(model::specs::Coded::fault_number))]
 pub fn crp(m: &mut Memory, new: Newcomer, length: u16) -> Answer
     requires { length < 8192 }
     ensures { gives (answered result) m.new ≡ Model.crp m.old new.name.0 new.priority new.w new.address length }

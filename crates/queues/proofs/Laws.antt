@@ -79,15 +79,26 @@ unfolding Queue.walk
 walk_none zero m k a e = refl
 walk_none (suc n) m k a e = absurd (omega arith)
 
-pub walk_end : (n : ℕ) (m : Memory) (k a : ℕ) → None ≡ found (at m a) → walk n m k a ≡ []
+pub walk_end : (n : ℕ) (m : Memory) (k a w : ℕ) → w ≡ at m a → w ≡ 0 → walk n m k a ≡ []
 unfolding Queue.walk
-walk_end zero m k a e = refl
-walk_end (suc n) m k a e = rw (eq-eqb (at m a) 0 (none_is (at m a) e), Queue.walk)
+walk_end zero m k a w e z = refl
+walk_end (suc n) m k a w e z = rw (← e, eq-eqb w 0 z, Queue.walk)
 
-pub walk_on : (n : ℕ) (m : Memory) (k a b : ℕ) (p : ControlPage) → (n ≡ 0 → ⊥) → Some p ≡ found (at m a) → b ≡ place p.0 k → walk n m k a ≡ p.0 ∷ walk (n - 1) m k b
+pub walk_on : (n : ℕ) (m : Memory) (k a w b : ℕ) → (n ≡ 0 → ⊥) → w ≡ at m a → (w ≡ 0 → ⊥) → b ≡ place w k → walk n m k a ≡ w ∷ walk (n - 1) m k b
 unfolding Queue.walk
-walk_on zero m k a b p o e eb = absurd (o refl)
-walk_on (suc n) m k a b p o e eb =
+walk_on zero m k a w b o e z eb = absurd (o refl)
+walk_on (suc n) m k a w b o e z eb = rw (← e, ne_eqb w 0 z, Queue.walk, ← e, ← eb, sub-one)
+
+-- the same, of what was found in the cell
+pub walk_stops : (n : ℕ) (m : Memory) (k a : ℕ) → None ≡ found (at m a) → walk n m k a ≡ []
+unfolding Queue.walk
+walk_stops zero m k a e = refl
+walk_stops (suc n) m k a e = rw (eq-eqb (at m a) 0 (none_is (at m a) e), Queue.walk)
+
+pub walk_goes : (n : ℕ) (m : Memory) (k a b : ℕ) (p : ControlPage) → (n ≡ 0 → ⊥) → Some p ≡ found (at m a) → b ≡ place p.0 k → walk n m k a ≡ p.0 ∷ walk (n - 1) m k b
+unfolding Queue.walk
+walk_goes zero m k a b p o e eb = absurd (o refl)
+walk_goes (suc n) m k a b p o e eb =
     rw (ne_eqb (at m a) 0 (some_not (at m a) p e), Queue.walk, ← (some_is (at m a) p e), ← eb, sub-one)
 
 -- a list that has given one has fewer left
