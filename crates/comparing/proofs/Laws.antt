@@ -1,19 +1,24 @@
 -- Laws of the comparison, a law for each way through the code; m is the first memory, k the second.
 use Prim.Native.Nat.{ℕ, zero, suc, ◌+◌, ◌-◌, ◌/◌, ◌%◌, ◌≤◌, ◌<◌}
-use mathlib.Core.Path.{◌≡◌, refl, sym, ◌∙◌}
-use mathlib.Core.Bool.{Bool, true, false, cond, not}
+use mathlib.Core.Path.{◌≡◌, refl, sym, ap, ◌∙◌}
+use mathlib.Core.Bool.{Bool, true, false, cond, not, ◌&&◌, true≢false}
 use mathlib.Core.List.{List, [], ◌∷◌, map}
 use lib.Dec.{eqb}
 use lib.ListN.{length, get_or}
 use borrow.Author.Tests.{eqb-true, eqb-false, eq-eqb, ne_eqb, lt-ltb, le-ltb, le-leb, lt-leb}
 use native.Mathlib.Numerals.{sub-one}
 use native.Mathlib.Omega.{arith}
+use Rattle.std.specs.Prelude.{Option, Some, None, find, unwrap_or, is_some}
+use Rattle.std.specs.List.{range_with_len, list_all}
+use Rattle.std.specs.Map.Iter.{TakesFirst}
+use Rattle.model.specs.declared.ControlPage.{ControlPage}
+use Rattle.model.specs.Coded.{found}
 use Rattle.model.specs.Told.{Finding}
 use Rattle.model.specs.Told.Finding.{WrongLength, Broken}
 use Rattle.model.specs.declared.Side.TheVariants.{First, Second}
 use Rattle.model.specs.declared.Line.TheVariants.{Word, Refused, RefusedAt, Processor}
 use Rattle.model.specs.declared.Said.{Said}
-use Rattle.model.specs.declared.Said.TheVariants.{Nothing, OnlyIn, DiffersIn}
+use Rattle.model.specs.declared.Said.TheVariants.{Nothing, OnlyIn}
 use Rattle.model.specs.declared.State.{State}
 use Rattle.model.specs.declared.Parts.{Parts}
 use Rattle.model.specs.Map.{place, link, text, size, note, state, reason, q1, q2, memory_size, control_pages, interrupts}
@@ -23,76 +28,71 @@ use Rattle.model.specs.Differ as Differ
 use Rattle.model.specs.Answer.{wrong_length}
 use Rattle.model.specs.Differ.{same_words, same_messages, same_state, queue_at, differs_in}
 use Rattle.model.specs.Bytes.{Memory, at, word, walk, running, priority, page_of, seat, queued, told_of, words_from, content_of, message_of, same_mail}
-use Rattle.model.specs.Bytes.{queue_of, state_of, differences, said_of, said, is_whole}
-use Rattle.queues.proofs.Laws.{walk_none, walk_end, walk_on}
+use Rattle.model.specs.Bytes.{queue_of, state_of, differences, said, is_whole}
 use Rattle.comparing.specs.Telling.{whole_gives, cut_gives}
 use Rattle.comparing.specs.Cursors as Cursors
 use Rattle.comparing.specs.Cursors.{names_end, next_differing, next_named, speaks, ended, name_step, names_step, second_step, first_step, judged_step, word_step}
 use Rattle.comparing.specs.Cursors.{lines_from, gives, words_step, against_step, whole_step, size_step, sizes_step, cut_step}
 use Rattle.comparing.specs.declared.Cursor.{Cursor}
 use Rattle.comparing.specs.declared.Cursor.TheVariants.{Start, Words, Names, Over}
-use Rattle.comparing.specs.declared.Cursor.TheVariants as Cursor
 use Rattle.comparing.specs.declared.Step.{Step}
 use Rattle.comparing.specs.declared.Step.TheVariants.{Tells, End}
 
--- ---- the search for an address and for a name: what is left decides; z is what the whole comes to
+-- ---- the search for an address: of n from a on
 module _ (m k : Memory) where
-  pub address_none : (n a z : ℕ) → next_differing n m k a ≡ z → n ≤ 0 → a ≡ z
+  abbrev pub differs : ℕ → Bool
+  differs i = not (eqb (get_or m i 0) (get_or k i 0))
+
+  pub address_found : (n a : ℕ) → unwrap_or (find differs (range_with_len a n)) (a + n) ≡ next_differing n m k a
   unfolding Cursors.next_differing
-  address_none zero a z i e = i
-  address_none (suc n) a z i e = absurd (omega arith)
+  address_found zero a = omega arith
+  address_found (suc n) a = go (eqb (get_or m a 0) (get_or k a 0)) (ap (λ (e : ℕ). unwrap_or (find differs (range_with_len (a + 1) n)) e) shift ∙ address_found n (a + 1))
+    where
+      shift : a + suc n ≡ a + 1 + n
+      shift = omega arith
 
-  pub address_on : (n a z : ℕ) → next_differing n m k a ≡ z → 0 < n → get_or m a 0 ≡ get_or k a 0 → next_differing (n - 1) m k (a + 1) ≡ z
+      go : (b : Bool) → unwrap_or (find differs (range_with_len (a + 1) n)) (a + suc n) ≡ next_differing n m k (a + 1)
+          → unwrap_or (cond (not b) (Some a) (find differs (range_with_len (a + 1) n))) (a + suc n) ≡ elim b [ true ↦ next_differing n m k (a + 1) | false ↦ a ]
+      go true ih = ih
+      go false ih = refl
+
+  pub address_bounds : (n a : ℕ) → (a ≤ next_differing n m k a) × (next_differing n m k a ≤ a + n)
   unfolding Cursors.next_differing
-  address_on zero a z i o e = absurd (omega arith)
-  address_on (suc n) a z i o e = simp sub-one (rw (eq-eqb (get_or m a 0) (get_or k a 0) e, Cursors.next_differing) at i)
-
-  pub address_here : (n a z : ℕ) → next_differing n m k a ≡ z → (get_or m a 0 ≡ get_or k a 0 → ⊥) → a ≡ z
-  unfolding Cursors.next_differing
-  address_here zero a z i e = i
-  address_here (suc n) a z i e = rw (ne_eqb (get_or m a 0) (get_or k a 0) e, Cursors.next_differing) at i
-
-  pub name_none : (n a z : ℕ) → next_named n m k a ≡ z → n ≤ 0 → a ≡ z
-  unfolding Cursors.next_named
-  name_none zero a z i e = i
-  name_none (suc n) a z i e = absurd (omega arith)
-
-  module _ (s : Said) (c : Bool) where
-    pub name_here : (n a z : ℕ) → next_named n m k a ≡ z → s ≡ said m k a → c ≡ speaks s → c ≡ true → a ≡ z
-    unfolding Cursors.next_named
-    name_here zero a z i es ec h = i
-    name_here (suc n) a z i es ec h = rw (← es, ← ec, h, Cursors.next_named) at i
-
-    pub name_on : (n a z : ℕ) → next_named n m k a ≡ z → 0 < n → s ≡ said m k a → c ≡ speaks s → c ≡ false → next_named (n - 1) m k (a + 1) ≡ z
-    unfolding Cursors.next_named
-    name_on zero a z i o es ec h = absurd (omega arith)
-    name_on (suc n) a z i o es ec h = simp sub-one (rw (← es, ← ec, h, Cursors.next_named) at i)
-
-pub ruleset searches = (address_none, address_on, address_here, name_none, name_here, name_on)
+  address_bounds zero a = (omega arith, omega arith)
+  address_bounds (suc n) a = go (eqb (get_or m a 0) (get_or k a 0)) (address_bounds n (a + 1))
+    where
+      go : (b : Bool) → (a + 1 ≤ next_differing n m k (a + 1)) × (next_differing n m k (a + 1) ≤ a + 1 + n)
+          → (a ≤ elim b [ true ↦ next_differing n m k (a + 1) | false ↦ a ]) × (elim b [ true ↦ next_differing n m k (a + 1) | false ↦ a ] ≤ a + suc n)
+      go true ih = (omega (arith, ih.0), omega (arith, ih.1))
+      go false ih = (omega arith, omega arith)
 
 -- ---- words one by one
-module _ (m k : Memory) (n a b : ℕ) where
-  pub words_none : n ≡ 0 → true ≡ same_words (words_from n m a) (words_from n k b)
+wrapped_next : (a j : ℕ) → wrapped (wrapped a j) 1 ≡ wrapped a (j + 1)
+wrapped_next a j = omega arith
+
+wrapped_none : (a : ℕ) → a < 8192 → wrapped a 0 ≡ a
+wrapped_none a h = omega arith
+
+module _ (m k : Memory) (a b : ℕ) where
+  abbrev pub same_at : ℕ → Bool
+  same_at i = eqb (at m (wrapped a i)) (at k (wrapped b i))
+
+  words_behind : (n j : ℕ) → list_all same_at (range_with_len j n) ≡ same_words (words_from n m (wrapped a j)) (words_from n k (wrapped b j))
   unfolding Differ.same_words Differ.words_from
-  words_none e = rw e
+  words_behind zero j = refl
+  words_behind (suc n) j =
+      let ih : list_all same_at (range_with_len (j + 1) n) ≡ same_words (words_from n m (wrapped (wrapped a j) 1)) (words_from n k (wrapped (wrapped b j) 1)) =
+      rw (wrapped_next a j, wrapped_next b j) (words_behind n (j + 1)) in
+      go (same_at j) ih
+    where
+      go : (c : Bool) → list_all same_at (range_with_len (j + 1) n) ≡ same_words (words_from n m (wrapped (wrapped a j) 1)) (words_from n k (wrapped (wrapped b j) 1))
+          → (c && list_all same_at (range_with_len (j + 1) n))
+          ≡ elim c [ true ↦ same_words (words_from n m (wrapped (wrapped a j) 1)) (words_from n k (wrapped (wrapped b j) 1)) | false ↦ false ]
+      go true ih = ih
+      go false ih = refl
 
-  module _ (x y : ℕ) (o : n ≡ 0 → ⊥) (ex : x ≡ at m a) (ey : y ≡ at k b) where
-    pub words_on : (c d : ℕ) (r : Bool) → x ≡ y → c ≡ wrapped a 1 → d ≡ wrapped b 1 → r ≡ same_words (words_from (n - 1) m c) (words_from (n - 1) k d)
-        → r ≡ same_words (words_from n m a) (words_from n k b)
-    unfolding Differ.words_from Differ.same_words
-    words_on c d r e ec ed h = go n o h
-      where
-        go : (j : ℕ) → (j ≡ 0 → ⊥) → r ≡ same_words (words_from (j - 1) m c) (words_from (j - 1) k d) → r ≡ same_words (words_from j m a) (words_from j k b)
-        go zero o h = absurd (o refl)
-        go (suc j) o h = rw (← ex, ← ey, eq-eqb x y e, same_words, ← ec, ← ed) (simp sub-one at h)
-
-    pub words_off : (x ≡ y → ⊥) → false ≡ same_words (words_from n m a) (words_from n k b)
-    unfolding Differ.words_from Differ.same_words
-    words_off e = go n o
-      where
-        go : (j : ℕ) → (j ≡ 0 → ⊥) → false ≡ same_words (words_from j m a) (words_from j k b)
-        go zero o = absurd (o refl)
-        go (suc j) o = rw (← ex, ← ey, ne_eqb x y e, same_words)
+  pub words_are : (n : ℕ) (r : Bool) → a < 8192 → b < 8192 → r ≡ list_all same_at (range_with_len 0 n) → r ≡ same_words (words_from n m a) (words_from n k b)
+  words_are n r la lb er = rw (wrapped_none a la, wrapped_none b lb) at (er ∙ words_behind n 0)
 
 -- ---- two messages, of pages p and q
 same_head : (u v : ℕ) (us vs : List ℕ) → u ≡ v → same_words (u ∷ us) (v ∷ vs) ≡ same_words us vs
@@ -120,69 +120,66 @@ module _ (m k : Memory) (p q x y : ℕ) where
     unfolding Differ.message_of Differ.same_words
     message_off e = rw (← ex, ← ey, ne_eqb x y e, same_words)
 
--- ---- the messages that hang from two cells
-module _ (m k : Memory) (n a b : ℕ) where
-  abbrev hang : Memory → ℕ → ℕ → List (List ℕ)
-  hang l i c = map (message_of l) (walk i l link c)
+pub ruleset contents = (content_on, content_off)
 
-  pub mail_none : n ≡ 0 → true ≡ same_messages (hang m n a) (hang k n b)
+pub ruleset notes = (message_on, message_off)
+
+some_length : (q : ℕ) (qs : List ℕ) → eqb (length (q ∷ qs)) 0 ≡ false
+some_length q qs = ne_eqb (length (q ∷ qs)) 0 (λ e. omega (arith, e))
+
+-- ---- the messages of two queues: pages xs and ys are left, and z is what the whole comes to
+module _ (m k : Memory) (z : Bool) where
+  abbrev pub Comes : List ℕ → List ℕ → Type 0
+  Comes xs ys = same_messages (map (message_of m) xs) (map (message_of k) ys) ≡ z
+
+  pub mail_shorter : (xs ys : List ℕ) (p : ℕ) (ps : List ℕ) → Comes xs ys → xs ≡ p ∷ ps → ys ≡ [] → false ≡ z
   unfolding Differ.same_messages
-  mail_none e = rw (walk_none n m link a e, walk_none n k link b e)
+  mail_shorter xs ys p ps h ex ey = rw (ex, ey) at h
 
-  module _ (p q : ℕ) (o : n ≡ 0 → ⊥) (ep : p ≡ at m a) (eq : q ≡ at k b) where
-    pub mail_ends : p ≡ 0 → eqb q 0 ≡ same_messages (hang m n a) (hang k n b)
+  module _ (xs ys ps qs : List ℕ) (p q : ℕ) (h : Comes xs ys) (ex : xs ≡ p ∷ ps) (ey : ys ≡ q ∷ qs) (c : Bool) (ec : c ≡ same_words (message_of m p) (message_of k q)) where
+    both_lead : elim c [ true ↦ same_messages (map (message_of m) ps) (map (message_of k) qs) | false ↦ false ] ≡ z
     unfolding Differ.same_messages
-    mail_ends z = go (eqb q 0) refl
-      where
-        go : (c : Bool) → eqb q 0 ≡ c → c ≡ same_messages (hang m n a) (hang k n b)
-        go true e = rw (walk_end n m link a p ep z, walk_end n k link b q eq (eqb-true q 0 e))
-        go false e = rw (walk_end n m link a p ep z, walk_on n k link b q (place q link) o eq (eqb-false q 0 e) refl)
+    both_lead = rw ec (rw (ex, ey) at h)
 
-    module _ (zp : p ≡ 0 → ⊥) where
-      pub mail_longer : q ≡ 0 → false ≡ same_messages (hang m n a) (hang k n b)
-      unfolding Differ.same_messages
-      mail_longer z = rw (walk_on n m link a p (place p link) o ep zp refl, walk_end n k link b q eq z)
+    pub mail_on : c ≡ true → Comes ps qs
+    mail_on e = rw e at both_lead
 
-      module _ (zq : q ≡ 0 → ⊥) (c : Bool) (ec : c ≡ same_words (message_of m p) (message_of k q)) where
-        pub mail_on : (d f : ℕ) (r : Bool) → c ≡ true → d ≡ place p link → f ≡ place q link
-            → r ≡ same_messages (hang m (n - 1) d) (hang k (n - 1) f) → r ≡ same_messages (hang m n a) (hang k n b)
-        unfolding Differ.same_messages
-        mail_on d f r h ed ef er = rw (walk_on n m link a p d o ep zp ed, walk_on n k link b q f o eq zq ef, ← ec, same_messages, h, same_messages) er
+    pub mail_off : c ≡ false → false ≡ z
+    mail_off e = rw e at both_lead
 
-        pub mail_off : c ≡ false → false ≡ same_messages (hang m n a) (hang k n b)
-        unfolding Differ.same_messages
-        mail_off h =
-            rw (walk_on n m link a p (place p link) o ep zp refl, walk_on n k link b q (place q link) o eq zq refl, ← ec, same_messages, h, same_messages)
+  pub mail_left : (xs ys : List ℕ) (b : Bool) → Comes xs ys → xs ≡ [] → b ≡ eqb (length ys) 0 → b ≡ z
+  unfolding Differ.same_messages
+  mail_left xs [] b h ex eb = eb ∙ rw ex at h
+  mail_left xs (q ∷ qs) b h ex eb = eb ∙ some_length q qs ∙ rw ex at h
 
--- ---- the queues of two headers
-pub mail_all : (m k : Memory) (a b : ℕ) (r : Bool)
-    → r ≡ same_messages (map (message_of m) (walk control_pages m link a)) (map (message_of k) (walk control_pages k link b)) → r ≡ same_mail m a k b
+-- whether a walk gives one more page
+pub over_is : (ys t : List ℕ) (o : Option ControlPage) (b : Bool) → TakesFirst (λ p. p.0) ys o t → is_some o ≡ not b → b ≡ eqb (length ys) 0
+over_is ys t None true ey e = rw ey.0
+over_is ys t None false ey e = absurd (true≢false (sym e))
+over_is ys t (Some q) true ey e = absurd (true≢false e)
+over_is ys t (Some q) false ey e = rw ey (sym (some_length q.0 t))
+
+pub mail_begin : (m k : Memory) (a b i j c d : ℕ) (xs ys : List ℕ) → xs ≡ walk control_pages m i c → c ≡ a → i ≡ link → ys ≡ walk control_pages k j d
+    → d ≡ b → j ≡ link → Comes m k (same_mail m a k b) xs ys
 unfolding Differ.same_mail Differ.messages
-mail_all m k a b r e = e
-
-pub ruleset mails = (
-  words_none,
-  words_on,
-  words_off,
-  content_on,
-  content_off,
-  message_on,
-  message_off,
-  mail_none,
-  mail_ends,
-  mail_longer,
-  mail_on,
-  mail_off,
-  mail_all,
-)
+mail_begin m k a b i j c d xs ys ex ea ei ey eb ej = rw (ex, ea, ei, ey, eb, ej)
 
 -- ---- a processor's state
 module _ (m : Memory) (x p : ℕ) (ex : x ≡ running m) where
-  pub runs_yes : x ≡ p → 1 ≡ hit (eqb (running m) p)
-  runs_yes e = rw (← ex, eq-eqb x p e)
+  pub runs_is : cond (eqb x p) 1 0 ≡ hit (eqb (running m) p)
+  runs_is = rw (← ex) (go (eqb x p))
+    where
+      go : (b : Bool) → cond b 1 0 ≡ hit b
+      go true = refl
+      go false = refl
 
-  pub runs_no : (x ≡ p → ⊥) → 0 ≡ hit (eqb (running m) p)
-  runs_no e = rw (← ex, ne_eqb x p e)
+pub queue_low : (s : ℕ) → s ≤ 245 → s ≡ queue_at s
+unfolding Differ.queue_at
+queue_low s h = rw (le-leb s 245 h)
+
+pub queue_high : (s : ℕ) → 245 < s → 1 ≡ queue_at s
+unfolding Differ.queue_at
+queue_high s h = rw (lt-leb s 245 h)
 
 module _ (m : Memory) (p s : ℕ) (c : Bool) (es : s ≡ seat interrupts m p) (ec : c ≡ queued m s p) where
   pub queue_in : (r : ℕ) → c ≡ true → r ≡ queue_at s → r ≡ queue_of m p
@@ -199,42 +196,75 @@ module _ (m : Memory) (p b u q w : ℕ) where
   unfolding Differ.state_of
   state_is eb ew eu eq = rw (← eb, ← ew, ← eu, ← eq)
 
-pub ruleset states = (runs_yes, runs_no, queue_in, queue_out, state_is)
-
 -- ---- what is said of two pages
 module _ (m k : Memory) (p q : ℕ) where
-  pub priority_is : (x y : ℕ) (r : Bool) → x ≡ priority m p → y ≡ priority k q → r ≡ not (eqb x y) → r ≡ not (eqb (priority m p) (priority k q))
-  priority_is x y r ex ey er = rw (← ex, ← ey) er
-
-  pub parts_are : (s t : State) (c d e f g h i : Bool) (a₁ b₁ a₂ b₂ : ℕ) → s ≡ state_of m p → t ≡ state_of k q → c ≡ same_state s t → d ≡ not c
-      → e ≡ not (eqb (priority m p) (priority k q)) → a₁ ≡ place p q1 → b₁ ≡ place q q1 → f ≡ same_mail m a₁ k b₁ → g ≡ not f
-      → a₂ ≡ place p q2 → b₂ ≡ place q q2 → h ≡ same_mail m a₂ k b₂ → i ≡ not h
-      → record { state = d; priority = e; q1 = g; q2 = i } ≡ differences m p k q
+  pub parts_are : (s t : State) (c f h : Bool) (x y a₁ b₁ a₂ b₂ : ℕ) → s ≡ state_of m p → t ≡ state_of k q → c ≡ same_state s t
+      → x ≡ priority m p → y ≡ priority k q → a₁ ≡ place p q1 → b₁ ≡ place q q1 → f ≡ same_mail m a₁ k b₁
+      → a₂ ≡ place p q2 → b₂ ≡ place q q2 → h ≡ same_mail m a₂ k b₂
+      → record { state = not c; priority = not (eqb x y); q1 = not f; q2 = not h } ≡ differences m p k q
   unfolding Differ.differences
-  parts_are s t c d e f g h i a₁ b₁ a₂ b₂ es et ec ed ee ea₁ eb₁ ef eg ea₂ eb₂ eh ei =
-      rw (← es, ← et, ← ec, ← ed, ← ee, ← ea₁, ← eb₁, ← ef, ← eg, ← ea₂, ← eb₂, ← eh, ← ei)
+  parts_are s t c f h x y a₁ b₁ a₂ b₂ es et ec ex ey ea₁ eb₁ ef ea₂ eb₂ eh =
+      rw (← es, ← et, ← ec, ← ex, ← ey, ← ea₁, ← eb₁, ← ef, ← ea₂, ← eb₂, ← eh)
 
-  pub said_both : (d : Parts) (r : Said) → (p ≡ 0 → ⊥) → (q ≡ 0 → ⊥) → d ≡ differences m p k q → r ≡ differs_in d → r ≡ said_of m p k q
-  unfolding Differ.said_of
-  said_both d r zp zq ed er = rw (ne_eqb p 0 zp, ne_eqb q 0 zq, ← ed) er
+-- a page that is found has its number, and page 0 is none
+none_found : (n : ℕ) → None ≡ found n → n ≡ 0
+unfolding found
+none_found n e = go (eqb n 0) refl e
+  where
+    go : (b : Bool) → eqb n 0 ≡ b → ◌≡◌ {A = Option ControlPage} None (cond b None (Some (record { 0 = n }))) → n ≡ 0
+    go true h f = eqb-true n 0 h
+    go false h f = absurd (true≢false (sym (ap is_some f)))
 
-  pub said_neither : p ≡ 0 → q ≡ 0 → Nothing ≡ said_of m p k q
-  unfolding Differ.said_of
-  said_neither zp zq = rw (eq-eqb p 0 zp, eq-eqb q 0 zq)
+some_found : (n : ℕ) (p : ControlPage) → Some p ≡ found n → (n ≡ 0 → ⊥) × (p.0 ≡ n)
+unfolding found
+some_found n p e = go (eqb n 0) refl e
+  where
+    go : (b : Bool) → eqb n 0 ≡ b → ◌≡◌ {A = Option ControlPage} (Some p) (cond b None (Some (record { 0 = n }))) → (n ≡ 0 → ⊥) × (p.0 ≡ n)
+    go true h f = absurd (true≢false (ap is_some f))
+    go false h f = (eqb-false n 0 h, ap (λ (o : Option ControlPage). (unwrap_or o p).0) f)
 
-  pub said_second : p ≡ 0 → (q ≡ 0 → ⊥) → OnlyIn Second ≡ said_of m p k q
-  unfolding Differ.said_of
-  said_second zp zq = rw (eq-eqb p 0 zp, ne_eqb q 0 zq)
+module _ (m k : Memory) (n : ℕ) (o u : Option ControlPage) (eo : o ≡ found (page_of m n)) (eu : u ≡ found (page_of k n)) where
+  pub said_neither : o ≡ None → u ≡ None → Nothing ≡ said m k n
+  unfolding Differ.said Differ.said_of
+  said_neither zo zu = rw (none_found _ (sym zo ∙ eo), none_found _ (sym zu ∙ eu))
 
-  pub said_first : (p ≡ 0 → ⊥) → q ≡ 0 → OnlyIn First ≡ said_of m p k q
-  unfolding Differ.said_of
-  said_first zp zq = rw (ne_eqb p 0 zp, eq-eqb q 0 zq)
+  module _ (q : ControlPage) (zu : u ≡ Some q) where
+    pub said_second : o ≡ None → OnlyIn Second ≡ said m k n
+    unfolding Differ.said Differ.said_of
+    said_second zo = let f = some_found _ q (sym zu ∙ eu) in rw (none_found _ (sym zo ∙ eo), ne_eqb (page_of k n) 0 f.0)
 
-pub said_is : (m k : Memory) (n p q : ℕ) (r : Said) → p ≡ page_of m n → q ≡ page_of k n → r ≡ said_of m p k q → r ≡ said m k n
-unfolding Differ.said
-said_is m k n p q r ep eq er = rw (← ep, ← eq) er
+    pub said_both : (p : ControlPage) (d : Parts) (r : Said) → o ≡ Some p → d ≡ differences m p.0 k q.0 → r ≡ differs_in d → r ≡ said m k n
+    unfolding Differ.said Differ.said_of
+    said_both p d r zo ed er =
+        let f = some_found _ q (sym zu ∙ eu) in
+        let g = some_found _ p (sym zo ∙ eo) in
+        rw (ne_eqb (page_of m n) 0 g.0, ne_eqb (page_of k n) 0 f.0, ← g.1, ← f.1, ← ed) er
 
-pub ruleset sayings = (priority_is, parts_are, said_both, said_neither, said_second, said_first, said_is)
+  pub said_first : (p : ControlPage) → o ≡ Some p → u ≡ None → OnlyIn First ≡ said m k n
+  unfolding Differ.said Differ.said_of
+  said_first p zo zu = let g = some_found _ p (sym zo ∙ eo) in rw (ne_eqb (page_of m n) 0 g.0, none_found _ (sym zu ∙ eu))
+
+pub ruleset sayings = (said_neither, said_second, said_both, said_first)
+
+-- ---- the search for a name: what is left decides; z is what the whole comes to
+module _ (m k : Memory) where
+  pub name_none : (n a z : ℕ) → next_named n m k a ≡ z → n ≤ 0 → a ≡ z
+  unfolding Cursors.next_named
+  name_none zero a z i e = i
+  name_none (suc n) a z i e = absurd (omega arith)
+
+  module _ (s : Said) (c : Bool) where
+    pub name_here : (n a z : ℕ) → next_named n m k a ≡ z → s ≡ said m k a → c ≡ speaks s → c ≡ true → a ≡ z
+    unfolding Cursors.next_named
+    name_here zero a z i es ec h = i
+    name_here (suc n) a z i es ec h = rw (← es, ← ec, h, Cursors.next_named) at i
+
+    pub name_on : (n a z : ℕ) → next_named n m k a ≡ z → 0 < n → s ≡ said m k a → c ≡ speaks s → c ≡ false → next_named (n - 1) m k (a + 1) ≡ z
+    unfolding Cursors.next_named
+    name_on zero a z i o es ec h = absurd (omega arith)
+    name_on (suc n) a z i o es ec h = simp sub-one (rw (← es, ← ec, h, Cursors.next_named) at i)
+
+pub ruleset searches = (name_none, name_here, name_on)
 
 -- ---- the steps
 module _ (m k : Memory) (t : Bool) where

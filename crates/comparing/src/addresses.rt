@@ -7,15 +7,8 @@ pub fn next_differing(first: &[u8], second: &[u8], from: usize, count: usize) ->
     requires { (from + count ≤ length first.now) × (from + count ≤ length second.now) }
     ensures { (result ≡ Cursors.next_differing count first.now second.now from) × (from ≤ result) × (result ≤ from + count) }
 {
-    let mut at = from;
-    let mut left = count;
-    while 0 < left {
-        if first[at] == second[at] {
-            at += 1;
-            left -= 1;
-            continue;
-        }
-        return at;
-    }
-    at
+    let end = from + count;
+    (from..end)
+        .find(|at| first[*at] != second[*at])
+        .unwrap_or(end)
 }

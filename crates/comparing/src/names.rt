@@ -1,18 +1,19 @@
 // What is said of a name: "processors present in only one, and for names in both whether state, priority or any queue's content differs".
-ghost use Rattle.std.specs.Prelude.{◌≡◌, not, eqb, length};
+ghost use Rattle.std.specs.Prelude.{◌≡◌, eqb};
 ghost use Rattle.model.specs.Lists.{hit};
 ghost use Rattle.model.specs.Differ as Differ;
 ghost use Rattle.model.specs.Bytes as Model;
 
 use crate::letters::same_mail;
 use model::{ControlPage, Memory, Name, Parts, Said, Side, State, map};
-use processors::{page_of, priority, queued, running, seat};
+use processors::{page_of, priority, running, seat};
 
 // A queue that no semaphore outside a processor's page stands for: one's own message wait, and none.
 const FOR_MESSAGE: u16 = 1;
 
 const NO_QUEUE: u16 = 0;
 
+#[tactic(auto, using(crate::proofs::Laws::queue_low, crate::proofs::Laws::queue_high))]
 fn queue_at(semaphore: u16) -> u16
     ensures { result ≡ Differ.queue_at semaphore }
 {
@@ -23,142 +24,85 @@ fn queue_at(semaphore: u16) -> u16
 }
 
 // The queue that the processor of a page waits in.
+#[tactic(auto, using(crate::proofs::Laws::queue_in, crate::proofs::Laws::queue_out))]
 fn queue_of(m: &Memory, page: ControlPage) -> u16
     ensures { result ≡ Model.queue_of m.now page.0 }
 {
-    let semaphore = seat(m, page, map::INTERRUPTS);
-    if queued(m, semaphore, page) {
-        return queue_at(semaphore);
+    let wait = seat(m, page, map::INTERRUPTS);
+    if wait.holds(m, page) {
+        return queue_at(wait.semaphore);
     }
     NO_QUEUE
 }
 
 // 1 if the processor of a page is the one that runs.
+#[tactic(auto, using(crate::proofs::Laws::runs_is))]
 fn runs(m: &Memory, page: ControlPage) -> u8
     ensures { result ≡ hit (eqb (Model.running m.now) page.0) }
 {
-    let runner = running(m);
-    if runner.0 == page.0 {
-        return 1;
-    }
-    0
+    u8::from(running(m).0 == page.0)
 }
 
+#[tactic(auto, using(crate::proofs::Laws::state_is))]
 fn state_of(m: &Memory, page: ControlPage) -> State
     ensures { result ≡ Model.state_of m.now page.0 }
 {
     let bits = page.word(m, map::STATE);
-    let reason = page.word(m, map::REASON);
-    let runs = runs(m, page);
-    let queue = queue_of(m, page);
     State {
         stopped: bits / map::STOP_BIT,
         waiting: bits % map::STOP_BIT / map::WAIT_BIT,
-        runs,
-        queue,
-        reason,
+        runs: runs(m, page),
+        queue: queue_of(m, page),
+        reason: page.word(m, map::REASON),
     }
 }
 
 // Whether two processors wait alike.
+#[tactic(auto, using(model::proofs::Tests::tests), unfolding(model::specs::Differ::same_wait))]
 fn same_wait(s: State, t: State) -> bool
     ensures { result ≡ Differ.same_wait s t }
 {
-    if s.queue == t.queue {
-        return s.reason == t.reason;
-    }
-    false
+    s.queue == t.queue && s.reason == t.reason
 }
 
+#[tactic(auto, using(model::proofs::Tests::tests), unfolding(model::specs::Differ::same_state))]
 fn same_state(s: State, t: State) -> bool
     ensures { result ≡ Differ.same_state s t }
 {
-    if s.stopped == t.stopped {
-        if s.waiting == t.waiting {
-            if s.runs == t.runs {
-                return same_wait(s, t);
-            }
-        }
-    }
-    false
+    s.stopped == t.stopped && (s.waiting == t.waiting && (s.runs == t.runs && same_wait(s, t)))
 }
 
-// Whether two are not the same.
-fn differ(same: bool) -> bool
-    ensures { result ≡ not same }
-{
-    if same {
-        return false;
-    }
-    true
-}
-
-// Whether the priorities of two processors differ.
-fn priorities_differ(first: &Memory, p: ControlPage, second: &Memory, q: ControlPage) -> bool
-    requires { length second.now ≡ 8192 }
-    ensures { result ≡ not (eqb (Model.priority first.now p.0) (Model.priority second.now q.0)) }
-{
-    let x = priority(first, p);
-    differ(x == priority(second, q))
-}
-
+#[tactic(auto, using(crate::proofs::Laws::parts_are))]
 fn differences(first: &Memory, p: ControlPage, second: &Memory, q: ControlPage) -> Parts
-    requires { length second.now ≡ 8192 }
     ensures { result ≡ Model.differences first.now p.0 second.now q.0 }
 {
-    let state = differ(same_state(state_of(first, p), state_of(second, q)));
-    let priority = priorities_differ(first, p, second, q);
-    let q1 = differ(same_mail(first, p.place(map::Q1), second, q.place(map::Q1)));
-    let q2 = differ(same_mail(first, p.place(map::Q2), second, q.place(map::Q2)));
     Parts {
-        state,
-        priority,
-        q1,
-        q2,
+        state: !same_state(state_of(first, p), state_of(second, q)),
+        priority: priority(first, p) != priority(second, q),
+        q1: !same_mail(first, p.place(map::Q1), second, q.place(map::Q1)),
+        q2: !same_mail(first, p.place(map::Q2), second, q.place(map::Q2)),
     }
 }
 
 // What is said of two processors of one name that differ so.
+#[tactic(auto, unfolding(model::specs::Differ::differs_in))]
 fn differs_in(parts: Parts) -> Said
     ensures { result ≡ Differ.differs_in parts }
 {
-    if parts.state {
-        return Said::DiffersIn(parts);
-    }
-    if parts.priority {
-        return Said::DiffersIn(parts);
-    }
-    if parts.q1 {
-        return Said::DiffersIn(parts);
-    }
-    if parts.q2 {
+    if parts.state || parts.priority || parts.q1 || parts.q2 {
         return Said::DiffersIn(parts);
     }
     Said::Nothing
 }
 
-// What is said where the first has no processor of the name, and where it has one.
-fn said_of(first: &Memory, p: ControlPage, second: &Memory, q: ControlPage) -> Said
-    requires { length second.now ≡ 8192 }
-    ensures { result ≡ Model.said_of first.now p.0 second.now q.0 }
-{
-    if p.0 == 0 {
-        if q.0 == 0 {
-            return Said::Nothing;
-        }
-        return Said::OnlyIn(Side::Second);
-    }
-    if q.0 == 0 {
-        return Said::OnlyIn(Side::First);
-    }
-    differs_in(differences(first, p, second, q))
-}
-
+#[tactic(auto, using(crate::proofs::Laws::sayings))]
 pub fn said(first: &Memory, second: &Memory, name: Name) -> Said
-    requires { length second.now ≡ 8192 }
     ensures { result ≡ Model.said first.now second.now name.0 }
 {
-    let p = page_of(first, name);
-    let q = page_of(second, name);
-    said_of(first, p, second, q)
+    match (page_of(first, name), page_of(second, name)) {
+        (None, None) => Said::Nothing,
+        (None, Some(_)) => Said::OnlyIn(Side::Second),
+        (Some(_), None) => Said::OnlyIn(Side::First),
+        (Some(p), Some(q)) => differs_in(differences(first, p, second, q)),
+    }
 }
