@@ -21,7 +21,7 @@ use Rattle.model.specs.Layout.{entry_bytes, label_bytes, version_of, head_bytes,
 use Rattle.model.specs.Settings as Settings
 use Rattle.model.specs.Settings.{new_length, worse, of_used, heeds_both, write_settings}
 use Rattle.laws.specs.Fits.{head_range}
-use Rattle.script.specs.Sizes.{largest_number, no_number}
+use Rattle.script.specs.Sizes.{largest_number}
 use Rattle.sheet.specs.declared.building.Due.{Due}
 use Rattle.sheet.specs.declared.building.Due.TheVariants.{Version, Byte, Label, Address, Nothing}
 use Rattle.sheet.specs.Words as Words
