@@ -44,19 +44,13 @@ fn run_line<R: Files + Print, E: Print>(
     ensures { IfOk result (λ r. (r.lent ≤ buffer_words) × (r.kept ≤ length output.old)) }
 {
     let mut given = [0u16; script::sizes::MOST_NUMBERS];
-    let order = script::parse(line, &mut given);
-    obey(
-        rt,
-        errors,
-        m,
-        old,
-        output,
-        line,
-        &given,
-        order,
-        place,
-        line_number,
-    )
+    let Some(order) = script::parse(line, &mut given) else {
+        return Ok(After {
+            lent: place.lent,
+            kept: not_understood(output, place.kept, line_number),
+        });
+    };
+    obey(rt, errors, m, old, output, line, &given, order, place)
 }
 
 // The place of the first line feed from `at` on, or the end; `left` bytes are left.

@@ -14,7 +14,7 @@ use lending::gather;
 use model::{Answer, Held, Registers, Verdict, Writing, map};
 use screen::broken::broken;
 use screen::kept::write;
-use screen::lines::{answer, held, not_allowed, not_understood, verdict, writing};
+use screen::lines::{answer, held, not_allowed, verdict, writing};
 use screen::pieces::{text, word};
 use screen::state;
 use script::{Order, Seven};
@@ -125,7 +125,7 @@ fn save_as<R: Files + Print, E: Print>(
     ensures { IfOk result (λ r. r ≤ length output.old) }
 {
     let none = write(rt, output, kept)?;
-    if replace(rt, errors, name, &m[0..lent]) {
+    if replace(rt, errors, name, &m[0..lent]).is_ok() {
         return Ok(writing(output, none, Writing::Written(lent)));
     }
     Ok(none)
@@ -169,7 +169,6 @@ pub fn obey<R: Files + Print, E: Print>(
     given: &[u16],
     order: Order,
     place: After,
-    line_number: u64,
 ) -> io::Result<After>
     requires { (length m.old ≡ buffer_words) × (length old.old ≡ buffer_words) × (length given.now ≡ most_numbers) × (place.lent ≤ buffer_words)
         × (place.kept + line_room ≤ length output.old) }
@@ -179,7 +178,6 @@ pub fn obey<R: Files + Print, E: Print>(
     let kept = place.kept;
     let then = match order {
         Order::Nothing => kept,
-        Order::NotUnderstood => not_understood(output, kept, line_number),
         Order::Fresh(clock, divider) => answer(output, kept, fresh(m, lent, clock, divider)),
         Order::Step => answer(output, kept, step(m, lent)),
         Order::Interrupt(number, class) => answer(output, kept, interrupt(m, lent, number, class)),

@@ -8,7 +8,7 @@ ghost use Rattle.report.specs.Sizes.{output_bytes};
 
 use comparing::{Cursor, Step, next};
 use files::saying::fail_missing;
-use files::{Got, name_of, read_file, word_count};
+use files::{Unread, name_of, read_file, word_count};
 use lines::tell_line;
 use screen::kept::{room, write};
 use std::env::Env;
@@ -67,13 +67,13 @@ fn read<R: Env + Files, E: Print>(rt: &R, errors: &E, number: usize, file: &mut 
     let mut name = [0u8; NAME_ROOM];
     let end = name_of(rt, number, &mut name);
     match read_file(rt, errors, &name[..end], file) {
-        Got::Has(count) => count,
-        Got::TooLong => 0,
-        Got::Missing => {
+        Ok(count) => count,
+        Err(Unread::TooLong) => 0,
+        Err(Unread::Missing) => {
             fail_missing(errors, &name[..end]);
             NOT_READ
         }
-        Got::Failed => NOT_READ,
+        Err(Unread::Told) => NOT_READ,
     }
 }
 

@@ -21,10 +21,7 @@ use Rattle.model.specs.Layout.{entry_bytes, label_bytes, version_of, head_bytes,
 use Rattle.model.specs.Settings as Settings
 use Rattle.model.specs.Settings.{new_length, worse, of_used, heeds_both, write_settings}
 use Rattle.laws.specs.Fits.{head_range}
-use Rattle.files.proofs.Laws.{reading}
-use Rattle.script.specs.Sizes.{largest_number, no_number}
-use Rattle.script.specs.Script.{digits}
-use Rattle.script.specs.declared.reading.Figures.{Figures}
+use Rattle.script.specs.Sizes.{largest_number}
 use Rattle.sheet.specs.declared.building.Due.{Due}
 use Rattle.sheet.specs.declared.building.Due.TheVariants.{Version, Byte, Label, Address, Nothing}
 use Rattle.sheet.specs.Words as Words
@@ -33,19 +30,6 @@ use Rattle.sheet.specs.Words.{byte_taken, version_taken, address_taken, label_ta
 use Rattle.sheet.specs.Words.Built.{built}
 
 -- ---- a word as a number
-module _ (w : List ℕ) (d : Figures) where
-  pub number_empty : length w ≡ 0 → no_number ≡ number_of w
-  unfolding Words.number_of
-  number_empty h = rw (eq-eqb (length w) 0 h)
-
-  pub number_whole : (length w ≡ 0 → ⊥) → d ≡ digits (length w) w 0 0 → d.next ≡ length w → d.value ≡ number_of w
-  unfolding Words.number_of
-  number_whole h e z = rw (ne_eqb (length w) 0 h, ← e, eq-eqb d.next (length w) z)
-
-  pub number_part : (length w ≡ 0 → ⊥) → d ≡ digits (length w) w 0 0 → (d.next ≡ length w → ⊥) → no_number ≡ number_of w
-  unfolding Words.number_of
-  number_part h e z = rw (ne_eqb (length w) 0 h, ← e, ne_eqb d.next (length w) z)
-
 -- ---- what the next word is
 pub head_none : (v : ℕ) → v ≡ 0 → 4 ≡ head_of v
 unfolding Words.head_of
@@ -68,7 +52,7 @@ module _ (v n h : ℕ) (d : Due) (z : n ≡ 0 → ⊥) (e : h ≡ head_of v) whe
   unfolding Words.due_at
   due_groups l ed = rw (ne_eqb n 0 z, ← e, le-ltb n h l) ed
 
-pub ruleset numbering = (number_empty, number_whole, number_part, head_none, head_some, due_first, due_head, due_groups)
+pub ruleset numbering = (head_none, head_some, due_first, due_head, due_groups)
 
 -- ---- what a word adds: x is its number
 module _ (l : List ℕ) (w b : List ℕ) (x : ℕ) (ex : x ≡ number_of w) where
@@ -189,11 +173,14 @@ written_fits l l₁ b u n r e z long = go (ltb (length l) u) (worse (of_used (ta
         let m : n ≡ new_length u b = cc in
         omega (arith, ltb-false (length l) (new_length u b) ey)
 
+pub counts_is : (l : List ℕ) (n : ℕ) → n ≤ length l → n ≡ length (take n l)
+counts_is l n h = sym (length-take-le n l h)
+
 pub file_good : (f : List ℕ) (o : Fit) → o ≡ of_file f → o ≡ Good → is_good (of_file f) ≡ true
 unfolding Layout.is_good
 file_good f o e h = rw (← e, h)
 
-pub ruleset files = (reading, written_fits, file_good)
+pub ruleset files = (written_fits, counts_is, file_good)
 
 -- ---- the next word: v is the buffer's first byte, d what the word is
 head_of_most : (v : ℕ) → head_of v ≤ 17

@@ -1,11 +1,10 @@
 -- What the words behind FILE build: "VERSION LINE DIVIDER [SITE [LABEL]] NAME PRIORITY W ADDRESS ..". A word is a list of bytes, w; b are the bytes of the
 -- block that the words before it have built. The number of entries stands there as 0 until the last word is taken.
-use Rattle.std.specs.Prelude.{ℕ, ◌-◌, ◌/◌, ◌%◌, cond, List, [], ◌∷◌, ◌++◌, eqb, ltb, leb, length, get_or, set, take, replicate}
+use Rattle.std.specs.Prelude.{ℕ, ◌-◌, ◌/◌, ◌%◌, cond, List, [], ◌∷◌, ◌++◌, eqb, ltb, leb, length, get_or, set, take, replicate, Some, None}
 use Rattle.model.specs.Map.{a_word, word_values}
 use Rattle.model.specs.Layout.{entry_bytes, label_place, label_bytes, version_of, head_bytes}
 use Rattle.script.specs.Sizes.{largest_number, no_number}
-use Rattle.script.specs.Script.{digits}
-use Rattle.script.specs.declared.reading.Figures.{Figures}
+use Rattle.script.specs.Script.{whole_number}
 use Rattle.sheet.specs.declared.building.Due.{Due}
 use Rattle.sheet.specs.declared.building.Due.TheVariants.{Version, Byte, Label, Address, Nothing}
 
@@ -25,10 +24,7 @@ no_block = 1293
 
 -- ---- "Numbers are digits": a word as a number; no_number where it has none, another character, or is over 65535
 unfoldable pub number_of : List ℕ → ℕ
-number_of w = cond (eqb (length w) 0) no_number (whole (digits (length w) w 0 0))
-  where
-    whole : Figures → ℕ
-    whole d = cond (eqb d.next (length w)) d.value no_number
+number_of w = elim (whole_number w) [ None ↦ no_number | Some x ↦ x ]
 
 -- ---- what the next word is: v is the version, n the number of bytes that are there
 -- "SITE is there from version 2 on, LABEL from version 3 on (a version over 3 has both, 0 none ..)"

@@ -8,7 +8,7 @@ ghost use Rattle.sheet.specs.Words as Words;
 use crate::sizes;
 use files::laying::lay;
 use model::layout;
-use script::reading::digits;
+use script::reading::whole_number;
 use settings::block::head_bytes;
 
 // What the next word is: the version, a byte, the label, an address; or there is room for none.
@@ -22,17 +22,11 @@ pub enum Due {
 }
 
 // A word as a number; 65536 where it is none, or a larger one.
+#[tactic(auto, unfolding(crate::specs::Words::number_of))]
 fn number_of(word: &[u8]) -> u32
     ensures { result ≡ Words.number_of word.now }
 {
-    if word.len() == 0 {
-        return script::sizes::NO_NUMBER;
-    }
-    let figures = digits(word, 0, word.len(), 0);
-    if figures.next == word.len() {
-        return figures.value;
-    }
-    script::sizes::NO_NUMBER
+    whole_number(word).map_or(script::sizes::NO_NUMBER, u32::from)
 }
 
 // How long the head of a block is; that of version 0, which the call refuses, is the shortest.
