@@ -1,8 +1,9 @@
 // What is to be written is kept, so that many lines are one write. A line is put together from its pieces, and has room: `write!` answers a Result, and these
 // lines cannot fail.
-ghost use Rattle.std.specs.Prelude.{◌≡◌, ◌≤◌, ◌+◌, ◌++◌, ℕ, List, [], IfOk, length, take};
+ghost use Rattle.std.specs.Prelude.{◌≡◌, ◌≤◌, ◌+◌, ◌++◌, ℕ, List, [], IfOk, length};
 ghost use Rattle.screen.specs.Sizes.{line_room, kept_room};
 
+use arrayvec::ArrayVec;
 use itoa::{Buffer, Integer};
 use std::io;
 use std::marker::Model;
@@ -17,17 +18,14 @@ const LINE_ROOM: usize = 160;
 // The bytes that are kept.
 #[derive(Drop)]
 pub struct Kept {
-    bytes: [u8; KEPT_ROOM],
-    end: usize,
+    bytes: ArrayVec<u8, KEPT_ROOM>,
 }
 
 // Clauses see the bytes.
 impl Model for Kept {
     ghost Value = { List ℕ };
 
-    ghost view = { λ k. take k.end k.bytes };
-
-    ghost invariant = { λ k. k.end ≤ kept_room };
+    ghost view = { λ k. k.bytes.items };
 }
 
 impl Kept {
@@ -35,8 +33,7 @@ impl Kept {
         ensures { result ≡ [] }
     {
         Kept {
-            bytes: [0; KEPT_ROOM],
-            end: 0,
+            bytes: ArrayVec::new(),
         }
     }
 
@@ -44,9 +41,8 @@ impl Kept {
     pub fn write<P: Print>(&mut self, rt: &P) -> io::Result<()>
         ensures { IfOk result (λ _. self.new ≡ []) }
     {
-        let all = &self.bytes[..];
-        rt.write_all(&all[..self.end])?;
-        self.end = 0;
+        rt.write_all(self.bytes.as_slice())?;
+        self.bytes.clear();
         Ok(())
     }
 
@@ -54,7 +50,7 @@ impl Kept {
     pub fn make_room<P: Print>(&mut self, rt: &P) -> io::Result<()>
         ensures { IfOk result (λ _. length self.new + line_room ≤ kept_room) }
     {
-        if LINE_ROOM <= KEPT_ROOM - self.end {
+        if LINE_ROOM <= self.bytes.remaining_capacity() {
             return Ok(());
         }
         self.write(rt)
@@ -65,10 +61,7 @@ impl Kept {
         ensures bytes { self.new ≡ self.old ++ characters.now }
         ensures long { length self.new ≡ length self.old + length characters.now }
     {
-        let end = self.end + characters.len();
-        let all = &mut self.bytes[..];
-        all[self.end..end].copy_from_slice(characters.as_bytes());
-        self.end = end;
+        let _fits = self.bytes.try_extend_from_slice(characters.as_bytes());
     }
 
     pub fn number<I: Integer>(&mut self, value: I)
