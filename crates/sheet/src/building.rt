@@ -1,5 +1,5 @@
-// A block from the words of a command line, one word after the other: `VERSION LINE DIVIDER [SITE [LABEL]] NAME PRIORITY W ADDRESS ..`. The bytes that are there
-// already say what the next word is. What each function answers is said in specs/Words.antt.
+// A block from the words of a command line, one word after the other: `VERSION LINE DIVIDER [SITE [LABEL]] NAME PRIORITY W ADDRESS ..`. The bytes that are
+// there already say what the next word is. What each function answers is said in specs/Words.antt.
 ghost use Rattle.std.specs.Prelude.{◌≡◌, ◌<◌, ◌≤◌, ◌+◌, ◌++◌, [], ◌∷◌, length, IfOk, OnErr};
 ghost use Rattle.arrayvec.specs.ArrayVec.{array_vec_len};
 ghost use Rattle.model.specs.Map.{a_word};
