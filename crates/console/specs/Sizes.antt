@@ -4,7 +4,3 @@ use Rattle.std.specs.Prelude.{ℕ}
 -- what is read ahead of a script
 abbrev pub ahead_bytes : ℕ
 ahead_bytes = 4096
-
--- what is kept of the output until it is written
-abbrev pub output_bytes : ℕ
-output_bytes = 4096

@@ -1,16 +1,16 @@
 // The script program: runs a script, from standard input or from a file, on one memory and prints what came of it.
 #![tactic(auto)]
 
-mod copies;
+mod desk;
 mod input;
 mod memory;
 mod orders;
 mod sizes;
 
+use desk::Desk;
 use files::saying::{fail, path_of};
 use files::word_count;
 use input::run;
-use lending::sizes::BUFFER_WORDS;
 use std::env::Env;
 use std::fs::{File, Files};
 use std::io;
@@ -22,11 +22,7 @@ fn run_script<R: Files + Print, E: Print, I: Read>(
     errors: &E,
     input: &mut I,
 ) -> io::Result<()> {
-    let mut m = [0u8; BUFFER_WORDS];
-    let mut old = [0u8; BUFFER_WORDS];
-    let mut output = [0u8; sizes::OUTPUT_BYTES];
-    let mut ahead = [0u8; sizes::AHEAD_BYTES];
-    run(rt, errors, input, &mut m, &mut old, &mut output, &mut ahead)
+    run(&mut Desk::new(rt, errors), input)
 }
 
 fn open<R: Files>(rt: &R, name: &[u8]) -> io::Result<R::File> {
@@ -47,10 +43,7 @@ fn run_named<R: Files + Print, E: Print>(rt: &R, errors: &E, name: &[u8]) -> io:
 // Runs the script in the file that the program's argument names.
 fn run_file<R: Env + Files + Print, E: Print>(rt: &R, errors: &E) -> io::Result<()> {
     let mut name = [0u8; sizes::NAME_BYTES];
-    let end = match rt.arg(1, &mut name) {
-        Ok(end) => end,
-        Err(_) => 0,
-    };
+    let end = rt.arg(1, &mut name).unwrap_or(0);
     run_named(rt, errors, &name[..end])
 }
 

@@ -1,232 +1,114 @@
-// What a script does to the program's 8,200 words between calls: the host's store, looks, what has changed, and how much is lent. What is printed
-// is kept at the start of the output, or written at once behind what is kept.
-ghost use Rattle.std.specs.Prelude.{◌≡◌, ◌+◌, ◌<◌, ◌≤◌, IfOk, length};
-ghost use Rattle.script.specs.Sizes.{most_numbers};
-ghost use Rattle.screen.specs.Sizes.{line_room};
-ghost use Rattle.lending.specs.Sizes.{buffer_words};
-
+// What a script does to the program's 8,200 words between calls: the host's store, looks, what has changed, how much is lent, and settings. Where nothing is
+// printed at once, what is kept stays.
+use crate::desk::{Desk, Failure};
 use crate::sizes;
 use lending::sizes::BUFFER_WORDS;
-use lending::store_word;
-use model::map;
-use screen::kept::write;
-use screen::lines::not_allowed;
-use screen::pieces::{number, text, word};
+use lending::{fresh_from, write_in};
+use model::{Answer, Writing, map};
+use script::Five;
 use std::io;
 use words::{guarded, low};
 
-// What a line leaves: how many words a call is lent from then on, and how many bytes of the output are kept, to be written.
-#[derive(Clone, Copy)]
-pub struct After {
-    pub lent: usize,
-    pub kept: usize,
-}
-
 // Whether the host may store at an address: page 0 and unprotected words.
 fn is_open(address: u16) -> bool {
-    if address < map::PAGE_SIZE {
-        return true;
-    }
-    if guarded(address) {
-        return false;
-    }
-    true
+    address < map::PAGE_SIZE || !guarded(address)
 }
 
-fn all_open(address: u16, count: u16) -> bool
-    requires { address + count ≤ buffer_words }
-{
-    let mut left = count;
-    while 0 < left {
-        left -= 1;
-        if is_open(address + left) {
-            continue;
+// So many words in a line, a space between two.
+fn words_line<P: Print>(rt: &P, words: &[u8]) -> io::Result<()> {
+    let mut space = "";
+    for word in words {
+        print!(rt; "{space}{word}")?;
+        space = " ";
+    }
+    println!(rt; "")
+}
+
+impl<'a, R: Print, E> Desk<'a, R, E> {
+    // The values go to any of the 8,200 words; nothing is stored where one is wrong.
+    pub fn put_anywhere(&mut self, address: u16, values: &[u16]) -> Result<(), Failure> {
+        let at = address as usize;
+        let end = at + values.len();
+        if BUFFER_WORDS < end || values.iter().any(|value| map::WORD_VALUES <= *value) {
+            return Err(Failure::NotAllowed);
         }
-        return false;
-    }
-    true
-}
-
-// Whether the values behind the address, given[1] to given[count], are words.
-fn all_words(given: &[u16], count: usize) -> bool
-    requires { count < length given.now }
-{
-    let mut left = count;
-    while 0 < left {
-        if map::WORD_VALUES <= given[left] {
-            return false;
+        for (word, value) in self.m[at..end].iter_mut().zip(values) {
+            *word = low(*value);
         }
-        left -= 1;
+        Ok(())
     }
-    true
-}
 
-// The values given[1] to given[count] go to a place and the ones behind it.
-fn store(m: &mut [u8], at: usize, given: &[u16], count: usize)
-    requires { (at + count ≤ length m.old) × (count < length given.now) }
-{
-    let mut left = count;
-    while 0 < left {
-        let value = low(given[left]);
-        left -= 1;
-        m[at + left] = value;
+    // The host's store.
+    pub fn put(&mut self, address: u16, values: &[u16]) -> Result<(), Failure> {
+        let end = address as usize + values.len();
+        if BUFFER_WORDS < end {
+            return Err(Failure::NotAllowed);
+        }
+        if (address..end as u16).all(is_open) {
+            return self.put_anywhere(address, values);
+        }
+        Err(Failure::NotAllowed)
     }
-}
 
-// The values go to any of the 8,200 words; nothing is stored where one is wrong. Answers what is kept of the output then, as each order does.
-pub fn put_anywhere(
-    m: &mut [u8],
-    output: &mut [u8],
-    kept: usize,
-    given: &[u16],
-    address: u16,
-    count: usize,
-) -> usize
-    requires { (length m.old ≡ buffer_words) × (length given.now ≡ most_numbers) × (kept + line_room ≤ length output.old) }
-    ensures { result ≤ length output.old }
-{
-    let at = address as usize;
-    if script::sizes::MOST_VALUES < count {
-        return not_allowed(output, kept);
+    // The words are written at once, behind what is kept.
+    pub fn look(&mut self, address: u16, count: u16) -> Result<(), Failure> {
+        let at = address as usize;
+        let end = at + count as usize;
+        if count == 0 || sizes::MOST_LOOKED_AT < count || BUFFER_WORDS < end {
+            return Err(Failure::NotAllowed);
+        }
+        self.write()?;
+        words_line(self.rt, &self.m[at..end])?;
+        Ok(())
     }
-    if BUFFER_WORDS < at + count {
-        return not_allowed(output, kept);
-    }
-    if all_words(given, count) {
-        store(m, at, given, count);
-        return kept;
-    }
-    not_allowed(output, kept)
-}
 
-// The host's store.
-pub fn put(
-    m: &mut [u8],
-    output: &mut [u8],
-    kept: usize,
-    given: &[u16],
-    address: u16,
-    count: usize,
-) -> usize
-    requires { (length m.old ≡ buffer_words) × (length given.now ≡ most_numbers) × (kept + line_room ≤ length output.old) }
-    ensures { result ≤ length output.old }
-{
-    if script::sizes::MOST_VALUES < count {
-        return not_allowed(output, kept);
+    // The words that have changed are written at once, behind what is kept.
+    pub fn changes(&mut self) -> io::Result<()> {
+        self.write()?;
+        for (at, (is, was)) in self.m.iter().zip(&self.old).enumerate() {
+            if is != was {
+                println!(self.rt; "{at} {was} {is}")?;
+            }
+        }
+        let changed = self
+            .m
+            .iter()
+            .zip(&self.old)
+            .filter(|(is, was)| is != was)
+            .count();
+        self.old.copy_from_slice(&self.m);
+        println!(self.rt; "changed {changed}")
     }
-    if BUFFER_WORDS < (address as usize) + count {
-        return not_allowed(output, kept);
-    }
-    if all_open(address, count as u16) {
-        return put_anywhere(m, output, kept, given, address, count);
-    }
-    not_allowed(output, kept)
-}
 
-// So many words from a place on, a space before each.
-fn tell_words<P: Print>(rt: &P, m: &[u8], at: usize, count: usize) -> io::Result<()>
-    requires { at + count ≤ length m.now }
-{
-    if count == 0 {
-        return Ok(());
+    // What is lent from now on.
+    pub fn lend(&mut self, wanted: u16) -> Result<(), Failure> {
+        let count = wanted as usize;
+        if BUFFER_WORDS < count {
+            return Err(Failure::NotAllowed);
+        }
+        self.lent = count;
+        Ok(())
     }
-    text(rt, b" ")?;
-    word(rt, m[at])?;
-    tell_words(rt, m, at + 1, count - 1)
-}
 
-// So many words, at least one, in a line.
-fn words_line<P: Print>(rt: &P, m: &[u8], at: usize, count: usize) -> io::Result<()>
-    requires { (0 < count) × (at + count ≤ length m.now) }
-{
-    word(rt, m[at])?;
-    tell_words(rt, m, at + 1, count - 1)?;
-    text(rt, b"\n")
-}
+    // `settings ADDRESS LENGTH`: the file stands in some of the 8,200 words, whatever is lent of them.
+    pub fn settings(&mut self, address: u16, long: u16) -> Result<Answer, Failure> {
+        let at = address as usize;
+        let count = long as usize;
+        if BUFFER_WORDS < at + count {
+            return Err(Failure::NotAllowed);
+        }
+        Ok(fresh_from(&mut self.m, self.lent, at, count))
+    }
 
-// The words are written at once, behind what is kept.
-pub fn look<P: Print>(
-    rt: &P,
-    m: &[u8],
-    output: &mut [u8],
-    kept: usize,
-    address: u16,
-    count: u16,
-) -> io::Result<usize>
-    requires { (length m.now ≡ buffer_words) × (kept + line_room ≤ length output.old) }
-    ensures { IfOk result (λ r. r ≤ length output.old) }
-{
-    let at = address as usize;
-    let left = count as usize;
-    if left == 0 {
-        return Ok(not_allowed(output, kept));
+    // `write FILE ROOM USED BLOCK LENGTH`, likewise.
+    pub fn write_settings(&mut self, wanted: Five) -> Result<Writing, Failure> {
+        let file = wanted.file as usize;
+        let room = wanted.room as usize;
+        let block = wanted.block as usize;
+        let long = wanted.length as usize;
+        if BUFFER_WORDS < file + room || BUFFER_WORDS < block + long {
+            return Err(Failure::NotAllowed);
+        }
+        Ok(write_in(&mut self.m, file, room, wanted.used as usize, block, long))
     }
-    if sizes::MOST_LOOKED_AT < left {
-        return Ok(not_allowed(output, kept));
-    }
-    if BUFFER_WORDS < at + left {
-        return Ok(not_allowed(output, kept));
-    }
-    let none = write(rt, output, kept)?;
-    words_line(rt, m, at, left)?;
-    Ok(none)
-}
-
-// A word is compared with what it was, which it then becomes. Answers 1 where it differs.
-fn change<P: Print>(rt: &P, m: &[u8], old: &mut [u8], at: usize) -> io::Result<u64>
-    requires { (at < length m.now) × (at < length old.old) }
-    ensures { IfOk result (λ r. r ≤ 1) }
-{
-    let was = old[at];
-    let is = m[at];
-    if was == is {
-        return Ok(0);
-    }
-    number(rt, at as u64)?;
-    text(rt, b" ")?;
-    word(rt, was)?;
-    text(rt, b" ")?;
-    word(rt, is)?;
-    text(rt, b"\n")?;
-    store_word(old, at, is);
-    Ok(1)
-}
-
-// The words that have changed are written at once, behind what is kept.
-pub fn changes<P: Print>(
-    rt: &P,
-    m: &[u8],
-    old: &mut [u8],
-    output: &[u8],
-    kept: usize,
-) -> io::Result<usize>
-    requires { (length m.now ≡ buffer_words) × (length old.old ≡ buffer_words) × (kept ≤ length output.now) }
-    ensures { IfOk result (λ r. r ≡ 0) }
-{
-    let none = write(rt, output, kept)?;
-    let mut at = 0;
-    let mut changed = 0;
-    while at < BUFFER_WORDS {
-        changed += change(rt, m, old, at)?;
-        at += 1;
-    }
-    text(rt, b"changed ")?;
-    number(rt, changed)?;
-    text(rt, b"\n")?;
-    Ok(none)
-}
-
-// What is lent from now on.
-pub fn lend(output: &mut [u8], kept: usize, lent: usize, wanted: u16) -> After
-    requires { (lent ≤ buffer_words) × (kept + line_room ≤ length output.old) }
-    ensures { (result.lent ≤ buffer_words) × (result.kept ≤ length output.old) }
-{
-    let count = wanted as usize;
-    if BUFFER_WORDS < count {
-        return After {
-            lent,
-            kept: not_allowed(output, kept),
-        };
-    }
-    After { lent: count, kept }
 }

@@ -1,127 +1,114 @@
 // The lines of two memories as they are printed. They are kept, to be written with others; where a line begins there is room for one.
-ghost use Rattle.std.specs.Prelude.{◌≤◌, ◌+◌, IfOk, length};
-ghost use Rattle.screen.specs.Sizes.{line_room};
+ghost use Rattle.std.specs.Prelude.{◌≤◌, ◌+◌, length};
+ghost use Rattle.screen.specs.Sizes.{line_room, kept_room};
 ghost use Rattle.report.specs.Sizes.{side_room, name_room, parts_room};
 
 use model::{Answer, Line, Parts, Said, Side};
-use screen::kept::{address, room, text, word};
-use screen::lines::answer;
+use screen::kept::Kept;
 use std::io;
 
 // Which of the two.
-fn side(output: &mut [u8], kept: usize, given: Side) -> usize
-    requires { kept + side_room ≤ length output.old }
-    ensures { result ≤ kept + side_room }
+fn side(given: Side) -> &'static str
+    ensures { length result.now ≤ side_room }
 {
     match given {
-        Side::First => text(output, kept, b"first"),
-        Side::Second => text(output, kept, b"second"),
+        Side::First => "first",
+        Side::Second => "second",
     }
 }
 
 // An address, and what stands there in the first and in the second.
-fn word_line(output: &mut [u8], kept: usize, at: u16, first: u8, second: u8) -> usize
-    requires { kept + line_room ≤ length output.old }
-    ensures { result ≤ length output.old }
+fn word_line(kept: &mut Kept, at: u16, first: u8, second: u8)
+    requires { length kept.old + line_room ≤ kept_room }
 {
-    let placed = address(output, kept, at);
-    let parted = text(output, placed, b" ");
-    let one = word(output, parted, first);
-    let again = text(output, one, b" ");
-    let both = word(output, again, second);
-    text(output, both, b"\n")
+    kept.number(at);
+    kept.text(" ");
+    kept.number(first);
+    kept.text(" ");
+    kept.number(second);
+    kept.text("\n");
 }
 
 // The refusal of one of the two, as that of a call.
-fn refusal<P: Print>(
-    rt: &P,
-    output: &mut [u8],
-    kept: usize,
-    of: Side,
-    given: Answer,
-) -> io::Result<usize>
-    requires { kept + line_room ≤ length output.old }
-    ensures { IfOk result (λ r. r ≤ length output.old) }
+fn refusal<P: Print>(rt: &P, kept: &mut Kept, of: Side, given: Answer) -> io::Result<()>
+    requires { length kept.old + line_room ≤ kept_room }
 {
-    let named = side(output, kept, of);
-    let parted = text(output, named, b": ");
-    let there = room(rt, output, parted)?;
-    Ok(answer(output, there, given))
+    kept.text(side(of));
+    kept.text(": ");
+    kept.make_room(rt)?;
+    kept.answer(given);
+    Ok(())
 }
 
 // The beginning of a processor's line.
-fn processor(output: &mut [u8], kept: usize, name: u8) -> usize
-    requires { kept + name_room ≤ length output.old }
-    ensures { result ≤ kept + name_room }
+fn processor(kept: &mut Kept, name: u8)
+    requires { length kept.old + name_room ≤ kept_room }
+    ensures { length kept.new ≤ length kept.old + name_room }
 {
-    let begun = text(output, kept, b"processor ");
-    let named = word(output, begun, name);
-    text(output, named, b": ")
+    kept.text("processor ");
+    kept.number(name);
+    kept.text(": ");
 }
 
-fn only_in(output: &mut [u8], kept: usize, name: u8, given: Side) -> usize
-    requires { kept + line_room ≤ length output.old }
-    ensures { result ≤ length output.old }
+fn only_in(kept: &mut Kept, name: u8, given: Side)
+    requires { length kept.old + line_room ≤ kept_room }
 {
-    let begun = processor(output, kept, name);
-    let only = text(output, begun, b"only in ");
-    let told = side(output, only, given);
-    text(output, told, b"\n")
+    processor(kept, name);
+    kept.text("only in ");
+    kept.text(side(given));
+    kept.text("\n");
 }
 
 // One of the parts, if it differs.
-fn part(output: &mut [u8], kept: usize, differs: bool, name: &[u8]) -> usize
-    requires { kept + length name.now ≤ length output.old }
-    ensures { result ≤ kept + length name.now }
+fn part(kept: &mut Kept, differs: bool, name: &str)
+    requires { length kept.old + length name.now ≤ kept_room }
+    ensures { length kept.new ≤ length kept.old + length name.now }
 {
     if differs {
-        return text(output, kept, name);
+        kept.text(name);
     }
-    kept
 }
 
 // The parts that differ, a space before each.
-fn parts(output: &mut [u8], kept: usize, given: Parts) -> usize
-    requires { kept + parts_room ≤ length output.old }
-    ensures { result ≤ kept + parts_room }
+fn parts(kept: &mut Kept, given: Parts)
+    requires { length kept.old + parts_room ≤ kept_room }
+    ensures { length kept.new ≤ length kept.old + parts_room }
 {
-    let state = part(output, kept, given.state, b" state");
-    let priority = part(output, state, given.priority, b" priority");
-    let q1 = part(output, priority, given.q1, b" Q1");
-    part(output, q1, given.q2, b" Q2")
+    part(kept, given.state, " state");
+    part(kept, given.priority, " priority");
+    part(kept, given.q1, " Q1");
+    part(kept, given.q2, " Q2");
 }
 
-fn differs_in(output: &mut [u8], kept: usize, name: u8, given: Parts) -> usize
-    requires { kept + line_room ≤ length output.old }
-    ensures { result ≤ length output.old }
+fn differs_in(kept: &mut Kept, name: u8, given: Parts)
+    requires { length kept.old + line_room ≤ kept_room }
 {
-    let begun = processor(output, kept, name);
-    let differs = text(output, begun, b"differs in");
-    let told = parts(output, differs, given);
-    text(output, told, b"\n")
+    processor(kept, name);
+    kept.text("differs in");
+    parts(kept, given);
+    kept.text("\n");
 }
 
 // What is said of a name; no line where that is nothing.
-fn processor_line(output: &mut [u8], kept: usize, name: u8, said: Said) -> usize
-    requires { kept + line_room ≤ length output.old }
-    ensures { result ≤ length output.old }
+fn processor_line(kept: &mut Kept, name: u8, said: Said)
+    requires { length kept.old + line_room ≤ kept_room }
 {
     match said {
-        Said::Nothing => kept,
-        Said::OnlyIn(given) => only_in(output, kept, name, given),
-        Said::DiffersIn(given) => differs_in(output, kept, name, given),
+        Said::Nothing => {}
+        Said::OnlyIn(given) => only_in(kept, name, given),
+        Said::DiffersIn(given) => differs_in(kept, name, given),
     }
 }
 
-pub fn tell_line<P: Print>(rt: &P, output: &mut [u8], kept: usize, line: Line) -> io::Result<usize>
-    requires { kept + line_room ≤ length output.old }
-    ensures { IfOk result (λ r. r ≤ length output.old) }
+pub fn tell_line<P: Print>(rt: &P, kept: &mut Kept, line: Line) -> io::Result<()>
+    requires { length kept.old + line_room ≤ kept_room }
 {
     match line {
-        Line::Word(at, first, second) => Ok(word_line(output, kept, at, first, second)),
-        Line::Refused(of, n) => refusal(rt, output, kept, of, Answer::Refused(n)),
-        Line::RefusedAt(of, n, place) => refusal(rt, output, kept, of, Answer::RefusedAt(n, place)),
-        Line::Processor(name, said) => Ok(processor_line(output, kept, name, said)),
-        Line::Same => Ok(text(output, kept, b"same\n")),
+        Line::Word(at, first, second) => word_line(kept, at, first, second),
+        Line::Refused(of, n) => refusal(rt, kept, of, Answer::Refused(n))?,
+        Line::RefusedAt(of, n, place) => refusal(rt, kept, of, Answer::RefusedAt(n, place))?,
+        Line::Processor(name, said) => processor_line(kept, name, said),
+        Line::Same => kept.text("same\n"),
     }
+    Ok(())
 }

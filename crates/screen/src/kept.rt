@@ -1,65 +1,75 @@
-// What is to be written stands at the start of a lent buffer, `kept` bytes of it, so that many lines are one write. Each function that adds to it
-// answers how many bytes are kept then.
-ghost use Rattle.std.specs.Prelude.{◌≡◌, ◌≤◌, ◌+◌, IfOk, length};
-ghost use Rattle.screen.specs.Sizes.{number_room, line_room};
+// What is to be written is kept, so that many lines are one write. A line is put together from its pieces, and has room: `write!` answers a Result, and these
+// lines cannot fail.
+ghost use Rattle.std.specs.Prelude.{◌≡◌, ◌≤◌, ◌+◌, ◌++◌, ℕ, List, [], IfOk, length};
+ghost use Rattle.screen.specs.Sizes.{line_room, kept_room};
 
-use itoa::Buffer;
+use arrayvec::ArrayVec;
+use itoa::{Buffer, Integer};
 use std::io;
+use std::marker::Model;
+
+// Room for so many bytes.
+const KEPT_ROOM: usize = 4096;
 
 // The line of an answer is at most so long. The longest is that of the registers; that its seven numbers have no more than five digits each is not
 // counted on, only that no number has more than twenty.
 const LINE_ROOM: usize = 160;
 
-// What is kept is written; then nothing is.
-pub fn write<P: Print>(rt: &P, output: &[u8], kept: usize) -> io::Result<usize>
-    requires { kept ≤ length output.now }
-    ensures { IfOk result (λ r. r ≡ 0) }
-{
-    rt.write_all(&output[0..kept])?;
-    Ok(0)
+// The bytes that are kept.
+#[derive(Drop)]
+pub struct Kept {
+    bytes: ArrayVec<u8, KEPT_ROOM>,
 }
 
-// Room for a line: where too little is left, what is kept is written.
-pub fn room<P: Print>(rt: &P, output: &[u8], kept: usize) -> io::Result<usize>
-    requires { (kept ≤ length output.now) × (line_room ≤ length output.now) }
-    ensures { IfOk result (λ r. r + line_room ≤ length output.now) }
-{
-    if LINE_ROOM <= output.len() - kept {
-        return Ok(kept);
+// Clauses see the bytes.
+impl Model for Kept {
+    ghost Value = { List ℕ };
+
+    ghost view = { λ k. k.bytes.items };
+}
+
+impl Kept {
+    pub fn new() -> Self
+        ensures { result ≡ [] }
+    {
+        Kept {
+            bytes: ArrayVec::new(),
+        }
     }
-    write(rt, output, kept)
-}
 
-pub fn text(output: &mut [u8], kept: usize, characters: &[u8]) -> usize
-    requires { kept + length characters.now ≤ length output.old }
-    ensures { result ≡ kept + length characters.now }
-{
-    let mut at = 0;
-    while at < characters.len() {
-        output[kept + at] = characters[at];
-        at += 1;
+    // What is kept is written; then nothing is.
+    pub fn write<P: Print>(&mut self, rt: &P) -> io::Result<()>
+        ensures { IfOk result (λ _. self.new ≡ []) }
+    {
+        rt.write_all(self.bytes.as_slice())?;
+        self.bytes.clear();
+        Ok(())
     }
-    kept + at
-}
 
-pub fn number(output: &mut [u8], kept: usize, value: u64) -> usize
-    requires { kept + number_room ≤ length output.old }
-    ensures { (kept ≤ result) × (result ≤ kept + number_room) }
-{
-    let mut digits = Buffer::new();
-    text(output, kept, digits.format(value).as_bytes())
-}
+    // Room for a line: where too little is left, what is kept is written.
+    pub fn make_room<P: Print>(&mut self, rt: &P) -> io::Result<()>
+        ensures { IfOk result (λ _. length self.new + line_room ≤ kept_room) }
+    {
+        if LINE_ROOM <= self.bytes.remaining_capacity() {
+            return Ok(());
+        }
+        self.write(rt)
+    }
 
-pub fn word(output: &mut [u8], kept: usize, value: u8) -> usize
-    requires { kept + number_room ≤ length output.old }
-    ensures { (kept ≤ result) × (result ≤ kept + number_room) }
-{
-    number(output, kept, value as u64)
-}
+    pub fn text(&mut self, characters: &str)
+        requires { length self.old + length characters.now ≤ kept_room }
+        ensures bytes { self.new ≡ self.old ++ characters.now }
+        ensures long { length self.new ≡ length self.old + length characters.now }
+    {
+        let _fits = self.bytes.try_extend_from_slice(characters.as_bytes());
+    }
 
-pub fn address(output: &mut [u8], kept: usize, value: u16) -> usize
-    requires { kept + number_room ≤ length output.old }
-    ensures { (kept ≤ result) × (result ≤ kept + number_room) }
-{
-    number(output, kept, value as u64)
+    pub fn number<I: Integer>(&mut self, value: I)
+        requires { length self.old + I.MAX_STR_LEN ≤ kept_room }
+        ensures bytes { self.new ≡ self.old ++ I.text value }
+        ensures long { length self.new ≤ length self.old + I.MAX_STR_LEN }
+    {
+        let mut digits = Buffer::new();
+        self.text(digits.format(value));
+    }
 }

@@ -1,18 +1,16 @@
-// What the script program prints: pieces of a line, written at once or kept, the lines of the answers, the state of a well-formed memory for a person
-// to read, and what is broken of any other.
+// What the script program prints: lines that are kept, those of the answers, the state of a well-formed memory for a person to read, and what is broken of any
+// other.
 #![tactic(auto)]
 
 pub mod broken;
 pub mod kept;
-pub mod lines;
-pub mod pieces;
+mod lines;
 mod rows;
 mod tables;
 
 ghost use Rattle.std.specs.Prelude.{◌≡◌, length};
 
 use model::{Registers, map};
-use pieces::{address, text, word};
 use processors::{name, running};
 use rows::all_processors;
 use std::io;
@@ -24,15 +22,11 @@ fn runner<P: Print>(rt: &P, m: &[u8]) -> io::Result<()>
 {
     let page = running(m);
     if page.0 == 0 {
-        return text(rt, b"nobody runs: no processor is ready\n");
+        return println!(rt; "nobody runs: no processor is ready");
     }
-    let registers = Registers::of(m, page);
-    text(rt, b"processor ")?;
-    let who = name(m, page);
-    word(rt, who.0)?;
-    text(rt, b" runs, its next instruction is at ")?;
-    address(rt, registers.lr)?;
-    text(rt, b"\n")
+    let who = name(m, page).0;
+    let at = Registers::of(m, page).lr;
+    println!(rt; "processor {who} runs, its next instruction is at {at}")
 }
 
 // The state of a well-formed memory.
@@ -40,12 +34,9 @@ pub fn state<P: Print>(rt: &P, m: &[u8]) -> io::Result<()>
     requires { length m.now ≡ 8192 }
 {
     runner(rt, m)?;
-    text(
-        rt,
-        b"\n  name  priority  state             LR    A  waits for\n",
-    )?;
+    println!(rt; "\n  name  priority  state             LR    A  waits for")?;
     all_processors(rt, m)?;
-    text(rt, b"\n")?;
+    println!(rt; "")?;
     free_pages(rt, at(m, map::FREE_SEMAPHORE))?;
     all_grants(rt, m)?;
     clock(rt, m)?;

@@ -1,24 +1,61 @@
-// The processors of a well-formed memory: a row for each, with what it waits for, and below it its mail. Every walk has at most twenty pages
-// left.
+// The processors of a well-formed memory: a row for each, with what it waits for, and below it its mail.
 ghost use Rattle.std.specs.Prelude.{◌≡◌, ◌<◌, length};
+ghost use Rattle.std.specs.Iterator.{at_most};
 
-use crate::pieces::{address, four, text, three, two, word};
-use model::{ControlPage, Registers, map, wide};
-use processors::{running, seat};
+use model::{ControlPage, Registers, map};
+use processors::{name, priority, running, seat};
 use std::io;
 use words::at;
 
+// The pages of a list from one on, by the word of each that has the next; no walk has more than `left`.
+#[derive(Drop)]
+struct Walk<'a> {
+    m: &'a [u8],
+    page: ControlPage,
+    link: u16,
+    left: u8,
+    ghost whole: { length m.now ≡ 8192 },
+    ghost inside: { link < 32 },
+}
+
+impl<'a> Iterator for Walk<'a> {
+    type Item = ControlPage;
+
+    ghost remaining = { λ s. at_most s.left };
+
+    fn next(&mut self) -> Option<ControlPage> {
+        if self.left == 0 {
+            return None;
+        }
+        let page = self.page;
+        if page.0 == 0 {
+            return None;
+        }
+        self.page = ControlPage(page.word(self.m, self.link));
+        self.left -= 1;
+        Some(page)
+    }
+}
+
+fn pages_from(m: &[u8], page: ControlPage, link: u16) -> Walk<'_>
+    requires { (length m.now ≡ 8192) × (link < 32) }
+{
+    let left = map::CONTROL_PAGES;
+    Walk {
+        m,
+        page,
+        link,
+        left,
+    }
+}
+
 // How much text a message has.
 fn message_text<P: Print>(rt: &P, size: u8) -> io::Result<()> {
-    if size == 0 {
-        return text(rt, b", no text");
+    match size {
+        0 => print!(rt; ", no text"),
+        1 => print!(rt; ", 1 word"),
+        _ => print!(rt; ", {size} words"),
     }
-    if size == 1 {
-        return text(rt, b", 1 word");
-    }
-    text(rt, b", ")?;
-    word(rt, size)?;
-    text(rt, b" words")
 }
 
 // The message of a page; marked, it is mail whose sender is gone.
@@ -27,77 +64,52 @@ fn message<P: Print>(rt: &P, m: &[u8], page: ControlPage) -> io::Result<()>
 {
     let note = page.word(m, map::NOTE);
     let size = page.word(m, map::SIZE);
+    let from = note / map::FIELD;
+    let flag = note % map::FIELD;
     if size == map::NOTICE {
-        text(rt, b"notice ")?;
+        return println!(rt; "notice from {from}, flag {flag}");
     }
-    text(rt, b"from ")?;
-    word(rt, note / map::FIELD)?;
-    text(rt, b", flag ")?;
-    word(rt, note % map::FIELD)?;
-    if size == map::NOTICE {
-        return text(rt, b"\n");
-    }
+    print!(rt; "from {from}, flag {flag}")?;
     message_text(rt, size % map::MARK)?;
     if map::MARK <= size {
-        text(rt, b", its sender is gone")?;
+        print!(rt; ", its sender is gone")?;
     }
-    text(rt, b"\n")
+    println!(rt; "")
 }
 
-// The messages from a page on, each in a line of its own.
-fn messages<P: Print>(rt: &P, m: &[u8], page: ControlPage, left: u8) -> io::Result<()>
-    requires { length m.now ≡ 8192 }
-{
-    if left == 0 {
-        return Ok(());
-    }
-    if page.0 == 0 {
-        return Ok(());
-    }
-    text(rt, b"            ")?;
-    message(rt, m, page)?;
-    messages(rt, m, ControlPage(page.word(m, map::LINK)), left - 1)
-}
-
-// The queue whose header is a word of a processor's page, if there is a message in it.
-fn mail<P: Print>(rt: &P, m: &[u8], page: ControlPage, header: u16, label: &[u8]) -> io::Result<()>
+// The queue whose header is a word of a processor's page, if there is a message in it; each message has a line of its own.
+fn mail<P: Print>(rt: &P, m: &[u8], page: ControlPage, header: u16, label: &str) -> io::Result<()>
     requires { (length m.now ≡ 8192) × (header < 32) }
 {
     let first = ControlPage(page.word(m, header));
     if first.0 == 0 {
         return Ok(());
     }
-    text(rt, label)?;
+    print!(rt; "{label}")?;
     message(rt, m, first)?;
-    messages(
-        rt,
-        m,
-        ControlPage(first.word(m, map::LINK)),
-        map::CONTROL_PAGES,
-    )
+    for page in pages_from(m, ControlPage(first.word(m, map::LINK)), map::LINK) {
+        print!(rt; "            ")?;
+        message(rt, m, page)?;
+    }
+    Ok(())
 }
 
 // The mail that a processor waits for; 0 is any name, any flag.
 fn wanted<P: Print>(rt: &P, name: u8, flag: u8) -> io::Result<()> {
     if name == 0 {
-        text(rt, b"any message")?;
+        print!(rt; "any message")?;
     } else {
-        text(rt, b"a message from ")?;
-        word(rt, name)?;
+        print!(rt; "a message from {name}")?;
     }
     if flag == 0 {
         return Ok(());
     }
-    text(rt, b", flag ")?;
-    word(rt, flag)
+    print!(rt; ", flag {flag}")
 }
 
 // The interrupt whose semaphore or queue stands at an address; 0 where that lies before them all.
 pub fn interrupt_at(place: u16) -> u16 {
-    if place < map::SEMAPHORES {
-        return 0;
-    }
-    (place - map::SEMAPHORES) / 2
+    place.saturating_sub(map::SEMAPHORES) / 2
 }
 
 // What the processor of a page waits for, by the address of its queue's semaphore: those of the interrupts lie before that of the free
@@ -107,13 +119,11 @@ fn awaited<P: Print>(rt: &P, m: &[u8], page: ControlPage, semaphore: u16) -> io:
 {
     let reason = page.word(m, map::REASON);
     if semaphore == map::FREE_SEMAPHORE {
-        return text(rt, b"a free page");
+        return print!(rt; "a free page");
     }
     if semaphore < map::FREE_SEMAPHORE {
-        text(rt, b"interrupt ")?;
-        address(rt, interrupt_at(semaphore))?;
-        text(rt, b", count ")?;
-        return word(rt, reason);
+        let interrupt = interrupt_at(semaphore);
+        return print!(rt; "interrupt {interrupt}, count {reason}");
     }
     wanted(rt, reason / map::FIELD, reason % map::FIELD)
 }
@@ -130,38 +140,26 @@ fn waits(m: &[u8], page: ControlPage) -> bool
     page.word(m, map::STATE) % map::STOP_BIT / map::WAIT_BIT == 1
 }
 
-// A state in sixteen places.
-fn state_text<P: Print>(rt: &P, stopped: bool, waits: bool, runs: bool) -> io::Result<()> {
-    if stopped {
-        if waits {
-            return text(rt, b"stopped, waits  ");
-        }
-        return text(rt, b"stopped         ");
+fn state_text(stopped: bool, waits: bool, runs: bool) -> &'static str {
+    match (stopped, waits, runs) {
+        (true, true, _) => "stopped, waits",
+        (true, false, _) => "stopped",
+        (false, true, _) => "waits",
+        (false, false, true) => "runs",
+        (false, false, false) => "ready",
     }
-    if waits {
-        return text(rt, b"waits           ");
-    }
-    if runs {
-        return text(rt, b"runs            ");
-    }
-    text(rt, b"ready           ")
 }
 
 fn row<P: Print>(rt: &P, m: &[u8], page: ControlPage) -> io::Result<()>
     requires { length m.now ≡ 8192 }
 {
-    let label = page.word(m, map::LABEL);
-    let runner = running(m);
+    let name = name(m, page).0;
+    let priority = priority(m, page);
+    let state = state_text(stopped(m, page), waits(m, page), running(m).0 == page.0);
     let registers = Registers::of(m, page);
-    text(rt, b"  ")?;
-    four(rt, wide(label % map::FIELD))?;
-    text(rt, b"        ")?;
-    two(rt, wide(label / map::FIELD))?;
-    text(rt, b"  ")?;
-    state_text(rt, stopped(m, page), waits(m, page), runner.0 == page.0)?;
-    four(rt, registers.lr)?;
-    text(rt, b"  ")?;
-    three(rt, registers.a)
+    let lr = registers.lr;
+    let a = registers.a;
+    print!(rt; "  {name:>4}        {priority:>2}  {state:<16}{lr:>4}  {a:>3}")
 }
 
 fn processor<P: Print>(rt: &P, m: &[u8], page: ControlPage) -> io::Result<()>
@@ -169,26 +167,12 @@ fn processor<P: Print>(rt: &P, m: &[u8], page: ControlPage) -> io::Result<()>
 {
     row(rt, m, page)?;
     if waits(m, page) {
-        text(rt, b"  ")?;
+        print!(rt; "  ")?;
         awaited(rt, m, page, seat(m, page, map::INTERRUPTS))?;
     }
-    text(rt, b"\n")?;
-    mail(rt, m, page, map::Q1, b"        Q1  ")?;
-    mail(rt, m, page, map::Q2, b"        Q2  ")
-}
-
-// The processors from a page on.
-fn processors_from<P: Print>(rt: &P, m: &[u8], page: ControlPage, left: u8) -> io::Result<()>
-    requires { length m.now ≡ 8192 }
-{
-    if left == 0 {
-        return Ok(());
-    }
-    if page.0 == 0 {
-        return Ok(());
-    }
-    processor(rt, m, page)?;
-    processors_from(rt, m, ControlPage(page.word(m, map::LIST_LINK)), left - 1)
+    println!(rt; "")?;
+    mail(rt, m, page, map::Q1, "        Q1  ")?;
+    mail(rt, m, page, map::Q2, "        Q2  ")
 }
 
 pub fn all_processors<P: Print>(rt: &P, m: &[u8]) -> io::Result<()>
@@ -196,7 +180,10 @@ pub fn all_processors<P: Print>(rt: &P, m: &[u8]) -> io::Result<()>
 {
     let first = ControlPage(at(m, map::PROCESSOR_LIST));
     if first.0 == 0 {
-        return text(rt, b"  none\n");
+        return println!(rt; "  none");
     }
-    processors_from(rt, m, first, map::CONTROL_PAGES)
+    for page in pages_from(m, first, map::LIST_LINK) {
+        processor(rt, m, page)?;
+    }
+    Ok(())
 }

@@ -1,7 +1,6 @@
 // The tables of a well-formed memory: free pages, grants, clock, codes and errors.
-ghost use Rattle.std.specs.Prelude.{◌≡◌, ◌<◌, ◌≤◌, ◌+◌, length};
+ghost use Rattle.std.specs.Prelude.{◌≡◌, length};
 
-use crate::pieces::{address, text, word};
 use model::{faults, instructions, map, wide};
 use std::io;
 use words::{address_at, at};
@@ -11,98 +10,63 @@ const NEGATIVE: u8 = 128;
 
 // "The free semaphore is the free count less the waiters."
 pub fn free_pages<P: Print>(rt: &P, semaphore: u8) -> io::Result<()> {
-    text(rt, b"free pages  ")?;
     if semaphore < NEGATIVE {
-        word(rt, semaphore)?;
-        return text(rt, b", nobody waits for one\n");
+        return println!(rt; "free pages  {semaphore}, nobody waits for one");
     }
-    text(rt, b"none, ")?;
-    word(rt, map::A_WORD - semaphore + 1)?;
     if semaphore == map::A_WORD {
-        return text(rt, b" waits for one\n");
+        return println!(rt; "free pages  none, 1 waits for one");
     }
-    text(rt, b" wait for one\n")
+    let waiters = map::A_WORD - semaphore + 1;
+    println!(rt; "free pages  none, {waiters} wait for one")
 }
 
-// A line for a grant; the first has the label.
-fn grant<P: Print>(rt: &P, is_first: bool, page: u8, name: u8) -> io::Result<()> {
-    if is_first {
-        text(rt, b"grants      page ")?;
-    } else {
-        text(rt, b"            page ")?;
-    }
-    word(rt, page)?;
-    text(rt, b" to processor ")?;
-    word(rt, name)?;
-    text(rt, b"\n")
-}
-
-// The grants to the last `left` names. Answers whether no line is printed yet, as `is_first` says of the lines before.
-fn grants<P: Print>(rt: &P, m: &[u8], left: u8, is_first: bool) -> io::Result<bool>
-    requires { (length m.now ≡ 8192) × (left ≤ 15) }
-{
-    if left == 0 {
-        return Ok(is_first);
-    }
-    let name = map::LAST_NAME - left + 1;
-    let page = at(m, map::GRANTS + wide(name));
-    if page == 0 {
-        return grants(rt, m, left - 1, is_first);
-    }
-    grant(rt, is_first, page, name)?;
-    grants(rt, m, left - 1, false)
-}
-
+// The first grant has the label.
 pub fn all_grants<P: Print>(rt: &P, m: &[u8]) -> io::Result<()>
     requires { length m.now ≡ 8192 }
 {
-    if grants(rt, m, map::LAST_NAME, true)? {
-        text(rt, b"grants      none\n")?;
+    let mut label = "grants";
+    for name in 1..=map::LAST_NAME {
+        let page = at(m, map::GRANTS + wide(name));
+        if page != 0 {
+            println!(rt; "{label:<12}page {page} to processor {name}")?;
+            label = "";
+        }
     }
-    Ok(())
-}
-
-// A label, and the word at a place.
-fn labelled<P: Print>(rt: &P, m: &[u8], label: &[u8], place: u16) -> io::Result<()>
-    requires { (length m.now ≡ 8192) × (place < 8192) }
-{
-    text(rt, label)?;
-    word(rt, at(m, place))
+    if label.is_empty() {
+        return Ok(());
+    }
+    println!(rt; "{label:<12}none")
 }
 
 pub fn clock<P: Print>(rt: &P, m: &[u8]) -> io::Result<()>
     requires { length m.now ≡ 8192 }
 {
-    labelled(rt, m, b"clock       line ", map::CLOCK_LINE)?;
-    labelled(rt, m, b", divider ", map::DIVIDER)?;
-    labelled(rt, m, b", C0 ", map::C0)?;
-    labelled(rt, m, b", C1 ", map::C1)?;
-    labelled(rt, m, b", C2 ", map::C2)?;
-    labelled(rt, m, b", C3 ", map::C3)?;
-    text(rt, b"\n")
+    let line = at(m, map::CLOCK_LINE);
+    let divider = at(m, map::DIVIDER);
+    let c0 = at(m, map::C0);
+    let c1 = at(m, map::C1);
+    let c2 = at(m, map::C2);
+    let c3 = at(m, map::C3);
+    println!(rt; "clock       line {line}, divider {divider}, C0 {c0}, C1 {c1}, C2 {c2}, C3 {c3}")
 }
 
 // An own code and its program. The last code is never built in, so it is no exception.
 fn own_code<P: Print>(rt: &P, m: &[u8], code: u8) -> io::Result<()>
     requires { length m.now ≡ 8192 }
 {
-    if code < map::BUILT_IN_CODES {
-        text(rt, b"            but ")?;
+    let joined = if code < map::BUILT_IN_CODES {
+        "but"
     } else {
-        text(rt, b"            and ")?;
-    }
-    word(rt, code)?;
-    text(rt, b" is own, its program at ")?;
-    address(rt, address_at(m, map::CODE_WORDS + 2 * wide(code)))?;
-    text(rt, b"\n")
+        "and"
+    };
+    let program = address_at(m, map::CODE_WORDS + 2 * wide(code));
+    println!(rt; "            {joined} {code} is own, its program at {program}")
 }
 
 // An absent code, unless it is the last.
 fn absent_code<P: Print>(rt: &P, code: u8) -> io::Result<()> {
     if code < map::BUILT_IN_CODES {
-        text(rt, b"            but ")?;
-        word(rt, code)?;
-        text(rt, b" is absent\n")?;
+        return println!(rt; "            but {code} is absent");
     }
     Ok(())
 }
@@ -118,66 +82,41 @@ fn exception<P: Print>(rt: &P, m: &[u8], code: u8) -> io::Result<()>
     }
 }
 
-// The last `left` of the codes.
-fn codes<P: Print>(rt: &P, m: &[u8], left: u8) -> io::Result<()>
-    requires { (length m.now ≡ 8192) × (left ≤ 16) }
-{
-    if left == 0 {
-        return Ok(());
-    }
-    exception(rt, m, map::ALL_CODES - left)?;
-    codes(rt, m, left - 1)
-}
-
 pub fn all_codes<P: Print>(rt: &P, m: &[u8]) -> io::Result<()>
     requires { length m.now ≡ 8192 }
 {
-    text(rt, b"codes       0 to 14 are built in\n")?;
-    codes(rt, m, map::ALL_CODES)
+    println!(rt; "codes       0 to 14 are built in")?;
+    for code in 0..map::ALL_CODES {
+        exception(rt, m, code)?;
+    }
+    Ok(())
 }
 
-fn fault_text<P: Print>(rt: &P, fault: u8) -> io::Result<()> {
+fn fault_text(fault: u8) -> &'static str {
     match fault {
-        faults::ABSENT_CODE => text(rt, b"absent code\n"),
-        faults::EXI_OF_EXI => text(rt, b"EXI of EXI\n"),
-        faults::CODE_EXISTS => text(rt, b"the code exists\n"),
-        faults::KEPT_CODE => text(rt, b"deleting code 0 or 1\n"),
-        faults::BAD_WAIT => text(rt, b"no such interrupt to wait for, or count 0\n"),
-        faults::NO_MATCH => text(rt, b"no such message in Q2\n"),
-        faults::NO_NAME => text(rt, b"no such processor\n"),
-        faults::NOT_STARTABLE => text(
-            rt,
-            b"the processor to start is not stopped, or also waits\n",
-        ),
-        faults::NAME_EXISTS => text(rt, b"the name is taken\n"),
-        faults::NOT_STOPPED => text(rt, b"the processor to delete is not stopped\n"),
-        faults::PROTECTED => text(rt, b"protected word\n"),
-        faults::BAD_ARGUMENT => text(rt, b"bad argument\n"),
-        faults::ABOVE_ITSELF => text(rt, b"priority above its own\n"),
-        _ => text(rt, b"unknown\n"),
+        faults::ABSENT_CODE => "absent code",
+        faults::EXI_OF_EXI => "EXI of EXI",
+        faults::CODE_EXISTS => "the code exists",
+        faults::KEPT_CODE => "deleting code 0 or 1",
+        faults::BAD_WAIT => "no such interrupt to wait for, or count 0",
+        faults::NO_MATCH => "no such message in Q2",
+        faults::NO_NAME => "no such processor",
+        faults::NOT_STARTABLE => "the processor to start is not stopped, or also waits",
+        faults::NAME_EXISTS => "the name is taken",
+        faults::NOT_STOPPED => "the processor to delete is not stopped",
+        faults::PROTECTED => "protected word",
+        faults::BAD_ARGUMENT => "bad argument",
+        faults::ABOVE_ITSELF => "priority above its own",
+        _ => "unknown",
     }
 }
 
 // An entry of page 9: "name*16 + fault".
-fn error<P: Print>(rt: &P, entered: u8) -> io::Result<()> {
-    text(rt, b"fault ")?;
-    word(rt, entered % map::FIELD)?;
-    text(rt, b" by ")?;
-    word(rt, entered / map::FIELD)?;
-    text(rt, b": ")?;
-    fault_text(rt, entered % map::FIELD)
-}
-
-// The errors from a word of page 9 on, with `left` to come.
-fn errors<P: Print>(rt: &P, m: &[u8], from: u8, left: u8) -> io::Result<()>
-    requires { (length m.now ≡ 8192) × (from + left ≤ 255) }
-{
-    if left == 0 {
-        return Ok(());
-    }
-    text(rt, b"            ")?;
-    error(rt, at(m, map::FIRST_UNUSED + wide(from)))?;
-    errors(rt, m, from + 1, left - 1)
+fn error<P: Print>(rt: &P, label: &str, entered: u8) -> io::Result<()> {
+    let fault = entered % map::FIELD;
+    let name = entered / map::FIELD;
+    let text = fault_text(fault);
+    println!(rt; "{label:<12}fault {fault} by {name}: {text}")
 }
 
 // The first error has the label.
@@ -186,16 +125,14 @@ pub fn all_errors<P: Print>(rt: &P, m: &[u8]) -> io::Result<()>
 {
     let unused = at(m, map::FIRST_UNUSED);
     if unused < 2 {
-        return text(rt, b"errors      none\n");
+        return println!(rt; "errors      none");
     }
-    text(rt, b"errors      ")?;
-    error(rt, at(m, map::ENTRIES_AFTER))?;
-    errors(rt, m, 2, unused - 2)?;
+    error(rt, "errors", at(m, map::ENTRIES_AFTER))?;
+    for number in 2..unused {
+        error(rt, "", at(m, map::FIRST_UNUSED + wide(number)))?;
+    }
     if unused == map::ENTRIES_FULL {
-        text(
-            rt,
-            b"            the table is full: later faults are not entered\n",
-        )?;
+        println!(rt; "            the table is full: later faults are not entered")?;
     }
     Ok(())
 }

@@ -1,12 +1,12 @@
 -- What the words behind FILE build: "VERSION LINE DIVIDER [SITE [LABEL]] NAME PRIORITY W ADDRESS ..". A word is a list of bytes, w; b are the bytes of the
 -- block that the words before it have built. The number of entries stands there as 0 until the last word is taken.
-use Rattle.std.specs.Prelude.{ℕ, ◌-◌, ◌/◌, ◌%◌, cond, List, [], ◌∷◌, ◌++◌, eqb, ltb, leb, length, get_or, set, take, replicate, Some, None}
+use Rattle.std.specs.Prelude.{ℕ, ◌-◌, ◌/◌, ◌%◌, cond, List, [], ◌∷◌, ◌++◌, eqb, ltb, leb, length, get_or, set, take, replicate, Option, None, Some, Result, Ok, Err}
 use Rattle.model.specs.Map.{a_word, word_values}
 use Rattle.model.specs.Layout.{entry_bytes, label_place, label_bytes, version_of, head_bytes}
 use Rattle.script.specs.Sizes.{largest_number, no_number}
 use Rattle.script.specs.Script.{whole_number}
 use Rattle.sheet.specs.declared.building.Due.{Due}
-use Rattle.sheet.specs.declared.building.Due.TheVariants.{Version, Byte, Label, Address, Nothing}
+use Rattle.sheet.specs.declared.building.Due.TheVariants.{Version, Byte, Label, Address}
 
 -- "none to 255 groups of four"; what a block of so many is at most, and what they have of it
 abbrev pub most_groups : ℕ
@@ -18,28 +18,28 @@ most_behind = 1275
 abbrev pub block_room : ℕ
 block_room = 1292
 
--- in place of its length, for words that build no block
-abbrev pub no_block : ℕ
-no_block = 1293
-
 -- ---- "Numbers are digits": a word as a number; no_number where it has none, another character, or is over 65535
-unfoldable pub number_of : List ℕ → ℕ
-number_of w = elim (whole_number w) [ None ↦ no_number | Some x ↦ x ]
+abbrev pub or_no_number : Option ℕ → ℕ
+or_no_number None = no_number
+or_no_number (Some x) = x
 
--- ---- what the next word is: v is the version, n the number of bytes that are there
+unfoldable pub number_of : List ℕ → ℕ
+number_of w = or_no_number (whole_number w)
+
+-- ---- what the next word is, if there is room for one: v is the version, n the number of bytes that are there
 -- "SITE is there from version 2 on, LABEL from version 3 on (a version over 3 has both, 0 none ..)"
 unfoldable pub head_of : ℕ → ℕ
 head_of v = cond (eqb v 0) 4 (head_bytes v)
 
 -- of the groups n bytes are there: name, priority and W are a byte each, then comes the address
-unfoldable pub due_behind : ℕ → Due
-due_behind n = cond (leb most_behind n) Nothing (cond (eqb (n % entry_bytes) 3) Address Byte)
+unfoldable pub due_behind : ℕ → Option Due
+due_behind n = cond (leb most_behind n) None (Some (cond (eqb (n % entry_bytes) 3) Address Byte))
 
 unfoldable pub due_in_head : ℕ → Due
 due_in_head n = cond (eqb n label_place) Label Byte
 
-unfoldable pub due_at : ℕ → ℕ → Due
-due_at v n = cond (eqb n 0) Version (cond (ltb n (head_of v)) (due_in_head n) (due_behind (n - head_of v)))
+unfoldable pub due_at : ℕ → ℕ → Option Due
+due_at v n = cond (eqb n 0) (Some Version) (cond (ltb n (head_of v)) (Some (due_in_head n)) (due_behind (n - head_of v)))
 
 -- ---- what a word adds: "Anything else is the usage line"
 pub data Built : Type 0 where
@@ -70,12 +70,12 @@ labelled w = take (letters w) w ++ replicate (label_bytes - letters w) 0
 unfoldable pub label_taken : List ℕ → List ℕ → Built
 label_taken b w = cond (ltb label_bytes (length w)) wrong (built (b ++ labelled w))
 
-abbrev pub taken : Due → List ℕ → List ℕ → Built
-taken Version b w = version_taken w
-taken Byte b w = byte_taken b w
-taken Label b w = label_taken b w
-taken Address b w = address_taken b w
-taken Nothing b w = wrong
+abbrev pub taken : Option Due → List ℕ → List ℕ → Built
+taken None b w = wrong
+taken (Some Version) b w = version_taken w
+taken (Some Byte) b w = byte_taken b w
+taken (Some Label) b w = label_taken b w
+taken (Some Address) b w = address_taken b w
 
 abbrev pub next : Built → List ℕ → Built
 next wrong w = wrong
@@ -102,6 +102,7 @@ behind r (w ∷ ws) = behind (next r w) ws
 abbrev pub block_of : List (List ℕ) → Built
 block_of ws = behind (built []) ws
 
--- what stands in a buffer l of which n bytes are taken; more than it has room for stand for words that build no block
-unfoldable pub stands : ℕ → List ℕ → Built
-stands n l = cond (ltb block_room n) wrong (built (take n l))
+-- what a step comes to, behind which the block has the bytes b; an error stands for words that build no block
+abbrev pub stands : {A E : Type 0} → Result A E → List ℕ → Built
+stands (Ok x) b = built b
+stands (Err e) b = wrong

@@ -1,35 +1,55 @@
-// A block from the words of a command line, one word after the other: `VERSION LINE DIVIDER [SITE [LABEL]] NAME PRIORITY W ADDRESS ..`. The first `at` bytes
-// of the block are there already, and say what the next word is; WRONG stands for words that build none. What each function answers is said in
-// specs/Words.antt.
-ghost use Rattle.std.specs.Prelude.{◌≡◌, ◌<◌, ◌≤◌, ◌+◌, length, take, set};
+// A block from the words of a command line, one word after the other: `VERSION LINE DIVIDER [SITE [LABEL]] NAME PRIORITY W ADDRESS ..`. The bytes that are
+// there already say what the next word is. What each function answers is said in specs/Words.antt.
+ghost use Rattle.std.specs.Prelude.{◌≡◌, ◌<◌, ◌≤◌, ◌+◌, ◌++◌, [], ◌∷◌, length, IfOk, OnErr};
+ghost use Rattle.arrayvec.specs.ArrayVec.{array_vec_len};
+ghost use Rattle.model.specs.Map.{a_word};
+ghost use Rattle.model.specs.Layout as Layout;
 ghost use Rattle.model.specs.Layout.{label_bytes};
+ghost use Rattle.script.specs.Sizes.{largest_number};
 ghost use Rattle.sheet.specs.Words as Words;
+ghost use Rattle.sheet.specs.Words.Built.{built};
 
 use crate::sizes;
-use files::laying::lay;
+use crate::sizes::BLOCK_ROOM;
+use arrayvec::ArrayVec;
 use model::layout;
 use script::reading::whole_number;
 use settings::block::head_bytes;
 
-// What the next word is: the version, a byte, the label, an address; or there is room for none.
+// The bytes of a block.
+pub type Block = ArrayVec<u8, BLOCK_ROOM>;
+
+// The words build no block.
+#[derive(Clone, Copy)]
+pub struct NoBlock;
+
+// What the next word is: the version, a byte, the label, an address.
 #[derive(Clone, Copy)]
 pub enum Due {
     Version,
     Byte,
     Label,
     Address,
-    Nothing,
 }
 
-// A word as a number; 65536 where it is none, or a larger one.
-#[tactic(auto, unfolding(crate::specs::Words::number_of))]
-fn number_of(word: &[u8]) -> u32
-    ensures { result ≡ Words.number_of word.now }
+// A word as a number.
+#[tactic(auto, using(crate::proofs::Laws::numbering))]
+fn number_of(word: &[u8]) -> Result<u16, NoBlock>
+    ensures ok { IfOk result (λ r. r ≡ Words.number_of word.now) }
+    ensures err { OnErr result (largest_number < Words.number_of word.now) }
 {
-    whole_number(word).map_or(script::sizes::NO_NUMBER, u32::from)
+    whole_number(word).ok_or(NoBlock)
+}
+
+fn byte_of(word: &[u8]) -> Result<u8, NoBlock>
+    ensures ok { IfOk result (λ r. (r ≡ Words.number_of word.now) × (r ≤ a_word)) }
+    ensures err { OnErr result (a_word < Words.number_of word.now) }
+{
+    u8::try_from(number_of(word)?).map_err(|_| NoBlock)
 }
 
 // How long the head of a block is; that of version 0, which the call refuses, is the shortest.
+#[tactic(auto, using(crate::proofs::Laws::numbering))]
 fn head_of(version: u8) -> usize
     ensures { (result ≡ Words.head_of version) × (4 ≤ result) × (result ≤ 17) }
 {
@@ -39,6 +59,7 @@ fn head_of(version: u8) -> usize
     head_bytes(version)
 }
 
+#[tactic(auto, using(crate::proofs::Laws::tests), unfolding(crate::specs::Words::due_in_head))]
 fn due_in_head(at: usize) -> Due
     ensures { result ≡ Words.due_in_head at }
 {
@@ -48,90 +69,81 @@ fn due_in_head(at: usize) -> Due
     Due::Byte
 }
 
-fn due_behind(at: usize) -> Due
+#[tactic(auto, using(crate::proofs::Laws::tests), unfolding(crate::specs::Words::due_behind))]
+fn due_behind(at: usize) -> Option<Due>
     ensures { result ≡ Words.due_behind at }
 {
     if sizes::MOST_BEHIND <= at {
-        return Due::Nothing;
+        return None;
     }
     if at % layout::ENTRY_BYTES == sizes::ADDRESS_PLACE {
-        return Due::Address;
+        return Some(Due::Address);
     }
-    Due::Byte
+    Some(Due::Byte)
 }
 
-// What the word is with which a block goes on, of which there are so many bytes.
-fn due_at(version: u8, at: usize) -> Due
+// What the word is with which a block goes on, of which there are so many bytes; nothing where there is room for none.
+#[tactic(auto, using(crate::proofs::Laws::numbering))]
+fn due_at(version: u8, at: usize) -> Option<Due>
     ensures { result ≡ Words.due_at version at }
 {
     if at == 0 {
-        return Due::Version;
+        return Some(Due::Version);
     }
     let head = head_of(version);
     if at < head {
-        return due_in_head(at);
+        return Some(due_in_head(at));
     }
     due_behind(at - head)
 }
 
-// One byte more.
-fn push(block: &mut [u8], at: usize, value: u8) -> usize
-    requires { at < length block.old }
-    ensures { (result ≡ at + 1) × (block.new ≡ set block.old at value) }
+#[tactic(auto, using(crate::proofs::Laws::bytes))]
+fn take_byte(block: &mut Block, word: &[u8]) -> Result<(), NoBlock>
+    requires { array_vec_len block.old < Words.block_room }
+    ensures { Words.stands result block.new.items ≡ Words.byte_taken block.old.items word.now }
 {
-    block[at] = value;
-    at + 1
-}
-
-fn take_byte(block: &mut [u8], at: usize, word: &[u8]) -> usize
-    requires { (length block.old ≡ Words.block_room) × (at < Words.block_room) }
-    ensures { Words.stands result block.new ≡ Words.byte_taken (take at block.old) word.now }
-{
-    let value = number_of(word);
-    if sizes::LARGEST_BYTE < value {
-        return sizes::WRONG;
-    }
-    push(block, at, value as u8)
+    block.push(byte_of(word)?);
+    Ok(())
 }
 
 // The number of entries stands behind the version: it is known at last.
-fn take_version(block: &mut [u8], word: &[u8]) -> usize
-    requires { length block.old ≡ Words.block_room }
-    ensures { Words.stands result block.new ≡ Words.version_taken word.now }
+#[tactic(auto, using(crate::proofs::Laws::bytes))]
+fn take_version(block: &mut Block, word: &[u8]) -> Result<(), NoBlock>
+    requires { block.old.items ≡ [] }
+    ensures { Words.stands result block.new.items ≡ Words.version_taken word.now }
 {
-    let value = number_of(word);
-    if sizes::LARGEST_BYTE < value {
-        return sizes::WRONG;
-    }
-    let behind = push(block, layout::VERSION, value as u8);
-    push(block, behind, 0)
+    block.push(byte_of(word)?);
+    block.push(0);
+    Ok(())
 }
 
-fn take_address(block: &mut [u8], at: usize, word: &[u8]) -> usize
-    requires { (length block.old ≡ Words.block_room) × (at + 2 ≤ Words.block_room) }
-    ensures { Words.stands result block.new ≡ Words.address_taken (take at block.old) word.now }
+#[tactic(auto, using(crate::proofs::Laws::bytes))]
+fn take_address(block: &mut Block, word: &[u8]) -> Result<(), NoBlock>
+    requires { array_vec_len block.old + 2 ≤ Words.block_room }
+    ensures { Words.stands result block.new.items ≡ Words.address_taken block.old.items word.now }
 {
-    let value = number_of(word);
-    if script::sizes::LARGEST_NUMBER < value {
-        return sizes::WRONG;
-    }
-    let behind = push(block, at, (value / sizes::BYTE_VALUES) as u8);
-    push(block, behind, (value % sizes::BYTE_VALUES) as u8)
+    let [high, low] = number_of(word)?.to_be_bytes();
+    block.push(high);
+    block.push(low);
+    Ok(())
 }
 
-// How many of the word's bytes are the label: none of `-`.
+// The word for a label of no letters.
+const NO_LETTERS: &[u8] = b"-";
+
+// How many of the word's bytes are the label.
+#[tactic(auto, using(crate::proofs::Laws::laying))]
 fn letters(word: &[u8]) -> usize
     ensures { (result ≡ Words.letters word.now) × (result ≤ length word.now) }
 {
-    if word.len() == 1 {
-        if word[0] == b'-' {
-            return 0;
-        }
+    if word == NO_LETTERS {
+        return 0;
     }
     word.len()
 }
 
 // The label that a word is: its letters, and zeros to the end.
+#[tactic(auto, using(crate::proofs::Laws::laying))]
 fn label_of(word: &[u8]) -> [u8; layout::LABEL_BYTES]
     requires { length word.now ≤ label_bytes }
     ensures { result ≡ Words.labelled word.now }
@@ -142,62 +154,65 @@ fn label_of(word: &[u8]) -> [u8; layout::LABEL_BYTES]
     label
 }
 
-fn take_label(block: &mut [u8], at: usize, word: &[u8]) -> usize
-    requires { (length block.old ≡ Words.block_room) × (at + label_bytes ≤ Words.block_room) }
-    ensures { Words.stands result block.new ≡ Words.label_taken (take at block.old) word.now }
+#[tactic(auto, using(crate::proofs::Laws::laying))]
+fn take_label(block: &mut Block, word: &[u8]) -> Result<(), NoBlock>
+    requires { array_vec_len block.old + label_bytes ≤ Words.block_room }
+    ensures { Words.stands result block.new.items ≡ Words.label_taken block.old.items word.now }
 {
     if layout::LABEL_BYTES < word.len() {
-        return sizes::WRONG;
+        return Err(NoBlock);
     }
-    let label = label_of(word);
-    lay(block, at, &label);
-    at + layout::LABEL_BYTES
+    let _fits = block.try_extend_from_slice(&label_of(word));
+    Ok(())
 }
 
-// The next word; behind a wrong one any is wrong.
-pub fn take_word(block: &mut [u8], at: usize, word: &[u8]) -> usize
-    requires { length block.old ≡ Words.block_room }
-    ensures { Words.stands result block.new ≡ Words.next (Words.stands at block.old) word.now }
+fn version_of(block: &Block) -> u8
+    ensures { result ≡ Layout.version_of block.now.items }
 {
-    if sizes::BLOCK_ROOM < at {
-        return at;
+    match block.as_slice() {
+        [version, ..] => *version,
+        [] => 0,
     }
-    match due_at(block[layout::VERSION], at) {
-        Due::Version => take_version(block, word),
-        Due::Byte => take_byte(block, at, word),
-        Due::Label => take_label(block, at, word),
-        Due::Address => take_address(block, at, word),
-        Due::Nothing => sizes::WRONG,
+}
+
+// The next word.
+#[tactic(auto, using(crate::proofs::Laws::nexts))]
+pub fn take_word(block: &mut Block, word: &[u8]) -> Result<(), NoBlock>
+    ensures { Words.stands result block.new.items ≡ Words.next (built block.old.items) word.now }
+{
+    match due_at(version_of(block), block.len()) {
+        Some(Due::Version) => take_version(block, word),
+        Some(Due::Byte) => take_byte(block, word),
+        Some(Due::Label) => take_label(block, word),
+        Some(Due::Address) => take_address(block, word),
+        None => Err(NoBlock),
     }
 }
 
 // So many bytes behind the head are whole groups; their number goes to its place.
-fn count_groups(block: &mut [u8], at: usize, behind: usize) -> usize
-    requires { (length block.old ≡ Words.block_room) × (2 ≤ at) × (at ≤ Words.block_room) }
-    ensures { Words.stands result block.new ≡ Words.counted (take at block.old) behind }
+#[tactic(auto, using(crate::proofs::Laws::endings))]
+fn count_groups(block: &mut Block, behind: usize) -> Result<(), NoBlock>
+    requires { 2 ≤ array_vec_len block.old }
+    ensures { Words.stands result block.new.items ≡ Words.counted block.old.items behind }
 {
-    let count = behind / layout::ENTRY_BYTES;
-    if sizes::MOST_GROUPS < count {
-        return sizes::WRONG;
-    }
+    let Ok(count) = u8::try_from(behind / layout::ENTRY_BYTES) else {
+        return Err(NoBlock);
+    };
     if behind % layout::ENTRY_BYTES == 0 {
-        push(block, layout::COUNT, count as u8);
-        return at;
+        block.as_mut_slice()[layout::COUNT] = count;
+        return Ok(());
     }
-    sizes::WRONG
+    Err(NoBlock)
 }
 
-// No word is left: the block's length, or WRONG.
-pub fn finish(block: &mut [u8], at: usize) -> usize
-    requires { length block.old ≡ Words.block_room }
-    ensures { Words.stands result block.new ≡ Words.finished (Words.stands at block.old) }
+// No word is left: the block, if it is whole.
+#[tactic(auto, using(crate::proofs::Laws::endings))]
+pub fn finish(block: &mut Block) -> Result<(), NoBlock>
+    ensures { Words.stands result block.new.items ≡ Words.finished (built block.old.items) }
 {
-    if sizes::BLOCK_ROOM < at {
-        return at;
+    let head = head_of(version_of(block));
+    if block.len() < head {
+        return Err(NoBlock);
     }
-    let head = head_of(block[layout::VERSION]);
-    if at < head {
-        return sizes::WRONG;
-    }
-    count_groups(block, at, at - head)
+    count_groups(block, block.len() - head)
 }

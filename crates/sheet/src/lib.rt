@@ -5,17 +5,15 @@ mod building;
 mod rows;
 mod sizes;
 
-ghost use Rattle.std.specs.Prelude.{◌≡◌, ◌≤◌, length};
+ghost use Rattle.std.specs.Prelude.{◌≤◌, length};
 ghost use Rattle.files.specs.Files.{name_room};
-ghost use Rattle.sheet.specs.Words as Words;
 
-use building::{finish, take_word};
+use building::{Block, NoBlock, finish, take_word};
 use files::saying::fail_missing;
 use files::{Unread, name_of, read_file, replace, word_count};
 use model::{Answer, Fit, Writing, refusals};
 use rows::tell_rows;
-use screen::kept::write;
-use screen::lines::{answer, writing};
+use screen::kept::Kept;
 use settings::file::of_file;
 use settings::write::write_settings;
 use std::env::Env;
@@ -30,17 +28,15 @@ fn usage<E: Print>(errors: &E) {
 
 // The line of a refusal.
 fn tell_answer<P: Print>(rt: &P, given: Answer) -> io::Result<()> {
-    let mut output = [0u8; sizes::OUTPUT_ROOM];
-    let kept = answer(&mut output, 0, given);
-    write(rt, &output, kept)?;
-    Ok(())
+    let mut kept = Kept::new();
+    kept.answer(given);
+    kept.write(rt)
 }
 
 fn tell_writing<P: Print>(rt: &P, given: Writing) -> io::Result<()> {
-    let mut output = [0u8; sizes::OUTPUT_ROOM];
-    let kept = writing(&mut output, 0, given);
-    write(rt, &output, kept)?;
-    Ok(())
+    let mut kept = Kept::new();
+    kept.writing(given);
+    kept.write(rt)
 }
 
 #[tactic(auto, using(crate::proofs::Laws::files))]
@@ -112,27 +108,22 @@ fn write_file<R: Files + Print, E: Print>(
 }
 
 // One word of the command line. One that is too long to be read whole is no word of a block.
-fn take_argument<R: Env>(rt: &R, block: &mut [u8], at: usize, number: usize) -> usize
-    requires { length block.old ≡ Words.block_room }
-{
+fn take_argument<R: Env>(rt: &R, block: &mut Block, number: usize) -> Result<(), NoBlock> {
     let mut word = [0u8; sizes::WORD_ROOM];
     match rt.arg(number, &mut word) {
-        Ok(end) => take_word(block, at, &word[..end]),
-        Err(_) => sizes::WRONG,
+        Ok(end) => take_word(block, &word[..end]),
+        Err(_) => Err(NoBlock),
     }
 }
 
-// The words of the command line behind the file's name, of `count` in all.
-fn take_arguments<R: Env>(rt: &R, block: &mut [u8], count: usize) -> usize
-    requires { length block.old ≡ Words.block_room }
-{
-    let mut at = 0;
-    let mut number = sizes::FIRST_WORD;
-    while number < count {
-        at = take_argument(rt, block, at, number);
-        number += 1;
+// The block that the words of the command line build, those behind the file's name, of `count` in all.
+fn block_of<R: Env>(rt: &R, count: usize) -> Result<Block, NoBlock> {
+    let mut block = Block::new();
+    for number in sizes::FIRST_WORD..count {
+        take_argument(rt, &mut block, number)?;
     }
-    finish(block, at)
+    finish(&mut block)?;
+    Ok(block)
 }
 
 // The block that the words build goes into the file.
@@ -144,13 +135,13 @@ fn write_words<R: Env + Files + Print, E: Print>(
 ) -> io::Result<()>
     requires { length name.now ≤ name_room }
 {
-    let mut block = [0u8; sizes::BLOCK_ROOM];
-    let end = take_arguments(rt, &mut block, count);
-    if sizes::BLOCK_ROOM < end {
-        usage(errors);
-        return Ok(());
+    match block_of(rt, count) {
+        Ok(block) => write_file(rt, errors, name, block.as_slice()),
+        Err(NoBlock) => {
+            usage(errors);
+            Ok(())
+        }
     }
-    write_file(rt, errors, name, &block[..end])
 }
 
 // Shows the file, or writes into it where more words stand behind its name; the program's own name counts as a word.

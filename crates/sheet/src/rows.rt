@@ -4,13 +4,11 @@ ghost use Rattle.model.specs.Layout as Layout;
 ghost use Rattle.sheet.specs.Rows as Rows;
 
 use model::{Entry, layout};
-use screen::pieces::{address, text, word};
 use settings::block::head_bytes;
 use settings::entries::{Cursor, Read, entry_at};
 use settings::file::newest;
 use std::io;
 
-// A row, or that there is none.
 #[derive(Clone, Copy)]
 pub enum Row {
     Version(u8),
@@ -19,7 +17,6 @@ pub enum Row {
     Site(u8),
     Label,
     Processor(Entry),
-    Nothing,
 }
 
 // How many rows stand before those of the processors: version, line and divider; with a site; with a label too.
@@ -32,6 +29,7 @@ const LABELLED_ROWS: u8 = 5;
 // These and 14 processors.
 const MOST_ROWS: u8 = 19;
 
+#[tactic(auto, using(crate::proofs::Laws::tests), unfolding(crate::specs::Rows::head_rows))]
 fn head_rows(version: u8) -> u8
     ensures { result ≡ Rows.head_rows version }
 {
@@ -44,6 +42,7 @@ fn head_rows(version: u8) -> u8
     LABELLED_ROWS
 }
 
+#[tactic(auto, using(crate::proofs::Shown::heads))]
 fn head_row(block: &[u8], number: u8) -> Row
     requires { (Layout.is_good (Layout.of_block block.now) ≡ true) × (number < Rows.head_rows (Layout.version_of block.now)) }
     ensures { result ≡ Rows.head_row block.now number }
@@ -57,112 +56,96 @@ fn head_row(block: &[u8], number: u8) -> Row
     }
 }
 
-fn entry_row(block: &[u8], number: u8) -> Row
+#[tactic(auto, using(crate::proofs::Shown::showing))]
+fn entry_row(block: &[u8], number: u8) -> Option<Row>
     requires { Layout.is_good (Layout.of_block block.now) ≡ true }
     ensures { result ≡ Rows.entry_row block.now number }
 {
     if block[layout::COUNT] <= number {
-        return Row::Nothing;
+        return None;
     }
     let at = head_bytes(block[layout::VERSION]) + (number as usize) * layout::ENTRY_BYTES;
     match entry_at(block, Cursor { at }) {
-        Read::Has(e, _) => Row::Processor(e),
-        Read::Refused(_) => Row::Nothing,
+        Read::Has(e, _) => Some(Row::Processor(e)),
+        Read::Refused(_) => None,
     }
 }
 
-// A row of a good block, by its number from 0 on.
-fn row_at(block: &[u8], number: u8) -> Row
+// A row of a good block, by its number from 0 on, if there are so many.
+#[tactic(auto, using(crate::proofs::Shown::showing))]
+fn row_at(block: &[u8], number: u8) -> Option<Row>
     requires { Layout.is_good (Layout.of_block block.now) ≡ true }
     ensures { result ≡ Rows.row_at block.now number }
 {
     let heads = head_rows(block[layout::VERSION]);
     if number < heads {
-        return head_row(block, number);
+        return Some(head_row(block, number));
     }
     entry_row(block, number - heads)
 }
 
 // A row of a good file is that of its newest block.
-fn row_of(file: &[u8], number: u8) -> Row
+#[tactic(auto, using(crate::proofs::Shown::showing))]
+fn row_of(file: &[u8], number: u8) -> Option<Row>
     requires { Layout.is_good (Layout.of_file file.now) ≡ true }
     ensures { result ≡ Rows.row_at (Layout.newest file.now) number }
 {
     row_at(newest(file), number)
 }
 
-fn tell<P: Print>(rt: &P, name: &[u8], value: u8) -> io::Result<()> {
-    text(rt, name)?;
-    word(rt, value)?;
-    text(rt, b"\n")
-}
-
-fn tell_processor<P: Print>(rt: &P, e: Entry) -> io::Result<()> {
-    text(rt, b"processor ")?;
-    word(rt, e.name)?;
-    text(rt, b" priority ")?;
-    word(rt, e.priority)?;
-    tell_start(rt, e.w, e.address)
-}
-
-fn tell_start<P: Print>(rt: &P, w: u8, at: u16) -> io::Result<()> {
-    text(rt, b" W ")?;
-    word(rt, w)?;
-    text(rt, b" at ")?;
-    address(rt, at)?;
-    text(rt, b"\n")
-}
-
-// The letters of a label, up to the first zero; `-` where it has none.
+// The letters of a label, up to the first zero; `-` where it has none. They need not be text.
 fn tell_letters<P: Print>(rt: &P, block: &[u8]) -> io::Result<()>
     requires { 17 ≤ length block.now }
 {
     let label = &block[layout::LABEL..layout::LABELLED_HEAD];
     let end = label.iter().take_while(|b| **b != 0).count();
     if end == 0 {
-        return text(rt, b"-");
+        return print!(rt; "-");
     }
-    text(rt, &label[..end])
+    rt.write_all(&label[..end])
 }
 
 fn tell_label<P: Print>(rt: &P, file: &[u8]) -> io::Result<()>
     requires { Layout.is_good (Layout.of_file file.now) ≡ true }
 {
     let block = newest(file);
-    text(rt, b"label ")?;
+    print!(rt; "label ")?;
     if layout::LABELLED_HEAD <= block.len() {
         tell_letters(rt, block)?;
     }
-    text(rt, b"\n")
+    println!(rt; "")
 }
 
-// The line of a row. Answers whether there was one.
-fn tell_row<P: Print>(rt: &P, file: &[u8], row: Row) -> io::Result<bool>
+fn tell_processor<P: Print>(rt: &P, entry: Entry) -> io::Result<()> {
+    let name = entry.name;
+    let priority = entry.priority;
+    let w = entry.w;
+    let address = entry.address;
+    println!(rt; "processor {name} priority {priority} W {w} at {address}")
+}
+
+fn tell_row<P: Print>(rt: &P, file: &[u8], row: Row) -> io::Result<()>
     requires { Layout.is_good (Layout.of_file file.now) ≡ true }
 {
     match row {
-        Row::Version(value) => tell(rt, b"version ", value)?,
-        Row::Line(value) => tell(rt, b"line ", value)?,
-        Row::Divider(value) => tell(rt, b"divider ", value)?,
-        Row::Site(value) => tell(rt, b"site ", value)?,
-        Row::Label => tell_label(rt, file)?,
-        Row::Processor(e) => tell_processor(rt, e)?,
-        Row::Nothing => return Ok(false),
+        Row::Version(value) => println!(rt; "version {value}"),
+        Row::Line(value) => println!(rt; "line {value}"),
+        Row::Divider(value) => println!(rt; "divider {value}"),
+        Row::Site(value) => println!(rt; "site {value}"),
+        Row::Label => tell_label(rt, file),
+        Row::Processor(entry) => tell_processor(rt, entry),
     }
-    Ok(true)
 }
 
 // The rows of a good file, from the first on.
 pub fn tell_rows<P: Print>(rt: &P, file: &[u8]) -> io::Result<()>
     requires { Layout.is_good (Layout.of_file file.now) ≡ true }
 {
-    let mut number = 0;
-    while number < MOST_ROWS {
-        if tell_row(rt, file, row_of(file, number))? {
-            number += 1;
-            continue;
-        }
-        return Ok(());
+    for number in 0..MOST_ROWS {
+        let Some(row) = row_of(file, number) else {
+            break;
+        };
+        tell_row(rt, file, row)?;
     }
     Ok(())
 }

@@ -1,21 +1,12 @@
 // The sizes of the program, by the names that specs/Words.antt gives them.
 
-// "none to 255 groups of four": the head of a version from 3 on, and 255 entries of five bytes. One more stands for words that build no block.
+// "none to 255 groups of four": the head of a version from 3 on, and 255 entries of five bytes.
 pub const BLOCK_ROOM: usize = 1292;
-
-pub const WRONG: usize = 1293;
-
-pub const MOST_GROUPS: usize = 255;
 
 pub const MOST_BEHIND: usize = 1275;
 
 // An address has two bytes of an entry, from this one on.
 pub const ADDRESS_PLACE: usize = 3;
-
-// "Numbers are digits, 0-255, an address 0-65535".
-pub const LARGEST_BYTE: u32 = 255;
-
-pub const BYTE_VALUES: u32 = 256;
 
 // "The program's buffer has 8,192 bytes".
 pub const FILE_ROOM: usize = 8192;
@@ -28,6 +19,3 @@ pub const NAME_ROOM: usize = 4096;
 
 // A word of the command line that has more is no word of a block.
 pub const WORD_ROOM: usize = 65536;
-
-// Room for the line of an answer.
-pub const OUTPUT_ROOM: usize = 4096;
