@@ -10,8 +10,8 @@ SPECS = 'crates/model/specs/'
 CASES = {'crates/table/specs/Script.antt': 'same_words writes looks', 'crates/history/specs/Example.antt': 'writes'}
 FILES = [line.split()[-1] for line in open(SPECS + 'Lib.antt') if line.startswith('pub mod')]
 TYPES = {
-    'Registers': 'declared.Registers', 'Arguments': 'declared.Arguments', 'Held': 'declared.Held', 'Verdict': 'declared.Verdict', 'Finding': 'declared.Finding',
-    'Checked': 'declared.Checked', 'Entry': 'declared.Entry', 'Fit': 'declared.Fit', 'State': 'declared.State', 'Parts': 'declared.Parts', 'Said': 'declared.Said',
+    'Registers': 'declared.Registers', 'Arguments': 'declared.Arguments', 'Held': 'Told', 'Verdict': 'Told', 'Finding': 'Told',
+    'Checked': 'Told', 'Entry': 'declared.Entry', 'Fit': 'Told', 'State': 'declared.State', 'Parts': 'declared.Parts', 'Said': 'declared.Said',
     'Line': 'declared.Line', 'Side': 'declared.Side', 'Context': 'declared.Context', 'Taken': 'Page', 'Tested': 'Mail', 'Lists': 'Lists', 'Outcome': 'Answer', 'Rule': 'Rule',
 }
 
@@ -19,7 +19,7 @@ TYPES = {
 def unfolding():
     names = []
     for file in FILES:
-        if file not in ('Same', 'Bytes', 'Rule'):
+        if file not in ('Same', 'Bytes', 'Rule', 'Coded'):
             found = re.findall(r'^\s*unfoldable pub (\S+) :', open(SPECS + file + '.antt').read(), re.M)
             names += ['%s.%s' % (file, x) for x in found]
     found = re.findall(r'^\s*unfoldable pub (\S+) :', open(SPECS + 'Rule.antt').read(), re.M)
@@ -29,7 +29,7 @@ def unfolding():
 def short_names():
     uses, body, seen = [], [], {}
     for file in FILES:
-        if file in ('Store', 'Same', 'Map', 'Rule', 'Bytes'):
+        if file in ('Store', 'Same', 'Map', 'Rule', 'Bytes', 'Told', 'Coded'):
             continue
         parts = re.split(r'^module _ (.*) where$', open(SPECS + file + '.antt').read(), flags=re.M)
         found = []

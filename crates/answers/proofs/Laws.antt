@@ -1,14 +1,12 @@
--- The entry of a fault, and its straight line; an instruction done on a memory that was found as m₁; both ways of taking a page.
+-- The entry of a fault, and its straight line; an instruction done on a memory that was found as m₁.
 use Prim.Native.Nat.{ℕ, ◌+◌, ◌≤◌, ◌<◌}
 use mathlib.Core.Path.{◌≡◌}
-use borrow.Author.Tests.{lt-ltb, le-ltb, eq-eqb, ne_eqb}
-use Rattle.model.specs.declared.Answer.TheVariants.{Fault}
+use borrow.Author.Tests.{lt-ltb, le-ltb}
+use Rattle.model.specs.Told.Answer.{Fault}
 use Rattle.model.specs.Answer.Outcome.{gives}
 use Rattle.model.specs.Map.{pair, first_unused, entry_at, entries_full}
 use Rattle.model.specs.Fault as Faults
-use Rattle.model.specs.Operate as Operate
-use Rattle.model.specs.Page.Taken.{took}
-use Rattle.model.specs.Bytes.{Memory, Step, at, write, running, name, stop, entered, who_runs, done, fault, take_page, waits_for_page, with_page}
+use Rattle.model.specs.Bytes.{Memory, Step, at, write, running, name, stop, entered, who_runs, done, fault}
 
 -- w is n made wide
 module _ (m : Memory) (e n : ℕ) (en : n ≡ at m first_unused) where
@@ -29,18 +27,4 @@ fault_is m m₁ m₂ f n en e₁ e₂ = rw (← en, ← e₁, ← e₂)
 pub done_of : (m m₁ : Memory) (o : Step) (len : ℕ) → m₁ ≡ m → o ≡ done m₁ len → o ≡ done m len
 done_of m m₁ o len e₁ e = rw (← e₁) e
 
--- SME and CRP with page q: none, or in hand
-module _ (m m₁ : Memory) (o : Step) (goes : ℕ → Memory → Memory) (len r q : ℕ) (er : r ≡ running m) (eq : took q m₁ ≡ take_page m r) where
-  pub page_none : q ≡ 0 → o ≡ waits_for_page m₁ → o ≡ with_page m goes len
-  unfolding Operate.with_page
-  page_none z h = rw (← er, ← eq, Operate.with_page, eq-eqb q 0 z) h
-
-  pub page_taken_lem : (m₂ : Memory) → (q ≡ 0 → ⊥) → m₂ ≡ goes q m₁ → o ≡ done m₂ len → o ≡ with_page m goes len
-  unfolding Operate.with_page
-  page_taken_lem m₂ z e₂ h = rw (← er, ← eq, Operate.with_page, ne_eqb q 0 z, ← e₂) h
-
-pub ruleset pages = (page_none, page_taken_lem)
-
 pub ruleset entering = (enter_room, enter_full)
-
-pub ruleset answers = (fault_is)

@@ -6,7 +6,7 @@ ghost use Rattle.model.specs.Address.{wrapped};
 ghost use Rattle.model.specs.Instruction as Instruction;
 ghost use Rattle.model.specs.Bytes as Model;
 
-use model::{Arguments, instructions, map, wide};
+use model::{Arguments, Memory, instructions, map, wide};
 use words::{address_at, at, wrapped};
 
 // What the table says of an instruction: its length, how many argument words it has for EXI, and their shape.
@@ -209,37 +209,37 @@ fn counted_arguments(interrupt: u8, count: u8) -> Arguments
 }
 
 // Of the words from the start on: one by its index, its low four bits, and the address that begins there.
-fn argument(m: &[u8], start: u16, index: u16) -> u8
-    requires { (length m.now ≡ 8192) × (start < 8192) × (index < 8192) }
+fn argument(m: &Memory, start: u16, index: u16) -> u8
+    requires { (start < 8192) × (index < 8192) }
     ensures { result ≡ Model.argument m.now start index }
 {
     at(m, wrapped(start, index))
 }
 
-fn four_at(m: &[u8], start: u16, index: u16) -> u8
-    requires { (length m.now ≡ 8192) × (start < 8192) × (index < 8192) }
+fn four_at(m: &Memory, start: u16, index: u16) -> u8
+    requires { (start < 8192) × (index < 8192) }
     ensures { (result ≡ Model.four_at m.now start index) × (result < 16) }
 {
     argument(m, start, index) % map::FIELD
 }
 
-fn address_from(m: &[u8], start: u16, index: u16) -> u16
-    requires { (length m.now ≡ 8192) × (start < 8192) × (index < 8192) }
+fn address_from(m: &Memory, start: u16, index: u16) -> u16
+    requires { (start < 8192) × (index < 8192) }
     ensures { (result ≡ Model.address_at m.now (wrapped start index)) × (result < 8192) }
 {
     address_at(m, wrapped(start, index))
 }
 
 // A direct instruction has its field in word 1, three bits and an address in words 2 and 3.
-fn three_at(m: &[u8], start: u16) -> u8
-    requires { (length m.now ≡ 8192) × (start < 8192) }
+fn three_at(m: &Memory, start: u16) -> u8
+    requires { start < 8192 }
     ensures { (result ≡ Model.three_at m.now start) × (result < 16) }
 {
     argument(m, start, 2) / map::HIGHS
 }
 
-fn direct_counted(m: &[u8], start: u16) -> Arguments
-    requires { (length m.now ≡ 8192) × (start < 8192) }
+fn direct_counted(m: &Memory, start: u16) -> Arguments
+    requires { start < 8192 }
     ensures { (result ≡ Model.direct_counted m.now start) × (result.field < 16) × (result.second < 16) × (result.w < 16) × (result.address < 8192) }
 {
     let k = argument(m, start, 2);
@@ -247,8 +247,8 @@ fn direct_counted(m: &[u8], start: u16) -> Arguments
     counted_arguments(k, c)
 }
 
-fn direct_creating(m: &[u8], start: u16) -> Arguments
-    requires { (length m.now ≡ 8192) × (start < 8192) }
+fn direct_creating(m: &Memory, start: u16) -> Arguments
+    requires { start < 8192 }
     ensures { (result ≡ Model.direct_creating m.now start) × (result.field < 16) × (result.second < 16) × (result.w < 16) × (result.address < 8192) }
 {
     let f = four_at(m, start, 1);
@@ -258,8 +258,8 @@ fn direct_creating(m: &[u8], start: u16) -> Arguments
 }
 
 // The arguments of the instruction at the start, by their shape.
-pub fn direct(m: &[u8], start: u16, shape: u8) -> Arguments
-    requires { (length m.now ≡ 8192) × (start < 8192) }
+pub fn direct(m: &Memory, start: u16, shape: u8) -> Arguments
+    requires { start < 8192 }
     ensures { (result ≡ Model.direct m.now start shape) × (result.field < 16) × (result.second < 16) × (result.w < 16) × (result.address < 8192) }
 {
     match shape {
@@ -279,15 +279,15 @@ pub fn direct(m: &[u8], start: u16, shape: u8) -> Arguments
 }
 
 // EXI has the flag or CODE1 in word 1 of its arguments.
-fn flag_at(m: &[u8], start: u16) -> u8
-    requires { (length m.now ≡ 8192) × (start < 8192) }
+fn flag_at(m: &Memory, start: u16) -> u8
+    requires { start < 8192 }
     ensures { (result ≡ Model.flag_at m.now start) × (result < 16) }
 {
     argument(m, start, 1) % map::FLAGS
 }
 
-fn pointed_creating(m: &[u8], start: u16) -> Arguments
-    requires { (length m.now ≡ 8192) × (start < 8192) }
+fn pointed_creating(m: &Memory, start: u16) -> Arguments
+    requires { start < 8192 }
     ensures { (result ≡ Model.pointed_creating m.now start) × (result.field < 16) × (result.second < 16) × (result.w < 16) × (result.address < 8192) }
 {
     let f = four_at(m, start, 0);
@@ -298,8 +298,8 @@ fn pointed_creating(m: &[u8], start: u16) -> Arguments
 }
 
 // EXI's arguments at the start, by their shape.
-pub fn pointed(m: &[u8], start: u16, shape: u8) -> Arguments
-    requires { (length m.now ≡ 8192) × (start < 8192) }
+pub fn pointed(m: &Memory, start: u16, shape: u8) -> Arguments
+    requires { start < 8192 }
     ensures { (result ≡ Model.pointed m.now start shape) × (result.field < 16) × (result.second < 16) × (result.w < 16) × (result.address < 8192) }
 {
     match shape {
@@ -319,8 +319,8 @@ pub fn pointed(m: &[u8], start: u16, shape: u8) -> Arguments
 }
 
 // Whether so many argument words, of that shape, lie within their fields.
-pub fn within(m: &[u8], start: u16, shape: u8, count: u8) -> bool
-    requires { (length m.now ≡ 8192) × (start < 8192) × (shape ≤ 6) × (count ≤ 5) }
+pub fn within(m: &Memory, start: u16, shape: u8, count: u8) -> bool
+    requires { (start < 8192) × (shape ≤ 6) × (count ≤ 5) }
     ensures { result ≡ Model.within count m.now start shape }
 {
     if count == 0 {

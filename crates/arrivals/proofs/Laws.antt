@@ -8,9 +8,9 @@ use lib.ListN.{length, get_or, take, drop}
 use lib.Seq.{take_all}
 use borrow.Author.Tests.{lt-ltb, le-ltb}
 use native.Mathlib.Omega.{arith}
-use Rattle.model.specs.declared.Answer.TheVariants.{Done, RefusedAt}
-use Rattle.model.specs.declared.Checked.{Checked}
-use Rattle.model.specs.declared.Checked.TheVariants.{Good, Bad}
+use Rattle.model.specs.Told.Answer.{Done, RefusedAt}
+use Rattle.model.specs.Told.{Checked}
+use Rattle.model.specs.Told.Checked.{Good, Bad}
 use Rattle.model.specs.Map.{low, pair_bytes, longest_list}
 use Rattle.model.specs.Address.{unless}
 use Rattle.model.specs.Answer.{no_interrupt, wrong_class}

@@ -10,7 +10,7 @@ ghost use Rattle.model.specs.Bytes as Model;
 ghost use Rattle.arrivals.specs.Good.{AllGood};
 
 use interrupts::deliver;
-use model::{Answer, Checked, map, refusals, wide};
+use model::{Answer, Checked, Memory, map, refusals, wide};
 use turn::who_runs;
 use words::low;
 
@@ -47,8 +47,8 @@ fn in_byte(number: u16) -> u8
 }
 
 // An interrupt that passed both tests is delivered; then who runs.
-fn arrive(m: &mut [u8], number: u16, class: u16)
-    requires { (length m.old ≡ 8192) × (Call.is_outer number ≡ true) × (Call.is_class number class ≡ true) }
+fn arrive(m: &mut Memory, number: u16, class: u16)
+    requires { (Call.is_outer number ≡ true) × (Call.is_class number class ≡ true) }
     ensures { m.new ≡ Model.who_runs (Model.delivered m.old number class) }
 {
     deliver(m, in_byte(number), low(class));
@@ -86,8 +86,8 @@ fn test(list: &[u8], place: u16) -> Checked
 }
 
 // The pairs, which passed the tests, arrive in order.
-fn arrive_all(m: &mut [u8], list: &[u8])
-    requires { (length m.old ≡ 8192) × AllGood list.now }
+fn arrive_all(m: &mut Memory, list: &[u8])
+    requires { AllGood list.now }
     ensures { m.new ≡ Model.arrived m.old list.now }
 {
     if list.len() < map::PAIR_BYTES {
@@ -98,8 +98,7 @@ fn arrive_all(m: &mut [u8], list: &[u8])
 }
 
 // One interrupt, on a memory that nothing refuses: 24, 25, or it arrives.
-pub fn interrupt_judged(m: &mut [u8], number: u16, class: u16) -> Answer
-    requires { length m.old ≡ 8192 }
+pub fn interrupt_judged(m: &mut Memory, number: u16, class: u16) -> Answer
     ensures { gives result m.new ≡ Model.interrupt_judged m.old number class }
 {
     if is_outer(number) {
@@ -113,8 +112,7 @@ pub fn interrupt_judged(m: &mut [u8], number: u16, class: u16) -> Answer
 }
 
 // A burst, on such a memory: 27, the first bad pair with its place, or all arrive.
-pub fn burst_judged(m: &mut [u8], list: &[u8]) -> Answer
-    requires { length m.old ≡ 8192 }
+pub fn burst_judged(m: &mut Memory, list: &[u8]) -> Answer
     ensures { gives result m.new ≡ Model.burst_judged m.old list.now }
 {
     if is_list(list) {

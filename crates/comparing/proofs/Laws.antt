@@ -8,9 +8,8 @@ use lib.ListN.{length, get_or}
 use borrow.Author.Tests.{eqb-true, eqb-false, eq-eqb, ne_eqb, lt-ltb, le-ltb, le-leb, lt-leb}
 use native.Mathlib.Numerals.{sub-one}
 use native.Mathlib.Omega.{arith}
-use Rattle.model.specs.declared.Finding.{Finding}
-use Rattle.model.specs.declared.Finding.TheVariants.{WrongLength, Broken}
-use Rattle.model.specs.declared.Finding.TheVariants as Finding
+use Rattle.model.specs.Told.{Finding}
+use Rattle.model.specs.Told.Finding.{WrongLength, Broken}
 use Rattle.model.specs.declared.Side.TheVariants.{First, Second}
 use Rattle.model.specs.declared.Line.TheVariants.{Word, Refused, RefusedAt, Processor}
 use Rattle.model.specs.declared.Said.{Said}

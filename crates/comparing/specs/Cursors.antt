@@ -1,8 +1,7 @@
 -- The lines of two memories m and k, told one by one: which lines are left from a cursor on, and the step that tells the next of them.
 use Rattle.std.specs.Prelude.{ℕ, zero, suc, ◌+◌, ◌-◌, Bool, true, false, cond, ◌&&◌, List, [], ◌∷◌, ◌++◌, eqb, ltb, get_or}
-use Rattle.model.specs.declared.Finding.{Finding}
-use Rattle.model.specs.declared.Finding.TheVariants.{WrongLength, Broken}
-use Rattle.model.specs.declared.Finding.TheVariants as Finding
+use Rattle.model.specs.Told.{Finding}
+use Rattle.model.specs.Told.Finding.{WrongLength, Broken}
 use Rattle.model.specs.declared.Side.TheVariants as Side
 use Rattle.model.specs.declared.Said.{Said}
 use Rattle.model.specs.declared.Said.TheVariants.{Nothing, OnlyIn, DiffersIn}

@@ -9,9 +9,8 @@ use mathlib.Core.List.{List, [], ◌∷◌, ◌++◌, map}
 use Rattle.std.proofs.Math.Dec.{eqb}
 use Rattle.std.proofs.Math.ListN.{length}
 use borrow.Author.Tests.{eq-eqb, lt-ltb, le-ltb}
-use Rattle.model.specs.declared.Finding.{Finding}
-use Rattle.model.specs.declared.Finding.TheVariants.{WrongLength, Broken}
-use Rattle.model.specs.declared.Finding.TheVariants as Finding
+use Rattle.model.specs.Told.{Finding}
+use Rattle.model.specs.Told.Finding.{WrongLength, Broken}
 use Rattle.model.specs.declared.Side.TheVariants as Side
 use Rattle.model.specs.declared.Said.{Said}
 use Rattle.model.specs.declared.Said.TheVariants.{Nothing, OnlyIn, DiffersIn}

@@ -4,12 +4,12 @@ ghost use Rattle.model.specs.Map as Map;
 ghost use Rattle.model.specs.Differ as Differ;
 ghost use Rattle.model.specs.Bytes as Model;
 
-use model::{ControlPage, map};
+use model::{ControlPage, Memory, map};
 use words::{at, wrapped};
 
 // Whether so many words, from `a` on in the first and from `b` on in the second, are the same.
-fn same_words(first: &[u8], a: u16, second: &[u8], b: u16, left: u8) -> bool
-    requires { (length first.now ≡ 8192) × (length second.now ≡ 8192) × (a < 8192) × (b < 8192) }
+fn same_words(first: &Memory, a: u16, second: &Memory, b: u16, left: u8) -> bool
+    requires { (a < 8192) × (b < 8192) }
     ensures { result ≡ Differ.same_words (Model.words_from left first.now a) (Model.words_from left second.now b) }
 {
     if left == 0 {
@@ -24,8 +24,8 @@ fn same_words(first: &[u8], a: u16, second: &[u8], b: u16, left: u8) -> bool
 }
 
 // Whether word 2 and the text of two messages are the same.
-fn same_content(first: &[u8], p: ControlPage, second: &[u8], q: ControlPage) -> bool
-    requires { (length first.now ≡ 8192) × (length second.now ≡ 8192) }
+fn same_content(first: &Memory, p: ControlPage, second: &Memory, q: ControlPage) -> bool
+    requires { length second.now ≡ 8192 }
     ensures { result ≡ Differ.same_words (Model.content_of first.now p.0) (Model.content_of second.now q.0) }
 {
     let size = p.word(first, map::SIZE);
@@ -42,8 +42,8 @@ fn same_content(first: &[u8], p: ControlPage, second: &[u8], q: ControlPage) -> 
 }
 
 // Whether two messages are the same.
-fn same_message(first: &[u8], p: ControlPage, second: &[u8], q: ControlPage) -> bool
-    requires { (length first.now ≡ 8192) × (length second.now ≡ 8192) }
+fn same_message(first: &Memory, p: ControlPage, second: &Memory, q: ControlPage) -> bool
+    requires { length second.now ≡ 8192 }
     ensures { result ≡ Differ.same_words (Model.message_of first.now p.0) (Model.message_of second.now q.0) }
 {
     let note = p.word(first, map::NOTE);
@@ -54,8 +54,8 @@ fn same_message(first: &[u8], p: ControlPage, second: &[u8], q: ControlPage) -> 
 }
 
 // Whether the messages that hang from two cells are the same, in their order.
-fn same_messages(first: &[u8], a: u16, second: &[u8], b: u16, left: u8) -> bool
-    requires { (length first.now ≡ 8192) × (length second.now ≡ 8192) × (a < 8192) × (b < 8192) }
+fn same_messages(first: &Memory, a: u16, second: &Memory, b: u16, left: u8) -> bool
+    requires { (a < 8192) × (b < 8192) }
     ensures { result ≡ Differ.same_messages
         (map (Model.message_of first.now) (Model.walk left first.now Map.link a))
         (map (Model.message_of second.now) (Model.walk left second.now Map.link b)) }
@@ -84,8 +84,8 @@ fn same_messages(first: &[u8], a: u16, second: &[u8], b: u16, left: u8) -> bool
 }
 
 // Whether the queues with two headers hold the same messages, in their order.
-pub fn same_mail(first: &[u8], a: u16, second: &[u8], b: u16) -> bool
-    requires { (length first.now ≡ 8192) × (length second.now ≡ 8192) × (a < 8192) × (b < 8192) }
+pub fn same_mail(first: &Memory, a: u16, second: &Memory, b: u16) -> bool
+    requires { (a < 8192) × (b < 8192) }
     ensures { result ≡ Model.same_mail first.now a second.now b }
 {
     same_messages(first, a, second, b, map::CONTROL_PAGES)

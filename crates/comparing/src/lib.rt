@@ -15,7 +15,7 @@ ghost use Rattle.comparing.specs.Cursors as Cursors;
 
 use crate::addresses::next_differing;
 use crate::names::said;
-use model::{Finding, Line, Name, Said, Side, map, refusals};
+use model::{Finding, Line, Memory, Name, Said, Side, map, refusals};
 use telling::finding;
 
 // How far the lines are told: not begun; the words before an address, and whether there was a line yet; what was against the first; the names before one, and
@@ -61,8 +61,8 @@ fn speaks(said: Said) -> bool
 }
 
 // The first of so many names from one on of which something is said; the end where there is none.
-fn next_named(first: &[u8], second: &[u8], from: u8, count: u8) -> u8
-    requires { (length first.now ≡ 8192) × (length second.now ≡ 8192) × (from + count ≤ 255) }
+fn next_named(first: &Memory, second: &Memory, from: u8, count: u8) -> u8
+    requires { from + count ≤ 255 }
     ensures { (result ≡ Cursors.next_named count first.now second.now from) × (from ≤ result) × (result ≤ from + count) }
 {
     let mut name = from;
@@ -78,8 +78,8 @@ fn next_named(first: &[u8], second: &[u8], from: u8, count: u8) -> u8
 }
 
 // The line of a name; at the end, that all is told.
-fn name_step(first: &[u8], second: &[u8], name: u8, told: bool) -> Step
-    requires { (length first.now ≡ 8192) × (length second.now ≡ 8192) }
+fn name_step(first: &Memory, second: &Memory, name: u8, told: bool) -> Step
+    requires { length second.now ≡ 8192 }
     ensures { result ≡ Cursors.name_step first.now second.now name told }
 {
     if name < NAMES_END {
@@ -100,8 +100,8 @@ fn names_left(from: u8) -> u8
 }
 
 // The first line of the names from one on.
-fn names_step(first: &[u8], second: &[u8], from: u8, told: bool) -> Step
-    requires { (length first.now ≡ 8192) × (length second.now ≡ 8192) }
+fn names_step(first: &Memory, second: &Memory, from: u8, told: bool) -> Step
+    requires { length second.now ≡ 8192 }
     ensures { result ≡ Cursors.names_step first.now second.now from told }
 {
     let name = next_named(first, second, from, names_left(from));
@@ -109,8 +109,8 @@ fn names_step(first: &[u8], second: &[u8], from: u8, told: bool) -> Step
 }
 
 // What is broken of the second; else the names.
-fn second_step(first: &[u8], second: &[u8], told: bool) -> Step
-    requires { (length first.now ≡ 8192) × (length second.now ≡ 8192) }
+fn second_step(first: &Memory, second: &Memory, told: bool) -> Step
+    requires { length second.now ≡ 8192 }
     ensures { result ≡ Cursors.second_step (Model.told_of second.now) first.now second.now told }
 {
     match finding(second) {
@@ -134,8 +134,8 @@ fn refused_at(side: Side, broken: u8, place: u16, then: Cursor) -> Step
 }
 
 // Behind the words: what is broken of the first, of the second; else the names.
-fn judged_step(first: &[u8], second: &[u8], told: bool) -> Step
-    requires { (length first.now ≡ 8192) × (length second.now ≡ 8192) }
+fn judged_step(first: &Memory, second: &Memory, told: bool) -> Step
+    requires { length second.now ≡ 8192 }
     ensures { result ≡ Cursors.judged_step first.now second.now told }
 {
     match finding(first) {
@@ -146,8 +146,8 @@ fn judged_step(first: &[u8], second: &[u8], told: bool) -> Step
 }
 
 // The line of an address; at the end, what stands behind the words.
-fn word_step(first: &[u8], second: &[u8], at: usize, told: bool) -> Step
-    requires { (length first.now ≡ 8192) × (length second.now ≡ 8192) }
+fn word_step(first: &Memory, second: &Memory, at: usize, told: bool) -> Step
+    requires { length second.now ≡ 8192 }
     ensures { result ≡ Cursors.word_step first.now second.now at told }
 {
     if at < map::MEMORY_WORDS {
@@ -158,8 +158,8 @@ fn word_step(first: &[u8], second: &[u8], at: usize, told: bool) -> Step
 }
 
 // The first line of the words from an address on; a place behind them all is their end.
-fn words_step(first: &[u8], second: &[u8], from: usize, told: bool) -> Step
-    requires { (length first.now ≡ 8192) × (length second.now ≡ 8192) }
+fn words_step(first: &Memory, second: &Memory, from: usize, told: bool) -> Step
+    requires { length second.now ≡ 8192 }
     ensures { result ≡ Cursors.words_step first.now second.now from told }
 {
     if from < map::MEMORY_WORDS {
@@ -170,8 +170,7 @@ fn words_step(first: &[u8], second: &[u8], from: usize, told: bool) -> Step
 }
 
 // What is broken of the second, alone.
-fn against_step(second: &[u8]) -> Step
-    requires { length second.now ≡ 8192 }
+fn against_step(second: &Memory) -> Step
     ensures { result ≡ Cursors.against_step (Model.told_of second.now) }
 {
     match finding(second) {
@@ -182,8 +181,8 @@ fn against_step(second: &[u8]) -> Step
 }
 
 // The next line of two memories of 8,192 words.
-fn whole_step(first: &[u8], second: &[u8], cursor: Cursor) -> Step
-    requires { (length first.now ≡ 8192) × (length second.now ≡ 8192) }
+fn whole_step(first: &Memory, second: &Memory, cursor: Cursor) -> Step
+    requires { length second.now ≡ 8192 }
     ensures { result ≡ Cursors.whole_step cursor first.now second.now }
 {
     match cursor {

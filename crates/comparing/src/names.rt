@@ -5,7 +5,7 @@ ghost use Rattle.model.specs.Differ as Differ;
 ghost use Rattle.model.specs.Bytes as Model;
 
 use crate::letters::same_mail;
-use model::{ControlPage, Name, Parts, Said, Side, State, map};
+use model::{ControlPage, Memory, Name, Parts, Said, Side, State, map};
 use processors::{page_of, priority, queued, running, seat};
 
 // A queue that no semaphore outside a processor's page stands for: one's own message wait, and none.
@@ -23,8 +23,7 @@ fn queue_at(semaphore: u16) -> u16
 }
 
 // The queue that the processor of a page waits in.
-fn queue_of(m: &[u8], page: ControlPage) -> u16
-    requires { length m.now ≡ 8192 }
+fn queue_of(m: &Memory, page: ControlPage) -> u16
     ensures { result ≡ Model.queue_of m.now page.0 }
 {
     let semaphore = seat(m, page, map::INTERRUPTS);
@@ -35,8 +34,7 @@ fn queue_of(m: &[u8], page: ControlPage) -> u16
 }
 
 // 1 if the processor of a page is the one that runs.
-fn runs(m: &[u8], page: ControlPage) -> u8
-    requires { length m.now ≡ 8192 }
+fn runs(m: &Memory, page: ControlPage) -> u8
     ensures { result ≡ hit (eqb (Model.running m.now) page.0) }
 {
     let runner = running(m);
@@ -46,8 +44,7 @@ fn runs(m: &[u8], page: ControlPage) -> u8
     0
 }
 
-fn state_of(m: &[u8], page: ControlPage) -> State
-    requires { length m.now ≡ 8192 }
+fn state_of(m: &Memory, page: ControlPage) -> State
     ensures { result ≡ Model.state_of m.now page.0 }
 {
     let bits = page.word(m, map::STATE);
@@ -97,16 +94,16 @@ fn differ(same: bool) -> bool
 }
 
 // Whether the priorities of two processors differ.
-fn priorities_differ(first: &[u8], p: ControlPage, second: &[u8], q: ControlPage) -> bool
-    requires { (length first.now ≡ 8192) × (length second.now ≡ 8192) }
+fn priorities_differ(first: &Memory, p: ControlPage, second: &Memory, q: ControlPage) -> bool
+    requires { length second.now ≡ 8192 }
     ensures { result ≡ not (eqb (Model.priority first.now p.0) (Model.priority second.now q.0)) }
 {
     let x = priority(first, p);
     differ(x == priority(second, q))
 }
 
-fn differences(first: &[u8], p: ControlPage, second: &[u8], q: ControlPage) -> Parts
-    requires { (length first.now ≡ 8192) × (length second.now ≡ 8192) }
+fn differences(first: &Memory, p: ControlPage, second: &Memory, q: ControlPage) -> Parts
+    requires { length second.now ≡ 8192 }
     ensures { result ≡ Model.differences first.now p.0 second.now q.0 }
 {
     let state = differ(same_state(state_of(first, p), state_of(second, q)));
@@ -141,8 +138,8 @@ fn differs_in(parts: Parts) -> Said
 }
 
 // What is said where the first has no processor of the name, and where it has one.
-fn said_of(first: &[u8], p: ControlPage, second: &[u8], q: ControlPage) -> Said
-    requires { (length first.now ≡ 8192) × (length second.now ≡ 8192) }
+fn said_of(first: &Memory, p: ControlPage, second: &Memory, q: ControlPage) -> Said
+    requires { length second.now ≡ 8192 }
     ensures { result ≡ Model.said_of first.now p.0 second.now q.0 }
 {
     if p.0 == 0 {
@@ -157,8 +154,8 @@ fn said_of(first: &[u8], p: ControlPage, second: &[u8], q: ControlPage) -> Said
     differs_in(differences(first, p, second, q))
 }
 
-pub fn said(first: &[u8], second: &[u8], name: Name) -> Said
-    requires { (length first.now ≡ 8192) × (length second.now ≡ 8192) }
+pub fn said(first: &Memory, second: &Memory, name: Name) -> Said
+    requires { length second.now ≡ 8192 }
     ensures { result ≡ Model.said first.now second.now name.0 }
 {
     let p = page_of(first, name);

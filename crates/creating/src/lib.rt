@@ -5,48 +5,49 @@ ghost use Rattle.std.specs.Prelude.{◌≡◌, ◌<◌};
 ghost use Rattle.std.proofs.Math.ListN as List;
 ghost use Rattle.model.specs.Processor as Processor;
 ghost use Rattle.model.specs.Answer.Outcome.{gives};
+ghost use Rattle.model.specs.Coded.{answered};
 ghost use Rattle.model.specs.Bytes as Model;
 
 use answers::{done, fault, wait_for_page};
 use deleting::delete;
-use model::{Answer, ControlPage, Name, Registers, faults, instructions, map, wide};
+use model::{Answer, ControlPage, Fault, Memory, Name, Registers, instructions, map, wide};
 use pages::take_page;
 use processors::{page_of, priority, running, set_lr, start, stop};
 use queues::join;
 use words::zero;
 
-fn st1(m: &mut [u8], page: ControlPage, length: u16) -> Answer
-    requires { (List.length m.old ≡ 8192) × (length < 8192) }
-    ensures { gives result m.new ≡ Model.st1 m.old page.0 length }
+fn st1(m: &mut Memory, page: ControlPage, length: u16) -> Answer
+    requires { length < 8192 }
+    ensures { gives (answered result) m.new ≡ Model.st1 m.old page.0 length }
 {
     start(m, page);
     done(m, length)
 }
 
-fn stp(m: &mut [u8], page: ControlPage, length: u16) -> Answer
-    requires { (List.length m.old ≡ 8192) × (length < 8192) }
-    ensures { gives result m.new ≡ Model.stp m.old page.0 length }
+fn stp(m: &mut Memory, page: ControlPage, length: u16) -> Answer
+    requires { length < 8192 }
+    ensures { gives (answered result) m.new ≡ Model.stp m.old page.0 length }
 {
     stop(m, page);
     done(m, length)
 }
 
-fn dep(m: &mut [u8], page: ControlPage, length: u16) -> Answer
-    requires { (List.length m.old ≡ 8192) × (length < 8192) }
-    ensures { gives result m.new ≡ Model.dep m.old page.0 length }
+fn dep(m: &mut Memory, page: ControlPage, length: u16) -> Answer
+    requires { length < 8192 }
+    ensures { gives (answered result) m.new ≡ Model.dep m.old page.0 length }
 {
     let state = page.word(m, map::STATE);
     if map::STOP_BIT <= state {
         delete(m, page);
         return done(m, length);
     }
-    fault(m, faults::NOT_STOPPED)
+    fault(m, Fault::NotStopped)
 }
 
 // ST1, STP or DEP, by its code, of the processor of the page.
-fn on_page(m: &mut [u8], code: u8, page: ControlPage, length: u16) -> Answer
-    requires { (List.length m.old ≡ 8192) × (length < 8192) }
-    ensures { gives result m.new ≡ Model.on_page m.old code page.0 length }
+fn on_page(m: &mut Memory, code: u8, page: ControlPage, length: u16) -> Answer
+    requires { length < 8192 }
+    ensures { gives (answered result) m.new ≡ Model.on_page m.old code page.0 length }
 {
     if code == instructions::ST1 {
         return st1(m, page, length);
@@ -58,46 +59,46 @@ fn on_page(m: &mut [u8], code: u8, page: ControlPage, length: u16) -> Answer
 }
 
 // The same of the processor of that name.
-pub fn named(m: &mut [u8], code: u8, name: Name, length: u16) -> Answer
-    requires { (List.length m.old ≡ 8192) × (length < 8192) }
-    ensures { gives result m.new ≡ Model.named m.old code name.0 length }
+pub fn named(m: &mut Memory, code: u8, name: Name, length: u16) -> Answer
+    requires { length < 8192 }
+    ensures { gives (answered result) m.new ≡ Model.named m.old code name.0 length }
 {
     if name.0 == 0 {
-        return fault(m, faults::BAD_ARGUMENT);
+        return fault(m, Fault::BadArgument);
     }
     let page = page_of(m, name);
     if page.0 == 0 {
-        return fault(m, faults::NO_NAME);
+        return fault(m, Fault::NoName);
     }
     on_page(m, code, page, length)
 }
 
-fn st2_found(m: &mut [u8], page: ControlPage, address: u16, length: u16) -> Answer
-    requires { (List.length m.old ≡ 8192) × (length < 8192) }
-    ensures { gives result m.new ≡ Model.st2_found m.old page.0 address length }
+fn st2_found(m: &mut Memory, page: ControlPage, address: u16, length: u16) -> Answer
+    requires { length < 8192 }
+    ensures { gives (answered result) m.new ≡ Model.st2_found m.old page.0 address length }
 {
     let state = page.word(m, map::STATE);
     if state < map::STOP_BIT {
-        return fault(m, faults::NOT_STARTABLE);
+        return fault(m, Fault::NotStartable);
     }
     if state % map::STOP_BIT / map::WAIT_BIT == 0 {
         set_lr(m, page, address);
         start(m, page);
         return done(m, length);
     }
-    fault(m, faults::NOT_STARTABLE)
+    fault(m, Fault::NotStartable)
 }
 
-pub fn st2(m: &mut [u8], name: Name, address: u16, length: u16) -> Answer
-    requires { (List.length m.old ≡ 8192) × (length < 8192) }
-    ensures { gives result m.new ≡ Model.st2 m.old name.0 address length }
+pub fn st2(m: &mut Memory, name: Name, address: u16, length: u16) -> Answer
+    requires { length < 8192 }
+    ensures { gives (answered result) m.new ≡ Model.st2 m.old name.0 address length }
 {
     if name.0 == 0 {
-        return fault(m, faults::BAD_ARGUMENT);
+        return fault(m, Fault::BadArgument);
     }
     let page = page_of(m, name);
     if page.0 == 0 {
-        return fault(m, faults::NO_NAME);
+        return fault(m, Fault::NoName);
     }
     st2_found(m, page, address, length)
 }
@@ -112,8 +113,8 @@ fn new_registers(address: u16, w: u8) -> Registers
 
 // The page, cleared, gets name, priority, W and LR.
 #[tactic(auto, unfolding(model::specs::Operate::headed))]
-fn head(m: &mut [u8], page: ControlPage, name: Name, priority: u8, w: u8, address: u16)
-    requires { (List.length m.old ≡ 8192) × (name.0 < 16) × (priority < 16) }
+fn head(m: &mut Memory, page: ControlPage, name: Name, priority: u8, w: u8, address: u16)
+    requires { (name.0 < 16) × (priority < 16) }
     ensures { m.new ≡ Model.headed m.old page.0 name.0 priority w address }
 {
     page.store(m, map::LABEL, priority * map::FIELD + name.0);
@@ -121,8 +122,8 @@ fn head(m: &mut [u8], page: ControlPage, name: Name, priority: u8, w: u8, addres
     r.hand_back(m, page);
 }
 
-pub fn create(m: &mut [u8], page: ControlPage, name: Name, priority: u8, w: u8, address: u16)
-    requires { (List.length m.old ≡ 8192) × (name.0 < 16) × (priority < 16) }
+pub fn create(m: &mut Memory, page: ControlPage, name: Name, priority: u8, w: u8, address: u16)
+    requires { (name.0 < 16) × (priority < 16) }
     ensures { m.new ≡ Model.created m.old page.0 name.0 priority w address }
 {
     zero(m, page.place(map::LINK), map::PAGE_SIZE);
@@ -130,9 +131,9 @@ pub fn create(m: &mut [u8], page: ControlPage, name: Name, priority: u8, w: u8, 
     join(m, map::PROCESSOR_LIST, map::LIST_LINK, page);
 }
 
-fn crp_page(m: &mut [u8], name: Name, priority: u8, w: u8, address: u16, length: u16) -> Answer
-    requires { (List.length m.old ≡ 8192) × (name.0 < 16) × (priority < 16) × (length < 8192) }
-    ensures { gives result m.new ≡ Model.crp_page m.old name.0 priority w address length }
+fn crp_page(m: &mut Memory, name: Name, priority: u8, w: u8, address: u16, length: u16) -> Answer
+    requires { (name.0 < 16) × (priority < 16) × (length < 8192) }
+    ensures { gives (answered result) m.new ≡ Model.crp_page m.old name.0 priority w address length }
 {
     let r = running(m);
     let page = take_page(m, r);
@@ -144,31 +145,30 @@ fn crp_page(m: &mut [u8], name: Name, priority: u8, w: u8, address: u16, length:
 }
 
 // The priority of the one that runs.
-fn own_priority(m: &[u8]) -> u8
-    requires { List.length m.now ≡ 8192 }
+fn own_priority(m: &Memory) -> u8
     ensures { result ≡ Model.priority m.now (Model.running m.now) }
 {
     let r = running(m);
     priority(m, r)
 }
 
-pub fn crp(m: &mut [u8], new: Name, priority: u8, w: u8, address: u16, length: u16) -> Answer
-    requires { (List.length m.old ≡ 8192) × (new.0 < 16) × (priority < 16) × (length < 8192) }
-    ensures { gives result m.new ≡ Model.crp m.old new.0 priority w address length }
+pub fn crp(m: &mut Memory, new: Name, priority: u8, w: u8, address: u16, length: u16) -> Answer
+    requires { (new.0 < 16) × (priority < 16) × (length < 8192) }
+    ensures { gives (answered result) m.new ≡ Model.crp m.old new.0 priority w address length }
 {
     if new.0 == 0 {
-        return fault(m, faults::BAD_ARGUMENT);
+        return fault(m, Fault::BadArgument);
     }
     if priority == 0 {
-        return fault(m, faults::BAD_ARGUMENT);
+        return fault(m, Fault::BadArgument);
     }
     let own = own_priority(m);
     if own < priority {
-        return fault(m, faults::ABOVE_ITSELF);
+        return fault(m, Fault::AboveItself);
     }
     let namesake = page_of(m, new);
     if namesake.0 == 0 {
         return crp_page(m, new, priority, w, address, length);
     }
-    fault(m, faults::NAME_EXISTS)
+    fault(m, Fault::NameExists)
 }

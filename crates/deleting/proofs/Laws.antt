@@ -1,11 +1,14 @@
 -- A law for each way through deleting.
-use Prim.Native.Nat.{ℕ, zero, suc, ◌+◌, ◌-◌, ◌≤◌, ◌<◌}
+use Prim.Native.Nat.{ℕ, zero, suc, ◌+◌, ◌≤◌, ◌<◌}
 use mathlib.Core.Path.{◌≡◌, refl}
 use mathlib.Core.Bool.{Bool, true, false}
 use lib.Dec.{eqb}
 use borrow.Author.Tests.{lt-ltb, le-ltb, eq-eqb, ne_eqb}
-use native.Mathlib.Numerals.{sub-one}
 use native.Mathlib.Omega.{arith}
+use Rattle.std.specs.Prelude.{Some, None}
+use Rattle.model.specs.declared.ControlPage.{ControlPage}
+use Rattle.model.specs.Coded.{found}
+use Rattle.queues.proofs.Laws.{none_is, some_is, some_not}
 use Rattle.model.specs.Map.{place, upper, link, list_link, processor_list, control_pages, q1, q2, note, size, mark, grant_for}
 use Rattle.model.specs.Delete as Delete
 use Rattle.model.specs.Bytes.{Memory, word, store, at, write, name, leave_wait, unlisted, leave, page_of, give_back, sender}
@@ -57,14 +60,14 @@ module _ (m m₁ : Memory) (n q l : ℕ) (el : l ≡ word m q size) where
   unfolding Delete.returned
   returned_marked h e₁ = rw (← el, le-ltb l mark h) e₁
 
-  module _ (w p : ℕ) (h : l < mark) (ew : w ≡ word m q note) (ep : p ≡ page_of m (upper w)) where
-    pub returned_none : p ≡ 0 → m₁ ≡ give_back m q → m₁ ≡ returned m n q
+  module _ (w x : ℕ) (h : l < mark) (ew : w ≡ word m q note) (ex : x ≡ upper w) where
+    pub returned_none : None ≡ found (page_of m x) → m₁ ≡ give_back m q → m₁ ≡ returned m n q
     unfolding Delete.returned
-    returned_none z e₁ = rw (← el, lt-ltb l mark h, ← ew, ← ep, eq-eqb p 0 z) e₁
+    returned_none z e₁ = rw (← el, lt-ltb l mark h, ← ew, ← ex, eq-eqb (page_of m x) 0 (none_is _ z)) e₁
 
-    pub returned_sender : (p ≡ 0 → ⊥) → m₁ ≡ noticed m n q p → m₁ ≡ returned m n q
+    pub returned_sender : (p : ControlPage) → m₁ ≡ noticed m n q p.0 → Some p ≡ found (page_of m x) → m₁ ≡ returned m n q
     unfolding Delete.returned
-    returned_sender z e₁ = rw (← el, lt-ltb l mark h, ← ew, ← ep, ne_eqb p 0 z) e₁
+    returned_sender p e₁ z = rw (← el, lt-ltb l mark h, ← ew, ← ex, ne_eqb (page_of m x) 0 (some_not _ p z), ← (some_is _ p z)) e₁
 
 -- A walk from the cell at a: with the page q that hangs there it does g, and goes on from the cell next.
 pub record Walk (f : ℕ → Memory → ℕ → ℕ → Memory) (g : Memory → ℕ → ℕ → ℕ → Memory) (next : ℕ → ℕ → ℕ) : Type 0 where
@@ -77,14 +80,15 @@ module _ {f : ℕ → Memory → ℕ → ℕ → Memory} {g : Memory → ℕ →
   walk_none zero m n a e = rw (w.ends m n a)
   walk_none (suc i) m n a e = absurd (omega arith)
 
-  pub walk_end : (i : ℕ) (m : Memory) (n a q : ℕ) → q ≡ at m a → q ≡ 0 → m ≡ f i m n a
-  walk_end zero m n a q eq z = rw (w.ends m n a)
-  walk_end (suc i) m n a q eq z = rw (w.goes i m n a, ← eq, eq-eqb q 0 z)
+  pub walk_end : (i : ℕ) (m : Memory) (n a : ℕ) → None ≡ found (at m a) → m ≡ f i m n a
+  walk_end zero m n a e = rw (w.ends m n a)
+  walk_end (suc i) m n a e = rw (w.goes i m n a, eq-eqb (at m a) 0 (none_is _ e))
 
-  pub walk_on : (i : ℕ) (m m₁ m₂ : Memory) (n a q b : ℕ) → (i ≡ 0 → ⊥) → q ≡ at m a → (q ≡ 0 → ⊥) → m₁ ≡ g m n a q → b ≡ next a q → m₂ ≡ f (i - 1) m₁ n b
-      → m₂ ≡ f i m n a
-  walk_on zero m m₁ m₂ n a q b o eq z e₁ eb e₂ = absurd (o refl)
-  walk_on (suc i) m m₁ m₂ n a q b o eq z e₁ eb e₂ = rw (w.goes i m n a, ← eq, ne_eqb q 0 z, ← eq, ← e₁, ← eb) (simp sub-one at e₂)
+  pub walk_on : (i j : ℕ) (m m₁ : Memory) (n a b : ℕ) (p : ControlPage) → i ≡ j + 1 → Some p ≡ found (at m a) → m₁ ≡ g m n a p.0 → b ≡ next a p.0
+      → f i m n a ≡ f j m₁ n b
+  walk_on zero j m m₁ n a b p o e e₁ eb = absurd (omega arith)
+  walk_on (suc i) j m m₁ n a b p o e e₁ eb =
+      let k : i ≡ j = omega arith in rw (w.goes i m n a, ne_eqb (at m a) 0 (some_not _ p e), ← (some_is _ p e), ← e₁, ← eb, k)
 
 pub marks_messages : Walk marked_from (λ m n a q. marked m n q) (λ a q. place q link)
 unfolding Delete.marked_from
@@ -98,19 +102,15 @@ pub empties : Walk emptied (λ m n h q. returned (leave m h link q) n q) (λ h q
 unfolding Delete.emptied
 empties = record { ends = λ m n h. refl; goes = λ i m n h. refl }
 
-pub emptied_on : (i : ℕ) (m m₁ m₂ m₃ : Memory) (n h q : ℕ) → (i ≡ 0 → ⊥) → q ≡ at m h → (q ≡ 0 → ⊥) → m₁ ≡ leave m h link q → m₂ ≡ returned m₁ n q
-    → m₃ ≡ emptied (i - 1) m₂ n h → m₃ ≡ emptied i m n h
-emptied_on i m m₁ m₂ m₃ n h q o eq z e₁ e₂ e₃ = walk_on empties i m m₂ m₃ n h q h o eq z (rw (← e₁) e₂) refl e₃
-
--- w is the name n made wide
-module _ (m : Memory) (n w q : ℕ) (ew : w ≡ n) (eq : q ≡ at m (grant_for w)) where
-  pub grant_none : q ≡ 0 → m ≡ grant_returned m n
+-- a is where the grant of the name n stands
+module _ (m : Memory) (n a : ℕ) (ea : a ≡ grant_for n) where
+  pub grant_none : None ≡ found (at m a) → m ≡ grant_returned m n
   unfolding Delete.grant_returned
-  grant_none z = rw (← ew, ← eq, eq-eqb q 0 z)
+  grant_none e = rw (← ea, eq-eqb (at m a) 0 (none_is _ e))
 
-  pub grant_back : (m₁ m₂ : Memory) → (q ≡ 0 → ⊥) → m₁ ≡ write m (grant_for w) 0 → m₂ ≡ give_back m₁ q → m₂ ≡ grant_returned m n
+  pub grant_back : (p : ControlPage) (m₁ m₂ : Memory) → m₂ ≡ give_back m₁ p.0 → m₁ ≡ write m a 0 → Some p ≡ found (at m a) → m₂ ≡ grant_returned m n
   unfolding Delete.grant_returned
-  grant_back m₁ m₂ z e₁ e₂ = rw (← ew, ← eq, ne_eqb q 0 z, ← e₁) e₂
+  grant_back p m₁ m₂ e₂ e₁ e = rw (← ea, ne_eqb (at m a) 0 (some_not _ p e), ← (some_is _ p e), ← e₁) e₂
 
 pub ruleset deletions = (
   unlisted_is,

@@ -8,7 +8,7 @@ use lib.ListN.{get_or-eq_default}
 use native.Mathlib.Nat.{eq-or-lt_of_le}
 use native.Mathlib.Numerals.{sub-one}
 use native.Mathlib.Omega.{arith}
-use Rattle.model.specs.declared.Answer.TheVariants.{HandedOut, Refused}
+use Rattle.model.specs.Told.Answer.{HandedOut, Refused}
 use Rattle.model.specs.declared.Arguments.{Arguments}
 use Rattle.model.specs.Map.{upper}
 use Rattle.model.specs.Address.{wrapped, guarded, clear}

@@ -4,6 +4,7 @@
 ghost use Rattle.std.specs.Prelude.{◌≡◌, ◌<◌, ◌≤◌};
 ghost use Rattle.std.proofs.Math.ListN as List;
 ghost use Rattle.model.specs.Answer.Outcome.{gives};
+ghost use Rattle.model.specs.Coded.{answered};
 ghost use Rattle.model.specs.Instruction as Instruction;
 ghost use Rattle.model.specs.Bytes as Model;
 
@@ -11,26 +12,24 @@ use answers::fault;
 use arguments::{count_for, direct, length_for, pointed, shape_for, within};
 use codes::{cvi, dvi, gin, indexed, kind, program, thirteen, win};
 use creating::{crp, named, st2};
-use model::{Answer, Arguments, Name, faults, instructions, map, refusals, wide};
+use model::{Answer, Arguments, Fault, Memory, Name, instructions, map, refusals, wide};
 use sending::{rme, sme, tme, wnm};
 use words::{at, clear, guarded, wrapped};
 
 // A code that is not built in: an own one is handed out, with its program's address and this one; else it is absent.
-fn foreign(m: &mut [u8], code: u8, address: u16) -> Answer
-    requires { List.length m.old ≡ 8192 }
-    ensures { gives result m.new ≡ Model.foreign m.old code address }
+fn foreign(m: &mut Memory, code: u8, address: u16) -> Answer
+    ensures { gives (answered result) m.new ≡ Model.foreign m.old code address }
 {
     let k = kind(m, code);
     if k == instructions::OWN {
         let p = program(m, code);
         return Answer::HandedOut(p, address);
     }
-    fault(m, faults::ABSENT_CODE)
+    fault(m, Fault::AbsentCode)
 }
 
 // Whether EXI meets a code that is not built in; an EXI of EXI is left to the depth.
-fn is_foreign(m: &[u8], code: u8) -> bool
-    requires { List.length m.now ≡ 8192 }
+fn is_foreign(m: &Memory, code: u8) -> bool
     ensures { result ≡ Model.is_foreign m.now code }
 {
     if code == instructions::EXI {
@@ -44,8 +43,8 @@ fn is_foreign(m: &[u8], code: u8) -> bool
 }
 
 // The fault in EXI's argument words; 0: none.
-fn argument_fault(m: &[u8], code: u8, start: u16) -> u8
-    requires { (List.length m.now ≡ 8192) × (start < 8192) }
+fn argument_fault(m: &Memory, code: u8, start: u16) -> u8
+    requires { start < 8192 }
     ensures { (result ≡ Model.argument_fault m.now code start) × (result < 16) }
 {
     if code == instructions::EXI {
@@ -57,9 +56,9 @@ fn argument_fault(m: &[u8], code: u8, start: u16) -> u8
         if within(m, start, shape, count) {
             return faults::NONE;
         }
-        return faults::BAD_ARGUMENT;
+        return Fault::BadArgument;
     }
-    faults::PROTECTED
+    Fault::Protected
 }
 
 // What EXI advances by, whatever it runs.
@@ -71,9 +70,9 @@ fn exi_length() -> u16
 
 // The instruction with the code and what it is given; depth more EXIs are allowed.
 #[cycle(execute_exi_step)]
-pub fn execute(m: &mut [u8], code: u8, given: Arguments, length: u16, depth: u8) -> Answer
-    requires { (List.length m.old ≡ 8192) × (given.field < 16) × (given.second < 16) × (given.w < 16) × (given.address < 8192) × (length < 8192) }
-    ensures { gives result m.new ≡ Model.execute depth m.old code given length }
+pub fn execute(m: &mut Memory, code: u8, given: Arguments, length: u16, depth: u8) -> Answer
+    requires { (given.field < 16) × (given.second < 16) × (given.w < 16) × (given.address < 8192) × (length < 8192) }
+    ensures { gives (answered result) m.new ≡ Model.execute depth m.old code given length }
 {
     match code {
         instructions::CVI => cvi(m, given.field, given.address, length),
@@ -101,18 +100,18 @@ pub fn execute(m: &mut [u8], code: u8, given: Arguments, length: u16, depth: u8)
         ),
         instructions::THIRTEEN => thirteen(m, given.field, given.second, given.address, length),
         instructions::EXI => exi_step(m, given, depth),
-        _ => fault(m, faults::ABSENT_CODE),
+        _ => fault(m, Fault::AbsentCode),
     }
 }
 
 // EXI: it runs another instruction by the same rules, and advances by 4.
 #[cycle(execute_exi_step)]
-fn exi_step(m: &mut [u8], given: Arguments, depth: u8) -> Answer
-    requires { (List.length m.old ≡ 8192) × (given.field < 16) × (given.second < 16) × (given.w < 16) × (given.address < 8192) }
-    ensures { gives result m.new ≡ Model.exi depth m.old given }
+fn exi_step(m: &mut Memory, given: Arguments, depth: u8) -> Answer
+    requires { (given.field < 16) × (given.second < 16) × (given.w < 16) × (given.address < 8192) }
+    ensures { gives (answered result) m.new ≡ Model.exi depth m.old given }
 {
     if depth == 0 {
-        return fault(m, faults::EXI_OF_EXI);
+        return fault(m, Fault::ExiOfExi);
     }
     let code = given.field;
     let start = indexed(m, given.second, given.address);
@@ -129,9 +128,9 @@ fn exi_step(m: &mut [u8], given: Arguments, depth: u8) -> Answer
 }
 
 // The instruction at the address with that code, which is built in.
-fn taken(m: &mut [u8], address: u16, code: u8) -> Answer
-    requires { (List.length m.old ≡ 8192) × (address < 8192) }
-    ensures { gives result m.new ≡ Model.taken m.old address code }
+fn taken(m: &mut Memory, address: u16, code: u8) -> Answer
+    requires { address < 8192 }
+    ensures { gives (answered result) m.new ≡ Model.taken m.old address code }
 {
     let length = length_for(code);
     let b = wrapped(address, 2);
@@ -140,12 +139,12 @@ fn taken(m: &mut [u8], address: u16, code: u8) -> Answer
         let x = direct(m, address, shape);
         return execute(m, code, x, wide(length), 1);
     }
-    fault(m, faults::PROTECTED)
+    fault(m, Fault::Protected)
 }
 
-fn decoded(m: &mut [u8], address: u16, code: u8) -> Answer
-    requires { (List.length m.old ≡ 8192) × (address < 8192) }
-    ensures { gives result m.new ≡ Model.decoded m.old address code }
+fn decoded(m: &mut Memory, address: u16, code: u8) -> Answer
+    requires { address < 8192 }
+    ensures { gives (answered result) m.new ≡ Model.decoded m.old address code }
 {
     let k = kind(m, code);
     if k == instructions::BUILT_IN {
@@ -155,25 +154,25 @@ fn decoded(m: &mut [u8], address: u16, code: u8) -> Answer
     foreign(m, code, a)
 }
 
-fn coded(m: &mut [u8], address: u16) -> Answer
-    requires { (List.length m.old ≡ 8192) × (address < 8192) }
-    ensures { gives result m.new ≡ Model.coded m.old address }
+fn coded(m: &mut Memory, address: u16) -> Answer
+    requires { address < 8192 }
+    ensures { gives (answered result) m.new ≡ Model.coded m.old address }
 {
     let a = wrapped(address, 1);
     if guarded(a) {
-        return fault(m, faults::PROTECTED);
+        return fault(m, Fault::Protected);
     }
     let w = at(m, a);
     decoded(m, address, w / map::FIELD)
 }
 
 // The instruction at the address.
-pub fn fetched(m: &mut [u8], address: u16) -> Answer
-    requires { (List.length m.old ≡ 8192) × (address < 8192) }
-    ensures { gives result m.new ≡ Model.fetched m.old address }
+pub fn fetched(m: &mut Memory, address: u16) -> Answer
+    requires { address < 8192 }
+    ensures { gives (answered result) m.new ≡ Model.fetched m.old address }
 {
     if guarded(address) {
-        return fault(m, faults::PROTECTED);
+        return fault(m, Fault::Protected);
     }
     let w = at(m, address);
     if w == instructions::FIRST_WORD {

@@ -5,7 +5,7 @@ ghost use Rattle.std.specs.Prelude.{◌≡◌, ◌≤◌, ◌+◌, length};
 ghost use Rattle.model.specs.Fresh as Fresh;
 ghost use Rattle.model.specs.Bytes as Model;
 
-use model::{ControlPage, Registers, instructions, map, wide};
+use model::{ControlPage, Memory, Registers, instructions, map, wide};
 use turn::runs;
 use words::{write, zero};
 
@@ -29,8 +29,7 @@ pub fn startable(line: u16, divider: u16) -> bool
 }
 
 // Page 0, pages 4-10 and 236-255 are cleared.
-fn clear_pages(m: &mut [u8])
-    requires { length m.old ≡ 8192 }
+fn clear_pages(m: &mut Memory)
     ensures { m.new ≡ Model.cleared m.old }
 {
     zero(m, map::PAGE_ZERO, map::PAGE_SIZE);
@@ -38,8 +37,7 @@ fn clear_pages(m: &mut [u8])
     zero(m, map::CONTROL_PAGE, map::CONTROL_WORDS);
 }
 
-fn set_clock(m: &mut [u8], line: u8, divider: u8)
-    requires { length m.old ≡ 8192 }
+fn set_clock(m: &mut Memory, line: u8, divider: u8)
     ensures { m.new ≡ Model.timed m.old line divider }
 {
     write(m, map::CLOCK_LINE, line);
@@ -47,8 +45,7 @@ fn set_clock(m: &mut [u8], line: u8, divider: u8)
 }
 
 // Processor 1, priority 1, on page 236, running.
-fn first_processor(m: &mut [u8])
-    requires { length m.old ≡ 8192 }
+fn first_processor(m: &mut Memory)
     ensures { m.new ≡ Model.first_processor m.old }
 {
     let p = ControlPage(map::FIRST_CONTROL);
@@ -60,8 +57,8 @@ fn first_processor(m: &mut [u8])
 }
 
 // Each of so many pages from the page on links to the next.
-fn chain(m: &mut [u8], page: ControlPage, count: u8)
-    requires { (length m.old ≡ 8192) × (page.0 + count ≤ 255) }
+fn chain(m: &mut Memory, page: ControlPage, count: u8)
+    requires { page.0 + count ≤ 255 }
     ensures { m.new ≡ Model.chained count m.old page.0 }
 {
     if count == 0 {
@@ -73,8 +70,7 @@ fn chain(m: &mut [u8], page: ControlPage, count: u8)
 }
 
 // Pages 237-255 are free in order.
-fn free_pages(m: &mut [u8])
-    requires { length m.old ≡ 8192 }
+fn free_pages(m: &mut Memory)
     ensures { m.new ≡ Model.freed m.old }
 {
     write(m, map::FREE_LIST, map::FIRST_FREE);
@@ -83,8 +79,7 @@ fn free_pages(m: &mut [u8])
 }
 
 // So many codes, from the first on, are built in.
-fn build_in(m: &mut [u8], count: u8)
-    requires { length m.old ≡ 8192 }
+fn build_in(m: &mut Memory, count: u8)
     ensures { m.new ≡ Model.all_built_in count m.old }
 {
     if count == 0 {
@@ -98,8 +93,7 @@ fn build_in(m: &mut [u8], count: u8)
     build_in(m, count - 1);
 }
 
-pub fn start(m: &mut [u8], line: u8, divider: u8)
-    requires { length m.old ≡ 8192 }
+pub fn start(m: &mut Memory, line: u8, divider: u8)
     ensures { m.new ≡ Model.started m.old line divider }
 {
     clear_pages(m);

@@ -3,7 +3,7 @@ use Rattle.std.specs.Prelude.{◌≡◌, ◌≢◌, ◌⊎◌, true, List, [], �
 use Rattle.std.proofs.Common.{inl, inr, arith}
 use Rattle.model.specs.Map.{control_pages, first_control, link, memory_size, place, q1, q2}
 use Rattle.model.specs.declared.Entry.{Entry}
-use Rattle.model.specs.declared.Fit.TheVariants.{Good}
+use Rattle.model.specs.Told.Fit.{Good}
 use Rattle.model.specs.Fresh.{startable}
 use Rattle.model.specs.Layout.{of_file}
 use Rattle.model.specs.Answer as Answer

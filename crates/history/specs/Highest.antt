@@ -4,7 +4,7 @@
 use Rattle.std.specs.Prelude.{◌≡◌, refl, ◌≢◌, ◌⊎◌, Bool, true, false, List, [], ◌∷◌, ℕ, ◌+◌, ◌≤◌, length, ltb}
 use Rattle.std.proofs.Common.{ap, inl, inr, arith, ltb-true, ltb-false, eq-eqb}
 use Rattle.model.specs.declared.Entry.{Entry}
-use Rattle.model.specs.declared.Fit.TheVariants.{Good}
+use Rattle.model.specs.Told.Fit.{Good}
 use Rattle.model.specs.Map.{first_control, first_priority, memory_size, upper}
 use Rattle.model.specs.Answer as Answer
 use Rattle.model.specs.Answer.{memory_of}

@@ -5,7 +5,7 @@ use Rattle.std.proofs.Common.{sym, ap, ◌∙◌, append_assoc, arith, leb-true,
 use Rattle.std.specs.Prelude.{Bool, cond, ◌&&◌, List, [], ◌++◌, map, ℕ, suc, ◌≤◌, length, eqb, leb}
 use Rattle.std.proofs.Math.Bool.{true, false}
 use Rattle.model.specs.Map.{memory_size}
-use Rattle.model.specs.declared.Fit.TheVariants.{Good}
+use Rattle.model.specs.Told.Fit.{Good}
 use Rattle.model.specs.Fresh.{startable}
 use Rattle.model.specs.Layout.{is_good, of_file}
 use Rattle.model.specs.Answer.{memory_of}

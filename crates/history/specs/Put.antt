@@ -2,8 +2,8 @@
 -- direct and by EXI. A processor is named by its page. Assumes nothing.
 use Rattle.std.specs.Prelude.{ℕ, zero, suc, ◌+◌, ◌-◌, Bool, true, false, cond, List, [], ◌∷◌, ◌++◌, eqb, ltb, get_or}
 use Rattle.model.specs.declared.Arguments.{Arguments}
-use Rattle.model.specs.declared.Finding.{Finding}
-use Rattle.model.specs.declared.Finding.TheVariants.{Nothing, WrongLength, Broken}
+use Rattle.model.specs.Told.{Finding}
+use Rattle.model.specs.Told.Finding.{Nothing, WrongLength, Broken}
 use Rattle.model.specs.Map.{place, longest, head_words, q1, q2}
 use Rattle.model.specs.Address.{unless, wrapped, guarded, clear}
 use Rattle.model.specs.Page.{Taken}

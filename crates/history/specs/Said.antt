@@ -4,12 +4,12 @@ use Rattle.std.specs.Prelude.{◌≡◌, refl, ◌≢◌, ◌⊎◌, Bool, true,
 use Rattle.std.proofs.Common.{sym, ap, ◌∙◌, inl, inr, append-nil, arith, length-append}
 use borrow.Author.Tests.{eqb-true, eq-eqb, le-leb}
 use Rattle.model.specs.declared.Arguments.{Arguments}
-use Rattle.model.specs.declared.Finding.{Finding}
-use Rattle.model.specs.declared.Finding.TheVariants.{Nothing, WrongLength, Broken}
+use Rattle.model.specs.Told.{Finding}
+use Rattle.model.specs.Told.Finding.{Nothing, WrongLength, Broken}
 use Rattle.model.specs.Map.{memory_size}
 use Rattle.model.specs.Address.{guarded, clear, wrapped}
 use Rattle.model.specs.Instruction.{first_word, built_in, length_for, shape_for, sme_code, rme_code, dep_code, exi_code}
-use Rattle.model.specs.declared.Fit.TheVariants.{Good}
+use Rattle.model.specs.Told.Fit.{Good}
 use Rattle.model.specs.Fresh.{startable}
 use Rattle.model.specs.Layout as Layout
 use Rattle.model.specs.Layout.{is_good, of_file}

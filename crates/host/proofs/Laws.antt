@@ -1,22 +1,24 @@
 -- A call that gives this answer and this memory, the answer encoded: one law for every kind of answer.
 use Prim.Native.Nat.{ℕ, ◌+◌, ◌*◌, ◌<◌}
 use native.Mathlib.Omega.{arith}
-use mathlib.Core.Path.{◌≡◌, ap, ◌∙◌}
+use mathlib.Core.Path.{◌≡◌, refl, sym, ap, ◌∙◌}
+use Rattle.std.specs.Prelude.{Result, Ok, Err, unwrap_or}
+use Rattle.model.specs.declared.Answer.TheVariants as Answered
+use Rattle.model.specs.declared.Name.{Name}
 use Rattle.model.specs.declared.Registers.{Registers}
-use Rattle.model.specs.declared.Answer.{Answer}
-use Rattle.model.specs.declared.Answer.TheVariants.{Done, Waits, HandedOut, Fault, Refused, RefusedAt}
-use Rattle.model.specs.declared.Held.{Held}
-use Rattle.model.specs.declared.Held.TheVariants as Held
-use Rattle.model.specs.declared.Verdict.{Verdict}
-use Rattle.model.specs.declared.Verdict.TheVariants as Verdict
-use Rattle.model.specs.declared.Writing.{Writing}
-use Rattle.model.specs.declared.Writing.TheVariants as Writing
+use Rattle.model.specs.declared.fault.Fault.{Fault}
+use Rattle.model.specs.declared.refusal.Refusal.{Refusal}
+use Rattle.model.specs.declared.refusal.Refusal.TheVariants.{WrongLength, Idle, NoInstruction, NoInterrupt, NoInterruptAt, WrongClass, WrongClassAt, OutOfRange, WrongList, BrokenLayout, TooNew, Broken, NoRoom}
+use Rattle.model.specs.Told.{Answer, Held, Verdict, Writing}
+use Rattle.model.specs.Told as Told
 use Rattle.model.specs.Answer as Answer
 use Rattle.model.specs.Answer.{Outcome, answer_of, memory_of, done_number, waits_number, handed_out_number, written_number}
 use Rattle.model.specs.Answer.Outcome.{gives}
+use Rattle.model.specs.Coded as Coded
+use Rattle.model.specs.Coded.{told, held_told, verdict_told, writing_told, fault_number, refusal_number, refusal_place}
 use Rattle.model.specs.Bytes.{Memory}
 use Rattle.host.specs.Encoded as Encoded
-use Rattle.host.specs.Encoded.{encoded, encoded_held, encoded_verdict, encoded_writing, low_part, packed, handed_sum, fault_sum, refused_sum, held_sum}
+use Rattle.host.specs.Encoded.{encoded, encoded_held, encoded_verdict, encoded_writing, packed, refusal_code, handed_sum, fault_sum, refused_sum, held_sum}
 use Rattle.host.specs.Encoded.{held_refused_sum, verdict_refused_sum, refused_at_sum, held_refused_at_sum, verdict_refused_at_sum}
 use Rattle.host.specs.Encoded.{writing_refused_sum, writing_refused_at_sum}
 
@@ -49,86 +51,90 @@ writing_leaves = leaves
 
 pub ruleset encodings = (step_encoded, step_leaves, held_encoded, verdict_encoded, writing_encoded, writing_leaves)
 
--- ---- registers, from their values widened
-pub low_is : (r : Registers) (a s p z c : ℕ) → a ≡ r.a → s ≡ r.s → p ≡ r.p → z ≡ r.z → c ≡ r.ci
-    → a * 256 + s * 65536 + p * 16777216 + z * 33554432 + c * 67108864 ≡ low_part r
-unfolding Encoded.low_part
-low_is r a s p z c ea es ep ez ec = rw (ea, es, ep, ez, ec)
+-- ---- registers
+pub pack_is : (r : Registers)
+    → r.a * 256 + r.s * 65536 + r.p * 16777216 + r.z * 33554432 + r.ci * 67108864 + r.lr * 134217728 + r.w * 1099511627776 ≡ packed r
+unfolding Encoded.packed Encoded.low_part
+pack_is r = refl
 
-pub low_below : (a s p z c : ℕ) → a < 65536 → s < 65536 → p < 65536 → z < 65536 → c < 65536
-    → a * 256 + s * 65536 + p * 16777216 + z * 33554432 + c * 67108864 < 8796093022208
-low_below a s p z c ha hs hp hz hc = omega arith
+-- ---- an answer of each kind, from its values
+pub done_code : done_number ≡ encoded (told (Ok Answered.Done))
+unfolding Encoded.encoded Encoded.weighed Answer.numbers Coded.told Coded.answered
+done_code = refl
 
-pub packed_is : (r : Registers) (x l w : ℕ) → x ≡ low_part r → l ≡ r.lr → w ≡ r.w → x + l * 134217728 + w * 1099511627776 ≡ packed r
-unfolding Encoded.packed
-packed_is r x l w ex el ew = rw (ex, el, ew)
+pub waits_code : waits_number ≡ encoded (told (Ok Answered.Waits))
+unfolding Encoded.encoded Encoded.weighed Answer.numbers Coded.told Coded.answered
+waits_code = refl
 
-pub ruleset packing = (low_is, low_below, packed_is)
+pub handed_code : (p b : ℕ) → handed_out_number + p * 256 + b * 16777216 ≡ encoded (told (Ok (Answered.HandedOut p b)))
+unfolding Coded.told Coded.answered
+handed_code p b = sym (handed_sum p b)
 
--- ---- an answer of each kind, from its values widened
-pub done_code : (a : Answer) → a ≡ Done → done_number ≡ encoded a
-unfolding Encoded.encoded Encoded.weighed Answer.numbers
-done_code a e = rw e
+pub fault_code : (f : Fault) (n : Name) (x : ℕ) → x ≡ fault_number f → x + n.0 * 256 ≡ encoded (told (Ok (Answered.Fault f n)))
+unfolding Coded.told Coded.answered
+fault_code f n x e = rw (e, fault_sum (fault_number f) n.0)
 
-pub waits_code : (a : Answer) → a ≡ Waits → waits_number ≡ encoded a
-unfolding Encoded.encoded Encoded.weighed Answer.numbers
-waits_code a e = rw e
+-- a refusal of a call whose answer is A: by its number alone, and with what is told beside it
+module _ {A : Type 0} (code : A → ℕ) (refused : ℕ → A) (at : ℕ → ℕ → A) (one : (k : ℕ) → code (refused k) ≡ k) (two : (k a : ℕ) → code (at k a) ≡ k + a * 256) where
+  refusal_is : (e : Refusal) → refusal_code e ≡ code (Coded.refusal refused at e)
+  unfolding Encoded.refusal_code Coded.refusal
+  refusal_is WrongLength = sym (one _)
+  refusal_is Idle = sym (one _)
+  refusal_is NoInstruction = sym (one _)
+  refusal_is NoInterrupt = sym (one _)
+  refusal_is (NoInterruptAt i) = sym (two _ i)
+  refusal_is WrongClass = sym (one _)
+  refusal_is (WrongClassAt i) = sym (two _ i)
+  refusal_is OutOfRange = sym (one _)
+  refusal_is WrongList = sym (one _)
+  refusal_is BrokenLayout = sym (one _)
+  refusal_is (TooNew v) = sym (two _ v)
+  refusal_is (Broken b) = sym (two _ _)
+  refusal_is NoRoom = sym (one _)
 
-pub handed_code : (a : Answer) (p b x y : ℕ) → a ≡ HandedOut p b → x ≡ p → y ≡ b → handed_out_number + x * 256 + y * 16777216 ≡ encoded a
-handed_code a p b x y e ex ey = rw (e, ex, ey, handed_sum p b)
+pub refused_code : (e : Refusal) → refusal_code e ≡ encoded (told (Err e))
+unfolding Coded.told
+refused_code = refusal_is encoded Told.Answer.Refused Told.Answer.RefusedAt refused_sum refused_at_sum
 
-pub fault_code : (a : Answer) (f n x y : ℕ) → a ≡ Fault f n → x ≡ f → y ≡ n → x + y * 256 ≡ encoded a
-fault_code a f n x y e ex ey = rw (e, ex, ey, fault_sum f n)
+pub held_code : (r : Registers) → packed r ≡ encoded_held (held_told (Ok r))
+unfolding Coded.held_told
+held_code r = sym (held_sum r)
 
-pub refused_code : (a : Answer) (k x : ℕ) → a ≡ Refused k → x ≡ k → x ≡ encoded a
-refused_code a k x e ex = rw (e, ex, refused_sum k)
+pub held_refused_code : (e : Refusal) → refusal_code e ≡ encoded_held (held_told (Err e))
+unfolding Coded.held_told
+held_refused_code = refusal_is encoded_held Held.Refused Held.RefusedAt held_refused_sum held_refused_at_sum
 
-pub refused_at_code : (a : Answer) (k b x y : ℕ) → a ≡ RefusedAt k b → x ≡ k → y ≡ b → x + y * 256 ≡ encoded a
-refused_at_code a k b x y e ex ey = rw (e, ex, ey, refused_at_sum k b)
+pub well_formed_code : done_number ≡ encoded_verdict (verdict_told (Ok tt))
+unfolding Encoded.encoded_verdict Encoded.weighed Answer.verdict_numbers Coded.verdict_told
+well_formed_code = refl
 
-pub held_code : (h : Held) (r : Registers) (x : ℕ) → h ≡ Held.Has r → x ≡ packed r → x ≡ encoded_held h
-held_code h r x e ex = rw (e, ex, held_sum r)
+pub verdict_refused_code : (e : Refusal) → refusal_code e ≡ encoded_verdict (verdict_told (Err e))
+unfolding Coded.verdict_told
+verdict_refused_code = refusal_is encoded_verdict Verdict.Refused Verdict.RefusedAt verdict_refused_sum verdict_refused_at_sum
 
-pub held_refused_code : (h : Held) (k x : ℕ) → h ≡ Held.Refused k → x ≡ k → x ≡ encoded_held h
-held_refused_code h k x e ex = rw (e, ex, held_refused_sum k)
+pub written_code : (n : ℕ) → written_number ≡ encoded_writing (writing_told (Ok n))
+unfolding Encoded.encoded_writing Coded.writing_told
+written_code n = refl
 
-pub held_refused_at_code : (h : Held) (k b x y : ℕ) → h ≡ Held.RefusedAt k b → x ≡ k → y ≡ b → x + y * 256 ≡ encoded_held h
-held_refused_at_code h k b x y e ex ey = rw (e, ex, ey, held_refused_at_sum k b)
+pub writing_refused_code : (e : Refusal) → refusal_code e ≡ encoded_writing (writing_told (Err e))
+unfolding Coded.writing_told
+writing_refused_code = refusal_is encoded_writing Writing.Refused Writing.RefusedAt writing_refused_sum writing_refused_at_sum
 
-pub well_formed_code : (v : Verdict) → v ≡ Verdict.WellFormed → done_number ≡ encoded_verdict v
-unfolding Encoded.encoded_verdict Encoded.weighed Answer.verdict_numbers
-well_formed_code v e = rw e
+-- the number, and what is told beside it where there is something
+pub refusal_sum : (e : Refusal) (n p : ℕ) → n ≡ refusal_number e → p ≡ unwrap_or (refusal_place e) 0 → n + p * 256 ≡ refusal_code e
+unfolding Encoded.refusal_code Coded.refusal Coded.refusal_number Coded.refusal_place
+refusal_sum WrongLength n p en ep = rw (en, ep)
+refusal_sum Idle n p en ep = rw (en, ep)
+refusal_sum NoInstruction n p en ep = rw (en, ep)
+refusal_sum NoInterrupt n p en ep = rw (en, ep)
+refusal_sum (NoInterruptAt i) n p en ep = rw (en, ep)
+refusal_sum WrongClass n p en ep = rw (en, ep)
+refusal_sum (WrongClassAt i) n p en ep = rw (en, ep)
+refusal_sum OutOfRange n p en ep = rw (en, ep)
+refusal_sum WrongList n p en ep = rw (en, ep)
+refusal_sum BrokenLayout n p en ep = rw (en, ep)
+refusal_sum (TooNew v) n p en ep = rw (en, ep)
+refusal_sum (Broken b) n p en ep = rw (en, ep)
+refusal_sum NoRoom n p en ep = rw (en, ep)
 
-pub verdict_refused_code : (v : Verdict) (k x : ℕ) → v ≡ Verdict.Refused k → x ≡ k → x ≡ encoded_verdict v
-verdict_refused_code v k x e ex = rw (e, ex, verdict_refused_sum k)
-
-pub verdict_refused_at_code : (v : Verdict) (k b x y : ℕ) → v ≡ Verdict.RefusedAt k b → x ≡ k → y ≡ b → x + y * 256 ≡ encoded_verdict v
-verdict_refused_at_code v k b x y e ex ey = rw (e, ex, ey, verdict_refused_at_sum k b)
-
-pub written_code : (w : Writing) (n : ℕ) → w ≡ Writing.Written n → written_number ≡ encoded_writing w
-unfolding Encoded.encoded_writing
-written_code w n e = rw e
-
-pub writing_refused_code : (w : Writing) (k x : ℕ) → w ≡ Writing.Refused k → x ≡ k → x ≡ encoded_writing w
-writing_refused_code w k x e ex = rw (e, ex, writing_refused_sum k)
-
-pub writing_refused_at_code : (w : Writing) (k v x y : ℕ) → w ≡ Writing.RefusedAt k v → x ≡ k → y ≡ v → x + y * 256 ≡ encoded_writing w
-writing_refused_at_code w k v x y e ex ey = rw (e, ex, ey, writing_refused_at_sum k v)
-
-pub ruleset coding = (
-  done_code,
-  waits_code,
-  handed_code,
-  fault_code,
-  refused_code,
-  refused_at_code,
-  held_code,
-  held_refused_code,
-  held_refused_at_code,
-  well_formed_code,
-  verdict_refused_code,
-  verdict_refused_at_code,
-  written_code,
-  writing_refused_code,
-  writing_refused_at_code,
-)
+pub ruleset coding = (pack_is, done_code, waits_code, handed_code, fault_code, refused_code, held_code, held_refused_code, well_formed_code, verdict_refused_code, written_code, writing_refused_code)

@@ -3,18 +3,17 @@
 use Rattle.std.specs.Prelude.{ℕ, ◌+◌, ◌*◌, ◌/◌, ◌%◌, ◌<◌, ◌≡◌, List, [], ◌∷◌, get_or}
 use Rattle.std.proofs.Common.{arith}
 use Rattle.model.specs.declared.Registers.{Registers}
-use Rattle.model.specs.declared.Answer.{Answer}
-use Rattle.model.specs.declared.Answer.TheVariants.{HandedOut, Fault, Refused, RefusedAt}
-use Rattle.model.specs.declared.Held.{Held}
-use Rattle.model.specs.declared.Held.TheVariants as Held
-use Rattle.model.specs.declared.Verdict.{Verdict}
-use Rattle.model.specs.declared.Verdict.TheVariants as Verdict
-use Rattle.model.specs.declared.Writing.{Writing}
-use Rattle.model.specs.declared.Writing.TheVariants as Writing
+use Rattle.model.specs.declared.refusal.Refusal.{Refusal}
+use Rattle.model.specs.Told.{Answer}
+use Rattle.model.specs.Told.Answer.{HandedOut, Fault, Refused, RefusedAt}
+use Rattle.model.specs.Told.{Held}
+use Rattle.model.specs.Told.{Verdict}
+use Rattle.model.specs.Told.{Writing}
 use Rattle.model.specs.Map.{place, word_a, word_s, high_lr, low_lr}
 use Rattle.model.specs.Processor as Processor
 use Rattle.model.specs.Answer as Answer
 use Rattle.model.specs.Answer.{numbers, held_numbers, verdict_numbers, done_number, handed_out_number, written_number}
+use Rattle.model.specs.Coded as Coded
 use Rattle.model.specs.Bytes.{registers_of}
 
 unfoldable pub weighed : List ℕ → List ℕ → ℕ
@@ -48,6 +47,10 @@ encoded_held h = weighed register_bits (held_numbers h)
 -- those that a host sets: it does not name the stopped bit
 abbrev pub set_to : ℕ → ℕ → ℕ → ℕ → ℕ → ℕ → ℕ → Registers
 set_to a s p z ci lr w = record { a = a; s = s; p = p; z = z; ci = ci; lr = lr; w = w; stopped = 0 }
+
+-- a refusal of any call: its number, and what is told beside it
+unfoldable pub refusal_code : Refusal → ℕ
+refusal_code = Coded.refusal (λ k. k) (λ k a. k + a * 256)
 
 -- ---- as sums
 pub handed_sum : (p a : ℕ) → encoded (HandedOut p a) ≡ handed_out_number + p * 256 + a * 16777216

@@ -20,12 +20,11 @@ use crate::tables::{clock, codes, faults};
 use crate::waits::{message_waits, page_waits, reasons, semaphores};
 use lists::names::named;
 use lists::seen::{ALL_PAGES, flag_bits, used_bits, wait_bits};
-use model::map;
+use model::{Memory, map};
 
 // A rule that does not hold ends the judging. The tables, from codes on, are asked first, since that costs least; then of the rest: from messages on, from
 // page waits on, from reasons on, all.
-fn tabled(m: &[u8]) -> bool
-    requires { length m.now ≡ 8192 }
+fn tabled(m: &Memory) -> bool
     ensures { result ≡ holds (Tails.tabled m.now) }
 {
     if codes(m) {
@@ -40,8 +39,7 @@ fn tabled(m: &[u8]) -> bool
     false
 }
 
-fn mailed(m: &[u8]) -> bool
-    requires { length m.now ≡ 8192 }
+fn mailed(m: &Memory) -> bool
     ensures { result ≡ holds (Tails.mailed m.now) }
 {
     if messages(m) {
@@ -50,8 +48,7 @@ fn mailed(m: &[u8]) -> bool
     false
 }
 
-fn paged(m: &[u8]) -> bool
-    requires { length m.now ≡ 8192 }
+fn paged(m: &Memory) -> bool
     ensures { result ≡ holds (Tails.paged m.now) }
 {
     if page_waits(m) {
@@ -63,8 +60,7 @@ fn paged(m: &[u8]) -> bool
     false
 }
 
-fn waited(m: &[u8]) -> bool
-    requires { length m.now ≡ 8192 }
+fn waited(m: &Memory) -> bool
     ensures { result ≡ holds (Tails.waited m.now) }
 {
     if reasons(m) {
@@ -79,8 +75,7 @@ fn waited(m: &[u8]) -> bool
     false
 }
 
-fn titled(m: &[u8]) -> bool
-    requires { length m.now ≡ 8192 }
+fn titled(m: &Memory) -> bool
     ensures { result ≡ (holds (rule (Judge.names bytes) m.now) && holds (Tails.waited m.now)) }
 {
     if named(m) {
@@ -89,8 +84,7 @@ fn titled(m: &[u8]) -> bool
     false
 }
 
-fn linked(m: &[u8]) -> bool
-    requires { length m.now ≡ 8192 }
+fn linked(m: &Memory) -> bool
     ensures { result ≡ holds (Tails.linked m.now) }
 {
     let used = used_bits(m);
@@ -105,8 +99,7 @@ fn linked(m: &[u8]) -> bool
     false
 }
 
-pub fn judged(m: &[u8]) -> bool
-    requires { length m.now ≡ 8192 }
+pub fn judged(m: &Memory) -> bool
     ensures { result ≡ Model.judged m.now }
 {
     if tabled(m) {

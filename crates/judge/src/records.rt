@@ -9,13 +9,12 @@ ghost use Rattle.lists.specs.Heads.{rule};
 
 use crate::tables::is_at;
 use lists::{bearers, both, left_of, lies};
-use model::{ControlPage, map, wide};
+use model::{ControlPage, Memory, map, wide};
 use words::at;
 
 // ---- "grants only to existing names; page 10's other words zero"
 // Word k of page 10, which needs no bearer where it is 0; all of them.
-fn grant(m: &[u8], k: u8) -> bool
-    requires { length m.now ≡ 8192 }
+fn grant(m: &Memory, k: u8) -> bool
     ensures { result ≡ holds (rule (Judge.grant bytes) m.now k) }
 {
     let w = at(m, map::GRANTS + wide(k));
@@ -26,8 +25,7 @@ fn grant(m: &[u8], k: u8) -> bool
     n == 1
 }
 
-pub fn granted(m: &[u8]) -> bool
-    requires { length m.now ≡ 8192 }
+pub fn granted(m: &Memory) -> bool
     ensures { result ≡ holds (rule (Judge.granted bytes) m.now) }
 {
     let mut k = map::GRANT_WORDS;
@@ -42,16 +40,14 @@ pub fn granted(m: &[u8]) -> bool
 }
 
 // ---- "senders 1-15, flags 1-7, word 2 of a message 0-29, 64-93 or 128"
-fn sized(m: &[u8], q: ControlPage) -> bool
-    requires { length m.now ≡ 8192 }
+fn sized(m: &Memory, q: ControlPage) -> bool
     ensures { result ≡ holds (Judge.sized bytes m.now q.0) }
 {
     let w = q.word(m, map::SIZE);
     both(w <= map::NOTICE, w % map::MARK <= map::LONGEST)
 }
 
-pub fn message(m: &[u8], q: ControlPage) -> bool
-    requires { length m.now ≡ 8192 }
+pub fn message(m: &Memory, q: ControlPage) -> bool
     ensures { result ≡ holds (Judge.message bytes m.now q.0) }
 {
     let w = q.word(m, map::NOTE);
@@ -62,8 +58,8 @@ pub fn message(m: &[u8], q: ControlPage) -> bool
 }
 
 // Each that hangs from the cell; each in a queue of page p, which is passed over where it is empty.
-fn all_messages(m: &[u8], cell: u16, left: u8) -> bool
-    requires { (length m.now ≡ 8192) × (cell < 8192) }
+fn all_messages(m: &Memory, cell: u16, left: u8) -> bool
+    requires { cell < 8192 }
     ensures { result ≡ holds (each (Model.walk left m.now Map.link cell) (Judge.message bytes m.now)) }
 {
     if left == 0 {
@@ -79,8 +75,8 @@ fn all_messages(m: &[u8], cell: u16, left: u8) -> bool
     false
 }
 
-fn queued(m: &[u8], p: ControlPage, queue: u16) -> bool
-    requires { (length m.now ≡ 8192) × (queue ≤ Map.q2) }
+fn queued(m: &Memory, p: ControlPage, queue: u16) -> bool
+    requires { queue ≤ Map.q2 }
     ensures { result ≡ holds (each (Model.lists m.now (Map.place p.0 queue)) (Judge.message bytes m.now)) }
 {
     let head = p.place(queue);
@@ -92,15 +88,14 @@ fn queued(m: &[u8], p: ControlPage, queue: u16) -> bool
 }
 
 // Q1 and Q2 of page p; of each of the processors from the cell on; of all.
-fn mail(m: &[u8], p: ControlPage) -> bool
-    requires { length m.now ≡ 8192 }
+fn mail(m: &Memory, p: ControlPage) -> bool
     ensures { result ≡ holds (rule (Judge.mail bytes) m.now p.0) }
 {
     both(queued(m, p, map::Q1), queued(m, p, map::Q2))
 }
 
-fn all_mail(m: &[u8], cell: u16, left: u8) -> bool
-    requires { (length m.now ≡ 8192) × (cell < 8192) }
+fn all_mail(m: &Memory, cell: u16, left: u8) -> bool
+    requires { cell < 8192 }
     ensures { result ≡ holds (each (Model.walk left m.now Map.list_link cell) (rule (Judge.mail bytes) m.now)) }
 {
     if left == 0 {
@@ -116,24 +111,22 @@ fn all_mail(m: &[u8], cell: u16, left: u8) -> bool
     false
 }
 
-pub fn messages(m: &[u8]) -> bool
-    requires { length m.now ≡ 8192 }
+pub fn messages(m: &Memory) -> bool
     ensures { result ≡ holds (rule (Judge.messages bytes) m.now) }
 {
     all_mail(m, map::PROCESSOR_LIST, map::ONE_MORE)
 }
 
 // ---- "the two zeros of word 12 and page 7 word 26 zero"
-pub fn zero_bits(m: &[u8], p: ControlPage) -> bool
-    requires { length m.now ≡ 8192 }
+pub fn zero_bits(m: &Memory, p: ControlPage) -> bool
     ensures { result ≡ holds (Judge.zero_bits bytes m.now p.0) }
 {
     let w = p.word(m, map::STATE);
     w % map::WAIT_BIT / map::FIELD == 0
 }
 
-fn all_zero_bits(m: &[u8], cell: u16, left: u8) -> bool
-    requires { (length m.now ≡ 8192) × (cell < 8192) }
+fn all_zero_bits(m: &Memory, cell: u16, left: u8) -> bool
+    requires { cell < 8192 }
     ensures { result ≡ holds (each (Model.walk left m.now Map.list_link cell) (Judge.zero_bits bytes m.now)) }
 {
     if left == 0 {
@@ -149,8 +142,7 @@ fn all_zero_bits(m: &[u8], cell: u16, left: u8) -> bool
     false
 }
 
-pub fn zeros(m: &[u8]) -> bool
-    requires { length m.now ≡ 8192 }
+pub fn zeros(m: &Memory) -> bool
     ensures { result ≡ holds (rule (Judge.zeros bytes) m.now) }
 {
     both(

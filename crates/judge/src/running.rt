@@ -9,12 +9,11 @@ ghost use Rattle.lists.specs.Heads.{rule};
 
 use crate::tables::is_at;
 use lists::{both, listings};
-use model::{ControlPage, map};
+use model::{ControlPage, Memory, map};
 use words::at;
 
 // "word 25 of page 7 is the running one's word 7; the running one is ready": page p.
-fn runner(m: &[u8], p: ControlPage) -> bool
-    requires { length m.now ≡ 8192 }
+fn runner(m: &Memory, p: ControlPage) -> bool
     ensures { result ≡ holds (rule (Judge.runner bytes) m.now p.0) }
 {
     let n = listings(m, p.0, map::PROCESSOR_LIST, map::ONE_MORE);
@@ -25,8 +24,7 @@ fn runner(m: &[u8], p: ControlPage) -> bool
 }
 
 // "and none ready is higher": page p; each of the processors from the cell on.
-fn not_higher(m: &[u8], p: ControlPage) -> bool
-    requires { length m.now ≡ 8192 }
+fn not_higher(m: &Memory, p: ControlPage) -> bool
     ensures { result ≡ holds (rule (Judge.not_higher bytes) m.now p.0) }
 {
     let s = p.word(m, map::STATE);
@@ -38,8 +36,8 @@ fn not_higher(m: &[u8], p: ControlPage) -> bool
     true
 }
 
-fn none_higher(m: &[u8], cell: u16, left: u8) -> bool
-    requires { (length m.now ≡ 8192) × (cell < 8192) }
+fn none_higher(m: &Memory, cell: u16, left: u8) -> bool
+    requires { cell < 8192 }
     ensures { result ≡ holds (each (Model.walk left m.now Map.list_link cell) (rule (Judge.not_higher bytes) m.now)) }
 {
     if left == 0 {
@@ -55,8 +53,7 @@ fn none_higher(m: &[u8], cell: u16, left: u8) -> bool
     false
 }
 
-pub fn running(m: &[u8]) -> bool
-    requires { length m.now ≡ 8192 }
+pub fn running(m: &Memory) -> bool
     ensures { result ≡ holds (rule (Judge.running bytes) m.now) }
 {
     let p = at(m, map::RUNNING_PAGE);

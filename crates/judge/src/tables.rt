@@ -8,28 +8,28 @@ ghost use Rattle.model.specs.Bytes as Model;
 ghost use Rattle.lists.specs.Heads.{rule};
 
 use lists::{both, lies};
-use model::{instructions, map, wide};
+use model::{Memory, instructions, map, wide};
 use words::at;
 
 // The word at an address: v; in low-high; below an end.
-pub fn is_at(m: &[u8], a: u16, v: u8) -> bool
-    requires { (length m.now ≡ 8192) × (a < 8192) }
+pub fn is_at(m: &Memory, a: u16, v: u8) -> bool
+    requires { a < 8192 }
     ensures { result ≡ holds (same (Model.at m.now a) v) }
 {
     let w = at(m, a);
     w == v
 }
 
-pub fn lies_at(m: &[u8], a: u16, low: u8, high: u8) -> bool
-    requires { (length m.now ≡ 8192) × (a < 8192) }
+pub fn lies_at(m: &Memory, a: u16, low: u8, high: u8) -> bool
+    requires { a < 8192 }
     ensures { result ≡ holds (among (Model.at m.now a) low high) }
 {
     let w = at(m, a);
     lies(w, low, high)
 }
 
-pub fn under_at(m: &[u8], a: u16, end: u8) -> bool
-    requires { (length m.now ≡ 8192) × (a < 8192) }
+pub fn under_at(m: &Memory, a: u16, end: u8) -> bool
+    requires { a < 8192 }
     ensures { result ≡ holds (under (Model.at m.now a) end) }
 {
     let w = at(m, a);
@@ -37,16 +37,14 @@ pub fn under_at(m: &[u8], a: u16, end: u8) -> bool
 }
 
 // Code c is built in; it is not.
-pub fn built_in(m: &[u8], c: u8) -> bool
-    requires { length m.now ≡ 8192 }
+pub fn built_in(m: &Memory, c: u8) -> bool
     ensures { result ≡ holds (same (Map.top (Model.at m.now (Map.code_word c))) 1) }
 {
     let w = at(m, map::CODE_WORDS + 2 * wide(c));
     w / map::HIGHS == instructions::BUILT_IN
 }
 
-pub fn foreign(m: &[u8], c: u8) -> bool
-    requires { length m.now ≡ 8192 }
+pub fn foreign(m: &Memory, c: u8) -> bool
     ensures { result ≡ holds (never (eqb (Map.top (Model.at m.now (Map.code_word c))) 1)) }
 {
     let w = at(m, map::CODE_WORDS + 2 * wide(c));
@@ -54,16 +52,14 @@ pub fn foreign(m: &[u8], c: u8) -> bool
 }
 
 // "kinds 0-2, codes 0, 1 built in, 15 absent or own": code c; all of them.
-pub fn kind(m: &[u8], c: u8) -> bool
-    requires { length m.now ≡ 8192 }
+pub fn kind(m: &Memory, c: u8) -> bool
     ensures { result ≡ holds (Judge.kind bytes m.now c) }
 {
     let w = at(m, map::CODE_WORDS + 2 * wide(c));
     w / map::HIGHS <= instructions::OWN
 }
 
-fn kinds(m: &[u8]) -> bool
-    requires { length m.now ≡ 8192 }
+fn kinds(m: &Memory) -> bool
     ensures { result ≡ holds (below Map.all_codes (Judge.kind bytes m.now)) }
 {
     let mut k = map::ALL_CODES;
@@ -77,8 +73,7 @@ fn kinds(m: &[u8]) -> bool
     true
 }
 
-pub fn codes(m: &[u8]) -> bool
-    requires { length m.now ≡ 8192 }
+pub fn codes(m: &Memory) -> bool
     ensures { result ≡ holds (rule (Judge.codes bytes) m.now) }
 {
     both(
@@ -90,16 +85,14 @@ pub fn codes(m: &[u8]) -> bool
     )
 }
 
-fn c0_under(m: &[u8]) -> bool
-    requires { length m.now ≡ 8192 }
+fn c0_under(m: &Memory) -> bool
     ensures { result ≡ holds (under (Model.at m.now Map.c0) (Model.at m.now Map.divider)) }
 {
     let d = at(m, map::DIVIDER);
     under_at(m, map::C0, d)
 }
 
-fn counters(m: &[u8]) -> bool
-    requires { length m.now ≡ 8192 }
+fn counters(m: &Memory) -> bool
     ensures { result ≡ holds (rule (Judge.counters bytes) m.now) }
 {
     both(
@@ -114,8 +107,7 @@ fn counters(m: &[u8]) -> bool
     )
 }
 
-pub fn clock(m: &[u8]) -> bool
-    requires { length m.now ≡ 8192 }
+pub fn clock(m: &Memory) -> bool
     ensures { result ≡ holds (rule (Judge.clock bytes) m.now) }
 {
     both(
@@ -128,8 +120,7 @@ pub fn clock(m: &[u8]) -> bool
 }
 
 // "page 9 in range with names 1-15", "faults 1 to 13", "unused zero": entry i + 1, used; used or not; all of them.
-fn used(m: &[u8], i: u8) -> bool
-    requires { length m.now ≡ 8192 }
+fn used(m: &Memory, i: u8) -> bool
     ensures { result ≡ holds (Judge.used bytes m.now i) }
 {
     let w = at(m, map::ENTRIES_AFTER + wide(i));
@@ -139,8 +130,7 @@ fn used(m: &[u8], i: u8) -> bool
     )
 }
 
-pub fn entry(m: &[u8], i: u8) -> bool
-    requires { length m.now ≡ 8192 }
+pub fn entry(m: &Memory, i: u8) -> bool
     ensures { result ≡ holds (Judge.entry bytes m.now i) }
 {
     let f = at(m, map::FIRST_UNUSED);
@@ -151,8 +141,7 @@ pub fn entry(m: &[u8], i: u8) -> bool
     w == 0
 }
 
-fn entries(m: &[u8]) -> bool
-    requires { length m.now ≡ 8192 }
+fn entries(m: &Memory) -> bool
     ensures { result ≡ holds (below Map.entries (Judge.entry bytes m.now)) }
 {
     let mut k = map::ENTRIES;
@@ -166,8 +155,7 @@ fn entries(m: &[u8]) -> bool
     true
 }
 
-pub fn faults(m: &[u8]) -> bool
-    requires { length m.now ≡ 8192 }
+pub fn faults(m: &Memory) -> bool
     ensures { result ≡ holds (rule (Judge.faults bytes) m.now) }
 {
     both(

@@ -10,28 +10,25 @@ ghost use Rattle.lists.specs.Heads.{rule};
 use crate::tables::is_at;
 use lists::{both, left_of, length_of, less, lies};
 use mail::fits;
-use model::{ControlPage, Name, map, wide};
+use model::{ControlPage, Memory, Name, map, wide};
 use words::at;
 
 // ---- "reasons 1-255 in interrupt queues, 0 in the page queue and when not waiting"
-pub fn reasoned(m: &[u8], p: ControlPage) -> bool
-    requires { length m.now ≡ 8192 }
+pub fn reasoned(m: &Memory, p: ControlPage) -> bool
     ensures { result ≡ holds (Judge.reasoned bytes m.now p.0) }
 {
     let w = p.word(m, map::REASON);
     lies(w, 1, map::A_WORD)
 }
 
-pub fn reasonless(m: &[u8], p: ControlPage) -> bool
-    requires { length m.now ≡ 8192 }
+pub fn reasonless(m: &Memory, p: ControlPage) -> bool
     ensures { result ≡ holds (Judge.reasonless bytes m.now p.0) }
 {
     let w = p.word(m, map::REASON);
     w == 0
 }
 
-pub fn quiet(m: &[u8], p: ControlPage) -> bool
-    requires { length m.now ≡ 8192 }
+pub fn quiet(m: &Memory, p: ControlPage) -> bool
     ensures { result ≡ holds (Judge.quiet bytes m.now p.0) }
 {
     let w = p.word(m, map::STATE);
@@ -41,8 +38,8 @@ pub fn quiet(m: &[u8], p: ControlPage) -> bool
     true
 }
 
-fn all_reasoned(m: &[u8], cell: u16, left: u8) -> bool
-    requires { (length m.now ≡ 8192) × (cell < 8192) }
+fn all_reasoned(m: &Memory, cell: u16, left: u8) -> bool
+    requires { cell < 8192 }
     ensures { result ≡ holds (each (Model.walk left m.now Map.link cell) (Judge.reasoned bytes m.now)) }
 {
     if left == 0 {
@@ -58,8 +55,8 @@ fn all_reasoned(m: &[u8], cell: u16, left: u8) -> bool
     false
 }
 
-fn all_reasonless(m: &[u8], cell: u16, left: u8) -> bool
-    requires { (length m.now ≡ 8192) × (cell < 8192) }
+fn all_reasonless(m: &Memory, cell: u16, left: u8) -> bool
+    requires { cell < 8192 }
     ensures { result ≡ holds (each (Model.walk left m.now Map.link cell) (Judge.reasonless bytes m.now)) }
 {
     if left == 0 {
@@ -75,8 +72,8 @@ fn all_reasonless(m: &[u8], cell: u16, left: u8) -> bool
     false
 }
 
-fn all_quiet(m: &[u8], cell: u16, left: u8) -> bool
-    requires { (length m.now ≡ 8192) × (cell < 8192) }
+fn all_quiet(m: &Memory, cell: u16, left: u8) -> bool
+    requires { cell < 8192 }
     ensures { result ≡ holds (each (Model.walk left m.now Map.list_link cell) (Judge.quiet bytes m.now)) }
 {
     if left == 0 {
@@ -93,8 +90,8 @@ fn all_quiet(m: &[u8], cell: u16, left: u8) -> bool
 }
 
 // Interrupt k + 1; all of them.
-fn served(m: &[u8], k: u8) -> bool
-    requires { (length m.now ≡ 8192) × (k < Map.interrupts) }
+fn served(m: &Memory, k: u8) -> bool
+    requires { k < Map.interrupts }
     ensures { result ≡ holds (rule (Judge.served bytes) m.now k) }
 {
     let head = map::HEADERS_AFTER + 2 * wide(k);
@@ -105,8 +102,7 @@ fn served(m: &[u8], k: u8) -> bool
     all_reasoned(m, head, map::ONE_MORE)
 }
 
-fn all_served(m: &[u8]) -> bool
-    requires { length m.now ≡ 8192 }
+fn all_served(m: &Memory) -> bool
     ensures { result ≡ holds (below Map.interrupts (rule (Judge.served bytes) m.now)) }
 {
     let mut k = map::INTERRUPTS;
@@ -120,8 +116,7 @@ fn all_served(m: &[u8]) -> bool
     true
 }
 
-pub fn reasons(m: &[u8]) -> bool
-    requires { length m.now ≡ 8192 }
+pub fn reasons(m: &Memory) -> bool
     ensures { result ≡ holds (rule (Judge.reasons bytes) m.now) }
 {
     both(
@@ -135,8 +130,7 @@ pub fn reasons(m: &[u8]) -> bool
 
 // ---- "a message wait holds its owner only, reason flag 0-7, and matches nothing in its Q1"
 // What page p waits for is not message q; no message that hangs from the cell.
-pub fn unasked(m: &[u8], p: ControlPage, q: ControlPage) -> bool
-    requires { length m.now ≡ 8192 }
+pub fn unasked(m: &Memory, p: ControlPage, q: ControlPage) -> bool
     ensures { result ≡ holds (Judge.unasked bytes m.now p.0 q.0) }
 {
     let w = p.word(m, map::REASON);
@@ -144,8 +138,8 @@ pub fn unasked(m: &[u8], p: ControlPage, q: ControlPage) -> bool
     !fits(Name(w / map::FIELD), w % map::FIELD, x)
 }
 
-fn all_unasked(m: &[u8], p: ControlPage, cell: u16, left: u8) -> bool
-    requires { (length m.now ≡ 8192) × (cell < 8192) }
+fn all_unasked(m: &Memory, p: ControlPage, cell: u16, left: u8) -> bool
+    requires { cell < 8192 }
     ensures { result ≡ holds (each (Model.walk left m.now Map.link cell) (Judge.unasked bytes m.now p.0)) }
 {
     if left == 0 {
@@ -162,8 +156,7 @@ fn all_unasked(m: &[u8], p: ControlPage, cell: u16, left: u8) -> bool
 }
 
 // Page x is in the own queue of page p; each that hangs from the cell.
-fn owner(m: &[u8], p: ControlPage, x: u8) -> bool
-    requires { length m.now ≡ 8192 }
+fn owner(m: &Memory, p: ControlPage, x: u8) -> bool
     ensures { result ≡ holds (rule (Judge.owner bytes) m.now p.0 x) }
 {
     let w = p.word(m, map::REASON);
@@ -177,8 +170,8 @@ fn owner(m: &[u8], p: ControlPage, x: u8) -> bool
     )
 }
 
-fn all_owner(m: &[u8], p: ControlPage, cell: u16, left: u8) -> bool
-    requires { (length m.now ≡ 8192) × (cell < 8192) }
+fn all_owner(m: &Memory, p: ControlPage, cell: u16, left: u8) -> bool
+    requires { cell < 8192 }
     ensures { result ≡ holds (each (Model.walk left m.now Map.link cell) (rule (Judge.owner bytes) m.now p.0)) }
 {
     if left == 0 {
@@ -195,8 +188,7 @@ fn all_owner(m: &[u8], p: ControlPage, cell: u16, left: u8) -> bool
 }
 
 // Page p; each of the processors from the cell on; all.
-fn message_wait(m: &[u8], p: ControlPage) -> bool
-    requires { length m.now ≡ 8192 }
+fn message_wait(m: &Memory, p: ControlPage) -> bool
     ensures { result ≡ holds (rule (Judge.message_wait bytes) m.now p.0) }
 {
     let head = p.place(map::OWN_QUEUE);
@@ -207,8 +199,8 @@ fn message_wait(m: &[u8], p: ControlPage) -> bool
     all_owner(m, p, head, left_of(head))
 }
 
-fn all_message_waits(m: &[u8], cell: u16, left: u8) -> bool
-    requires { (length m.now ≡ 8192) × (cell < 8192) }
+fn all_message_waits(m: &Memory, cell: u16, left: u8) -> bool
+    requires { cell < 8192 }
     ensures { result ≡ holds (each (Model.walk left m.now Map.list_link cell) (rule (Judge.message_wait bytes) m.now)) }
 {
     if left == 0 {
@@ -224,8 +216,7 @@ fn all_message_waits(m: &[u8], cell: u16, left: u8) -> bool
     false
 }
 
-pub fn message_waits(m: &[u8]) -> bool
-    requires { length m.now ≡ 8192 }
+pub fn message_waits(m: &Memory) -> bool
     ensures { result ≡ holds (rule (Judge.message_waits bytes) m.now) }
 {
     all_message_waits(m, map::PROCESSOR_LIST, map::ONE_MORE)
@@ -233,8 +224,8 @@ pub fn message_waits(m: &[u8]) -> bool
 
 // ---- "semaphores as above"
 // The semaphore is minus the length of the list of the head.
-fn minus_waiters(m: &[u8], semaphore: u8, head: u16) -> bool
-    requires { (length m.now ≡ 8192) × (head < 8192) }
+fn minus_waiters(m: &Memory, semaphore: u8, head: u16) -> bool
+    requires { head < 8192 }
     ensures { result ≡ holds (same semaphore (Map.less 0 (length (Model.lists m.now head)))) }
 {
     let w = at(m, head);
@@ -246,8 +237,7 @@ fn minus_waiters(m: &[u8], semaphore: u8, head: u16) -> bool
 }
 
 // Interrupt k + 1; all of them.
-fn interrupt_semaphore(m: &[u8], k: u8) -> bool
-    requires { length m.now ≡ 8192 }
+fn interrupt_semaphore(m: &Memory, k: u8) -> bool
     ensures { result ≡ holds (rule (Judge.interrupt_semaphore bytes) m.now k) }
 {
     let j = wide(k);
@@ -255,8 +245,7 @@ fn interrupt_semaphore(m: &[u8], k: u8) -> bool
     minus_waiters(m, s, map::HEADERS_AFTER + 2 * j)
 }
 
-fn interrupt_semaphores(m: &[u8]) -> bool
-    requires { length m.now ≡ 8192 }
+fn interrupt_semaphores(m: &Memory) -> bool
     ensures { result ≡ holds (below Map.interrupts (rule (Judge.interrupt_semaphore bytes) m.now)) }
 {
     let mut k = map::INTERRUPTS;
@@ -271,16 +260,15 @@ fn interrupt_semaphores(m: &[u8]) -> bool
 }
 
 // Page p; each of the processors from the cell on.
-fn message_semaphore(m: &[u8], p: ControlPage) -> bool
-    requires { length m.now ≡ 8192 }
+fn message_semaphore(m: &Memory, p: ControlPage) -> bool
     ensures { result ≡ holds (rule (Judge.message_semaphore bytes) m.now p.0) }
 {
     let s = p.word(m, map::OWN_SEMAPHORE);
     minus_waiters(m, s, p.place(map::OWN_QUEUE))
 }
 
-fn message_semaphores(m: &[u8], cell: u16, left: u8) -> bool
-    requires { (length m.now ≡ 8192) × (cell < 8192) }
+fn message_semaphores(m: &Memory, cell: u16, left: u8) -> bool
+    requires { cell < 8192 }
     ensures { result ≡ holds (each (Model.walk left m.now Map.list_link cell) (rule (Judge.message_semaphore bytes) m.now)) }
 {
     if left == 0 {
@@ -296,8 +284,7 @@ fn message_semaphores(m: &[u8], cell: u16, left: u8) -> bool
     false
 }
 
-fn page_semaphore(m: &[u8]) -> bool
-    requires { length m.now ≡ 8192 }
+fn page_semaphore(m: &Memory) -> bool
     ensures { result ≡ holds (rule (Judge.page_semaphore bytes) m.now) }
 {
     let s = at(m, map::FREE_SEMAPHORE);
@@ -306,8 +293,7 @@ fn page_semaphore(m: &[u8]) -> bool
     s == less(a, b)
 }
 
-pub fn semaphores(m: &[u8]) -> bool
-    requires { length m.now ≡ 8192 }
+pub fn semaphores(m: &Memory) -> bool
     ensures { result ≡ holds (rule (Judge.semaphores bytes) m.now) }
 {
     both(
@@ -321,8 +307,7 @@ pub fn semaphores(m: &[u8]) -> bool
 
 // ---- "free list empty if anyone waits for a page, who then holds no grant"
 // Page p; each that hangs from the cell; all.
-fn page_wait(m: &[u8], p: ControlPage) -> bool
-    requires { length m.now ≡ 8192 }
+fn page_wait(m: &Memory, p: ControlPage) -> bool
     ensures { result ≡ holds (rule (Judge.page_wait bytes) m.now p.0) }
 {
     let w = p.word(m, map::LABEL);
@@ -332,8 +317,8 @@ fn page_wait(m: &[u8], p: ControlPage) -> bool
     )
 }
 
-fn all_page_waits(m: &[u8], cell: u16, left: u8) -> bool
-    requires { (length m.now ≡ 8192) × (cell < 8192) }
+fn all_page_waits(m: &Memory, cell: u16, left: u8) -> bool
+    requires { cell < 8192 }
     ensures { result ≡ holds (each (Model.walk left m.now Map.link cell) (rule (Judge.page_wait bytes) m.now)) }
 {
     if left == 0 {
@@ -349,8 +334,7 @@ fn all_page_waits(m: &[u8], cell: u16, left: u8) -> bool
     false
 }
 
-pub fn page_waits(m: &[u8]) -> bool
-    requires { length m.now ≡ 8192 }
+pub fn page_waits(m: &Memory) -> bool
     ensures { result ≡ holds (rule (Judge.page_waits bytes) m.now) }
 {
     all_page_waits(m, map::PAGE_QUEUE, map::ONE_MORE)

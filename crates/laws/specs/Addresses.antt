@@ -10,8 +10,8 @@ use Rattle.model.specs.Store.{bytes}
 use Rattle.model.specs.Lists.{count, link_of, range, mails, queues}
 use Rattle.model.specs.Tell.{Row, broken, offending, offending_in, Class}
 use Rattle.model.specs.Tell.Row.{tells}
-use Rattle.model.specs.declared.Finding.{Finding}
-use Rattle.model.specs.declared.Finding.TheVariants.{Nothing, WrongLength, Broken}
+use Rattle.model.specs.Told.{Finding}
+use Rattle.model.specs.Told.Finding.{Nothing, WrongLength, Broken}
 use Rattle.model.specs.Tell.Class.{class}
 use Rattle.model.specs.Classes as Classes
 use Rattle.model.specs.Walks.{last_cell, gather}

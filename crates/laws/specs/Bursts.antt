@@ -3,9 +3,9 @@
 use Rattle.std.specs.Prelude.{◌≡◌, refl, Bool, true, false, List, [], ◌∷◌, ℕ, ◌+◌, ◌*◌, ◌%◌, ◌<◌, length}
 use Rattle.std.proofs.Common.{arith}
 use Rattle.model.specs.Map.{pair_bytes}
-use Rattle.model.specs.declared.Answer.TheVariants.{Done}
-use Rattle.model.specs.declared.Checked.{Checked}
-use Rattle.model.specs.declared.Checked.TheVariants.{Good, Bad}
+use Rattle.model.specs.Told.Answer.{Done}
+use Rattle.model.specs.Told.{Checked}
+use Rattle.model.specs.Told.Checked.{Good, Bad}
 use Rattle.model.specs.Answer as Answer
 use Rattle.model.specs.Answer.{answer_of, memory_of, numbers, done_number, wrong_list}
 use Rattle.model.specs.Answer.Outcome.{gives}

@@ -12,10 +12,10 @@ use Rattle.model.specs.Map.{place}
 use Rattle.model.specs.Bytes.{running, fresh, from_settings, instruction, interrupt, burst, read_registers, set_registers, judge, judged, lr, who_runs}
 use Rattle.model.specs.Bytes.{delivered, arrived}
 use Rattle.model.specs.declared.Registers.{Registers}
-use Rattle.model.specs.declared.Finding.TheVariants.{Nothing}
-use Rattle.model.specs.declared.Checked.{Checked}
-use Rattle.model.specs.declared.Checked.TheVariants.{Good, Bad}
-use Rattle.model.specs.declared.Fit.{Fit}
+use Rattle.model.specs.Told.Finding.{Nothing}
+use Rattle.model.specs.Told.{Checked}
+use Rattle.model.specs.Told.Checked.{Good, Bad}
+use Rattle.model.specs.Told.{Fit}
 use Rattle.model.specs.Address as Address
 use Rattle.model.specs.Address.{guarded}
 use Rattle.model.specs.Answer as Answer

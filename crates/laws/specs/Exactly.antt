@@ -1,6 +1,6 @@
 -- Say what is broken: "Together the five are given exactly where 21 was". The table has no offending address exactly where the judge accepts. Assumes nothing.
 use Rattle.std.specs.Prelude.{◌≡◌, true, List, ℕ, length}
-use Rattle.model.specs.declared.Finding.TheVariants.{Nothing}
+use Rattle.model.specs.Told.Finding.{Nothing}
 use Rattle.model.specs.Map.{memory_size, processor_list}
 use Rattle.model.specs.Store.{bytes}
 use Rattle.model.specs.Bytes.{lists, judged}

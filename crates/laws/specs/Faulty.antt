@@ -4,8 +4,8 @@ use Rattle.std.specs.Prelude.{◌≡◌, refl, ◌≢◌, Bool, true, false, con
 use Rattle.std.proofs.Common.{sym, ◌∙◌, arith}
 use Rattle.std.proofs.Math.Path.{ap}
 use Rattle.std.proofs.lemmas.Bool.{eqb-false}
-use Rattle.model.specs.declared.Finding.{Finding}
-use Rattle.model.specs.declared.Finding.TheVariants.{Nothing, WrongLength, Broken}
+use Rattle.model.specs.Told.{Finding}
+use Rattle.model.specs.Told.Finding.{Nothing, WrongLength, Broken}
 use Rattle.model.specs.Map.{place, pair, state, stop_set, first_unused, entry_at, entries_full, grant_for, last_fault, last_name, processor_list, running_page}
 use Rattle.model.specs.Processor as Processor
 use Rattle.model.specs.Fault as Faults

@@ -2,8 +2,8 @@
 use Rattle.std.specs.Prelude.{◌≡◌, refl, ◌≢◌, ◌⊎◌, Bool, true, false, cond, List, [], ◌∷◌, ℕ, ◌≤◌, ◌<◌, length, eqb}
 use Rattle.std.proofs.Common.{inl, inr, arith, eqb-true}
 use Rattle.std.proofs.lemmas.Bool.{eqb-false}
-use Rattle.model.specs.declared.Finding.{Finding}
-use Rattle.model.specs.declared.Finding.TheVariants.{Nothing, WrongLength, Broken}
+use Rattle.model.specs.Told.{Finding}
+use Rattle.model.specs.Told.Finding.{Nothing, WrongLength, Broken}
 use Rattle.model.specs.Map.{memory_size, processor_list}
 use Rattle.model.specs.Store.{bytes}
 use Rattle.model.specs.Answer.{broken_pages, broken_waits, broken_records, broken_tables, broken_counters}

@@ -5,8 +5,8 @@ use Rattle.std.proofs.lemmas.Bool.{eqb-false}
 use Rattle.model.specs.Map.{first_name, four_bits, last_address, last_name, last_priority}
 use Rattle.model.specs.declared.Entry.{Entry}
 use Rattle.model.specs.declared.Trailer.{Trailer}
-use Rattle.model.specs.declared.Fit.{Fit}
-use Rattle.model.specs.declared.Fit.TheVariants.{Good, Refused, RefusedAt}
+use Rattle.model.specs.Told.{Fit}
+use Rattle.model.specs.Told.Fit.{Good, Refused, RefusedAt}
 use Rattle.model.specs.Answer.{broken_layout, out_of_range, too_new}
 use Rattle.model.specs.Fresh.{startable}
 use Rattle.model.specs.Layout as Layout

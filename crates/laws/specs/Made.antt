@@ -9,7 +9,7 @@ use Rattle.model.specs.Map as Map
 use Rattle.model.specs.Map.{ci_in, flags_kept, four_bits, free_list, guarded_last, high, high_lr, joined, keeps, kept_count, last_address, list_link, low, lower}
 use Rattle.model.specs.Map.{low_lr, memory_size, one_bit, page_size, pair, p_in, place, processor_list, q1, q2, running_label, running_page, stop_in, stop_set, upper}
 use Rattle.model.specs.Map.{wait_bit, word_a, word_s, word_values, z_in}
-use Rattle.model.specs.declared.Answer.TheVariants.{Done}
+use Rattle.model.specs.Told.Answer.{Done}
 use Rattle.model.specs.declared.Entry.{Entry}
 use Rattle.model.specs.declared.Registers.{Registers}
 use Rattle.model.specs.Address.{wrapped}

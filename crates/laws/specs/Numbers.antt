@@ -10,13 +10,13 @@ use Rattle.std.proofs.Math.Dec.{eqb}
 use Rattle.std.proofs.Common.{eq-eqb, ne_eqb, lt-ltb, le-ltb}
 use Rattle.std.proofs.lemmas.Bool.{eqb-false}
 use Rattle.model.specs.declared.Registers.{Registers}
-use Rattle.model.specs.declared.Answer.{Answer}
-use Rattle.model.specs.declared.Answer.TheVariants.{Done, Waits, HandedOut, Fault, Refused, RefusedAt}
-use Rattle.model.specs.declared.Held.{Held}
-use Rattle.model.specs.declared.Verdict.{Verdict}
-use Rattle.model.specs.declared.Finding.{Finding}
-use Rattle.model.specs.declared.Finding.TheVariants.{Nothing, WrongLength, Broken}
-use Rattle.model.specs.declared.Fit.TheVariants as Fit
+use Rattle.model.specs.Told.{Answer}
+use Rattle.model.specs.Told.Answer.{Done, Waits, HandedOut, Fault, Refused, RefusedAt}
+use Rattle.model.specs.Told.{Held}
+use Rattle.model.specs.Told.{Verdict}
+use Rattle.model.specs.Told.{Finding}
+use Rattle.model.specs.Told.Finding.{Nothing, WrongLength, Broken}
+use Rattle.model.specs.Told.{Fit}
 use Rattle.model.specs.Map.{memory_size}
 use Rattle.model.specs.Processor as Processor
 use Rattle.model.specs.Fault as Faults

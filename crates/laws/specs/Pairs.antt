@@ -4,7 +4,7 @@ use Rattle.std.specs.Prelude.{◌≡◌, refl, Bool, true, false, List, [], ◌�
 use Rattle.std.proofs.Common.{ap, arith, eqb-true, ltb-true, ltb-false}
 use Rattle.std.proofs.lemmas.Bool.{eqb-false}
 use Rattle.model.specs.Map.{first_outer, last_class, last_outer, longest_list, pair_bytes}
-use Rattle.model.specs.declared.Checked.TheVariants.{Good, Bad}
+use Rattle.model.specs.Told.Checked.{Good, Bad}
 use Rattle.model.specs.Answer.{no_interrupt, wrong_class}
 use Rattle.model.specs.Call as Call
 use Rattle.model.specs.Call.{is_outer, is_class}

@@ -7,7 +7,7 @@ use Rattle.std.specs.Prelude.{ℕ, ◌≤◌}
 use native.Mathlib.Omega.{arith}
 use Rattle.std.proofs.Math.ListN.{length}
 use Rattle.model.specs.Map.{last_fault}
-use Rattle.model.specs.declared.Finding.TheVariants.{Broken}
+use Rattle.model.specs.Told.Finding.{Broken}
 use Rattle.model.specs.Answer as Answer
 use Rattle.model.specs.Answer.{answer_of, memory_of, numbers, broken_counters, broken_pages, handed_out_number, wrong_length}
 use Rattle.model.specs.Fault as Faults

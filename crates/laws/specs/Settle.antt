@@ -9,10 +9,10 @@ use borrow.Author.Tests.{eq-eqb, ne_eqb}
 use Rattle.model.specs.Map as Map
 use Rattle.model.specs.Map.{control_pages, first_control, first_name, first_priority, free_list, free_semaphore, grant_for, guarded_last, link, list_link, lower}
 use Rattle.model.specs.Map.{memory_size, page_size, pair, place, processor_list, q1, q2, running_page, start_address}
-use Rattle.model.specs.declared.Answer.TheVariants.{Done}
+use Rattle.model.specs.Told.Answer.{Done}
 use Rattle.model.specs.declared.Entry.{Entry}
 use Rattle.model.specs.declared.Registers.{Registers}
-use Rattle.model.specs.declared.Fit.TheVariants.{Good}
+use Rattle.model.specs.Told.Fit.{Good}
 use Rattle.model.specs.Store.{bytes}
 use Rattle.model.specs.Queue as Queue
 use Rattle.model.specs.Processor as Processor

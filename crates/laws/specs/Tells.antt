@@ -6,8 +6,8 @@ use Rattle.model.specs.Rule.{Rule, holds}
 use Rattle.model.specs.Lists.{count}
 use Rattle.model.specs.Tell.{Row, broken, offending, offending_in, least, Class, tell, first}
 use Rattle.model.specs.Tell.Row.{tells}
-use Rattle.model.specs.declared.Finding.{Finding}
-use Rattle.model.specs.declared.Finding.TheVariants.{Nothing, WrongLength, Broken}
+use Rattle.model.specs.Told.{Finding}
+use Rattle.model.specs.Told.Finding.{Nothing, WrongLength, Broken}
 use Rattle.model.specs.Tell.Class.{class}
 use Rattle.laws.specs.Count.{hit_self, hit_other, hit_or}
 use Rattle.laws.specs.Rules.{Meant, sound, complete}

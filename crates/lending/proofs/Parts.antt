@@ -5,8 +5,8 @@ use mathlib.Core.Path.{◌≡◌}
 use mathlib.Core.List.{List, ◌++◌}
 use lib.ListN.{length, take, drop, length-drop}
 use lib.Seq.{length-take-le, take-length, take_at}
-use Rattle.model.specs.declared.Answer.{Answer}
-use Rattle.model.specs.declared.Writing.{Writing}
+use Rattle.model.specs.Told.{Answer}
+use Rattle.model.specs.Told.{Writing}
 use Rattle.model.specs.Answer.Outcome.{gives}
 use Rattle.model.specs.Settings.{write_settings}
 use Rattle.model.specs.Bytes.{from_settings}

@@ -7,9 +7,9 @@ use Rattle.std.proofs.Math.Path.{refl}
 use Rattle.std.proofs.Math.Bool.{Bool}
 use mathlib.Core.List.{List, [], ◌∷◌, ◌++◌, map}
 use Rattle.std.proofs.lemmas.List.{length-map}
-use Rattle.model.specs.declared.Answer.TheVariants.{Done, RefusedAt}
-use Rattle.model.specs.declared.Checked.{Checked}
-use Rattle.model.specs.declared.Checked.TheVariants.{Good, Bad}
+use Rattle.model.specs.Told.Answer.{Done, RefusedAt}
+use Rattle.model.specs.Told.{Checked}
+use Rattle.model.specs.Told.Checked.{Good, Bad}
 use Rattle.model.specs.Store.{Store}
 use Rattle.model.specs.Map.{a_word, first_outer, first_classed, last_outer, last_class}
 use Rattle.model.specs.Address.{unless}

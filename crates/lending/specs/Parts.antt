@@ -3,8 +3,8 @@
 use Rattle.std.specs.Prelude.{ℕ, ◌+◌, ◌≤◌, ◌≡◌, List, ◌++◌, length, take, drop}
 use Rattle.std.proofs.Common.{arith, ap, ◌∙◌, append_assoc, length-append, length-take-le, take_at, drop_at}
 use Rattle.std.proofs.Math.Seq.{take-append_seam}
-use Rattle.model.specs.declared.Answer.{Answer}
-use Rattle.model.specs.declared.Writing.{Writing}
+use Rattle.model.specs.Told.{Answer}
+use Rattle.model.specs.Told.{Writing}
 use Rattle.model.specs.Answer.{Outcome}
 use Rattle.model.specs.Answer.Outcome.{gives}
 use Rattle.model.specs.Settings.{write_settings}

@@ -12,7 +12,7 @@ ghost use Rattle.model.specs.Rule.{holds, among};
 ghost use Rattle.model.specs.Lists.{count, each_of, link_of, reach};
 ghost use Rattle.model.specs.Bytes as Model;
 
-use model::{ControlPage, map, wide};
+use model::{ControlPage, Memory, map, wide};
 use words::at;
 
 // Whether both hold; a rule that is two is tested so.
@@ -63,8 +63,8 @@ pub fn left_of(head: u16) -> u8
 }
 
 // How many pages hang from the cell.
-fn how_many(m: &[u8], link: u16, cell: u16, left: u8) -> u8
-    requires { (length m.now ≡ 8192) × (link < 32) × (cell < 8192) }
+fn how_many(m: &Memory, link: u16, cell: u16, left: u8) -> u8
+    requires { (link < 32) × (cell < 8192) }
     ensures { (result ≡ length (Model.walk left m.now link cell)) × (result ≤ left) }
 {
     if left == 0 {
@@ -78,16 +78,16 @@ fn how_many(m: &[u8], link: u16, cell: u16, left: u8) -> u8
 }
 
 // How long the list of the head is.
-pub fn length_of(m: &[u8], head: u16) -> u8
-    requires { (length m.now ≡ 8192) × (head < 8192) }
+pub fn length_of(m: &Memory, head: u16) -> u8
+    requires { head < 8192 }
     ensures { result ≡ length (Model.lists m.now head) }
 {
     how_many(m, link_of(head), head, left_of(head))
 }
 
 // How often the page stands in the processor list, from the cell on.
-pub fn listings(m: &[u8], page: u8, cell: u16, left: u8) -> u8
-    requires { (length m.now ≡ 8192) × (cell < 8192) }
+pub fn listings(m: &Memory, page: u8, cell: u16, left: u8) -> u8
+    requires { cell < 8192 }
     ensures { (result ≡ count page (Model.walk left m.now Map.list_link cell)) × (result ≤ left) }
 {
     if left == 0 {
@@ -105,8 +105,8 @@ pub fn listings(m: &[u8], page: u8, cell: u16, left: u8) -> u8
 }
 
 // How many of the processor list, from the cell on, have the name.
-pub fn bearers(m: &[u8], name: u8, cell: u16, left: u8) -> u8
-    requires { (length m.now ≡ 8192) × (cell < 8192) }
+pub fn bearers(m: &Memory, name: u8, cell: u16, left: u8) -> u8
+    requires { cell < 8192 }
     ensures { (result ≡ count name (each_of (Model.name m.now) (Model.walk left m.now Map.list_link cell))) × (result ≤ left) }
 {
     if left == 0 {

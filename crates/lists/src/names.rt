@@ -11,7 +11,7 @@ ghost use Rattle.lists.specs.Seen as Seen;
 
 use crate::page::{BROKEN, see};
 use crate::{both, lies};
-use model::{ControlPage, map};
+use model::{ControlPage, Memory, map};
 use words::at;
 
 // Whether the name and the priority of a label lie in 1-15.
@@ -25,8 +25,8 @@ fn titled(label: u8) -> bool
 }
 
 // The names seen, with the name of a processor; broken, if its label is not good.
-fn see_name(m: &[u8], seen: u32, page: ControlPage) -> u32
-    requires { (length m.now ≡ 8192) × (seen < Seen.broken) }
+fn see_name(m: &Memory, seen: u32, page: ControlPage) -> u32
+    requires { seen < Seen.broken }
     ensures { (result ≡ Seen.with_name m.now seen page.0) × (result ≤ Seen.broken) }
 {
     let label = page.word(m, map::LABEL);
@@ -37,8 +37,8 @@ fn see_name(m: &[u8], seen: u32, page: ControlPage) -> u32
 }
 
 // Whether the processors from the cell on have good labels, and names that differ and were not seen.
-fn named_from(m: &[u8], seen: u32, cell: u16, left: u8) -> bool
-    requires { (length m.now ≡ 8192) × (cell < 8192) × (seen < Seen.broken) }
+fn named_from(m: &Memory, seen: u32, cell: u16, left: u8) -> bool
+    requires { (cell < 8192) × (seen < Seen.broken) }
     ensures { result ≡ Seen.named m.now seen (Model.walk left m.now Map.list_link cell) }
 {
     if left == 0 {
@@ -55,8 +55,7 @@ fn named_from(m: &[u8], seen: u32, cell: u16, left: u8) -> bool
     named_from(m, names, ControlPage(w).place(map::LIST_LINK), left - 1)
 }
 
-pub fn named(m: &[u8]) -> bool
-    requires { length m.now ≡ 8192 }
+pub fn named(m: &Memory) -> bool
     ensures { result ≡ holds (rule (Judge.names bytes) m.now) }
 {
     named_from(m, 0, map::PROCESSOR_LIST, map::ONE_MORE)

@@ -8,14 +8,14 @@ ghost use Rattle.model.specs.Bytes as Model;
 ghost use Rattle.lists.specs.Seen as Seen;
 
 use crate::page::{BROKEN, see};
-use model::{ControlPage, map};
+use model::{ControlPage, Memory, map};
 use words::at;
 
 pub const ALL_PAGES: u32 = 1048575;
 
 // With the pages that hang from the cell; so many may come, and then the list must end.
-fn see_all(m: &[u8], seen: u32, link: u16, cell: u16, left: u8) -> u32
-    requires { (length m.now ≡ 8192) × (link < 32) × (cell < 8192) × (seen < Seen.broken) }
+fn see_all(m: &Memory, seen: u32, link: u16, cell: u16, left: u8) -> u32
+    requires { (link < 32) × (cell < 8192) × (seen < Seen.broken) }
     ensures { (result ≡ Seen.up_to (suc left) seen (Model.walk (suc left) m.now link cell)) × (result ≤ Seen.broken) }
 {
     let w = at(m, cell);
@@ -33,8 +33,8 @@ fn see_all(m: &[u8], seen: u32, link: u16, cell: u16, left: u8) -> u32
 }
 
 // With Q1 and Q2 of a processor.
-fn see_mail(m: &[u8], seen: u32, page: ControlPage) -> u32
-    requires { (length m.now ≡ 8192) × (seen < Seen.broken) }
+fn see_mail(m: &Memory, seen: u32, page: ControlPage) -> u32
+    requires { seen < Seen.broken }
     ensures { (result ≡ Seen.see_lists seen (Seen.walks m.now) (mails (page.0 ∷ []))) × (result ≤ Seen.broken) }
 {
     let pages = see_all(m, seen, map::LINK, page.place(map::Q1), map::CONTROL_PAGES);
@@ -45,8 +45,8 @@ fn see_mail(m: &[u8], seen: u32, page: ControlPage) -> u32
 }
 
 // With the mail of each processor from the cell on.
-fn see_mails(m: &[u8], seen: u32, cell: u16, left: u8) -> u32
-    requires { (length m.now ≡ 8192) × (cell < 8192) × (seen < Seen.broken) }
+fn see_mails(m: &Memory, seen: u32, cell: u16, left: u8) -> u32
+    requires { (cell < 8192) × (seen < Seen.broken) }
     ensures { (result ≡ Seen.see_lists seen (Seen.walks m.now) (mails (Model.walk left m.now Map.list_link cell))) × (result ≤ Seen.broken) }
 {
     if left == 0 {
@@ -64,8 +64,8 @@ fn see_mails(m: &[u8], seen: u32, cell: u16, left: u8) -> u32
 }
 
 // With the own queue of each processor from the cell on.
-fn see_owns(m: &[u8], seen: u32, cell: u16, left: u8) -> u32
-    requires { (length m.now ≡ 8192) × (cell < 8192) × (seen < Seen.broken) }
+fn see_owns(m: &Memory, seen: u32, cell: u16, left: u8) -> u32
+    requires { (cell < 8192) × (seen < Seen.broken) }
     ensures { (result ≡ Seen.see_lists seen (Seen.walks m.now) (owns (Model.walk left m.now Map.list_link cell))) × (result ≤ Seen.broken) }
 {
     if left == 0 {
@@ -89,8 +89,8 @@ fn see_owns(m: &[u8], seen: u32, cell: u16, left: u8) -> u32
 }
 
 // With the page in a word of page 10.
-fn see_grant(m: &[u8], seen: u32, head: u16) -> u32
-    requires { (length m.now ≡ 8192) × (Map.grants ≤ head) × (head < Map.grants_end) × (seen < Seen.broken) }
+fn see_grant(m: &Memory, seen: u32, head: u16) -> u32
+    requires { (Map.grants ≤ head) × (head < Map.grants_end) × (seen < Seen.broken) }
     ensures { (result ≡ Seen.up_to Seen.one_more seen (Model.lists m.now head)) × (result ≤ Seen.broken) }
 {
     let w = at(m, head);
@@ -101,8 +101,8 @@ fn see_grant(m: &[u8], seen: u32, head: u16) -> u32
 }
 
 // With the queue of an interrupt; most are empty.
-fn see_queue(m: &[u8], seen: u32, head: u16) -> u32
-    requires { (length m.now ≡ 8192) × (head < Map.processor_list) × (seen < Seen.broken) }
+fn see_queue(m: &Memory, seen: u32, head: u16) -> u32
+    requires { (head < Map.processor_list) × (seen < Seen.broken) }
     ensures { (result ≡ Seen.up_to Seen.one_more seen (Model.lists m.now head)) × (result ≤ Seen.broken) }
 {
     let w = at(m, head);
@@ -113,8 +113,8 @@ fn see_queue(m: &[u8], seen: u32, head: u16) -> u32
 }
 
 // With the words of page 10; with the queues of the interrupts.
-fn see_grants(m: &[u8], seen: u32) -> u32
-    requires { (length m.now ≡ 8192) × (seen < Seen.broken) }
+fn see_grants(m: &Memory, seen: u32) -> u32
+    requires { seen < Seen.broken }
     ensures { (result ≡ Seen.see_lists seen (Model.lists m.now) (range Map.page_size 1 Map.grants)) × (result ≤ Seen.broken) }
 {
     let mut pages = seen;
@@ -131,8 +131,8 @@ fn see_grants(m: &[u8], seen: u32) -> u32
     pages
 }
 
-fn see_interrupts(m: &[u8], seen: u32) -> u32
-    requires { (length m.now ≡ 8192) × (seen < Seen.broken) }
+fn see_interrupts(m: &Memory, seen: u32) -> u32
+    requires { seen < Seen.broken }
     ensures { (result ≡ Seen.see_lists seen (Model.lists m.now) (range Map.interrupts 2 (Map.header_after 0))) × (result ≤ Seen.broken) }
 {
     let mut pages = seen;
@@ -150,8 +150,7 @@ fn see_interrupts(m: &[u8], seen: u32) -> u32
 }
 
 // The pages of all that is used, and of all that wait.
-pub fn used_bits(m: &[u8]) -> u32
-    requires { length m.now ≡ 8192 }
+pub fn used_bits(m: &Memory) -> u32
     ensures { result ≡ Seen.see_lists 0 (Model.lists m.now) (uses (Model.lists m.now Map.processor_list)) }
 {
     let listed = see_all(
@@ -175,8 +174,8 @@ pub fn used_bits(m: &[u8]) -> u32
     see_grants(m, mailed)
 }
 
-pub fn wait_bits(m: &[u8]) -> u32
-    requires { (length m.now ≡ 8192) × (all Seen.is_page (Model.lists m.now Map.processor_list) ≡ true) }
+pub fn wait_bits(m: &Memory) -> u32
+    requires { all Seen.is_page (Model.lists m.now Map.processor_list) ≡ true }
     ensures { result ≡ Seen.see_lists 0 (Model.lists m.now) (queues (Model.lists m.now Map.processor_list)) }
 {
     let paged = see_all(m, 0, map::LINK, map::PAGE_QUEUE, map::CONTROL_PAGES);
@@ -191,8 +190,8 @@ pub fn wait_bits(m: &[u8]) -> u32
 }
 
 // With a processor, if it has the waiting bit.
-fn see_flagged(m: &[u8], seen: u32, page: ControlPage) -> u32
-    requires { (length m.now ≡ 8192) × (seen < Seen.broken) }
+fn see_flagged(m: &Memory, seen: u32, page: ControlPage) -> u32
+    requires { seen < Seen.broken }
     ensures { (result ≡ Seen.with_flag (Model.waiting m.now) seen page.0) × (result ≤ Seen.broken) }
 {
     let state = page.word(m, map::STATE);
@@ -203,8 +202,8 @@ fn see_flagged(m: &[u8], seen: u32, page: ControlPage) -> u32
 }
 
 // Those of the processors from the cell on that have the waiting bit.
-pub fn flag_bits(m: &[u8], seen: u32, cell: u16, left: u8) -> u32
-    requires { (length m.now ≡ 8192) × (cell < 8192) × (seen < Seen.broken) }
+pub fn flag_bits(m: &Memory, seen: u32, cell: u16, left: u8) -> u32
+    requires { (cell < 8192) × (seen < Seen.broken) }
     ensures { result ≡ Seen.flags (Model.waiting m.now) seen (Model.walk left m.now Map.list_link cell) }
 {
     if left == 0 {

@@ -1,10 +1,13 @@
 -- A law for each way through matching, sending and testing.
-use Prim.Native.Nat.{ℕ, zero, suc, ◌-◌}
+use Prim.Native.Nat.{ℕ, zero, suc, ◌+◌}
 use mathlib.Core.Path.{◌≡◌, refl}
 use mathlib.Core.Bool.{Bool, true, false}
 use borrow.Author.Tests.{eq-eqb, ne_eqb}
-use native.Mathlib.Numerals.{sub-one}
 use native.Mathlib.Omega.{arith}
+use Rattle.std.specs.Prelude.{Some, None}
+use Rattle.model.specs.declared.ControlPage.{ControlPage}
+use Rattle.model.specs.Coded.{found}
+use Rattle.queues.proofs.Laws.{none_is, some_is, some_not}
 use Rattle.model.specs.Map.{place, pair, upper, lower, length_in, text, reason, own_semaphore, own_queue, q1, note, size}
 use Rattle.model.specs.Address.{wrapped}
 use Rattle.model.specs.Mail as Mail
@@ -40,28 +43,32 @@ module _ (m : Memory) (p q : ℕ) (b : Bool) (eb : b ≡ awaits m p q) where
   unfolding Mail.heard
   heard_not z = rw (← eb, z)
 
+-- ---- the loop over Q1
 module _ (p n f : ℕ) where
   pub tests_none : (i : ℕ) (m : Memory) → i ≡ 0 → tested false m ≡ test_q1 i m p n f
   unfolding Mail.test_q1
   tests_none zero m e = refl
   tests_none (suc i) m e = absurd (omega arith)
 
-  pub tests_end : (i : ℕ) (m : Memory) (q : ℕ) → q ≡ word m p q1 → q ≡ 0 → tested false m ≡ test_q1 i m p n f
+  pub tests_end : (i : ℕ) (m : Memory) → None ≡ found (word m p q1) → tested false m ≡ test_q1 i m p n f
   unfolding Mail.test_q1
-  tests_end zero m q eq z = refl
-  tests_end (suc i) m q eq z = rw (← eq, eq-eqb q 0 z, Mail.test_q1)
+  tests_end zero m e = refl
+  tests_end (suc i) m e = rw (eq-eqb (word m p q1) 0 (none_is _ e), Mail.test_q1)
 
-  pub tests_here : (i : ℕ) (m m₁ : Memory) (q : ℕ) (b : Bool) → (i ≡ 0 → ⊥) → q ≡ word m p q1 → (q ≡ 0 → ⊥) → b ≡ matches m n f q → b ≡ true → m₁ ≡ move m p q
+  pub tests_here : (i : ℕ) (m m₁ : Memory) (q : ControlPage) (b : Bool) → (i ≡ 0 → ⊥) → Some q ≡ found (word m p q1) → b ≡ matches m n f q.0 → b ≡ true → m₁ ≡ move m p q.0
       → tested true m₁ ≡ test_q1 i m p n f
   unfolding Mail.test_q1
-  tests_here zero m m₁ q b y eq z eb h e₁ = absurd (y refl)
-  tests_here (suc i) m m₁ q b y eq z eb h e₁ = rw (← eq, ne_eqb q 0 z, Mail.test_q1, ← eq, ← eb, h, Mail.test_q1, ← eq, ← e₁)
+  tests_here zero m m₁ q b y eq eb h e₁ = absurd (y refl)
+  tests_here (suc i) m m₁ q b y eq eb h e₁ =
+      rw (ne_eqb (word m p q1) 0 (some_not _ q eq), Mail.test_q1, ← (some_is _ q eq), ← eb, h, Mail.test_q1, ← (some_is _ q eq), ← e₁)
 
-  pub tests_on : (i : ℕ) (m m₁ : Memory) (q : ℕ) (b : Bool) (t : Tested Memory) → (i ≡ 0 → ⊥) → q ≡ word m p q1 → (q ≡ 0 → ⊥) → b ≡ matches m n f q → b ≡ false
-      → m₁ ≡ move m p q → t ≡ test_q1 (i - 1) m₁ p n f → t ≡ test_q1 i m p n f
+  pub tests_on : (i j : ℕ) (m m₁ : Memory) (q : ControlPage) (b : Bool) → i ≡ j + 1 → Some q ≡ found (word m p q1) → b ≡ matches m n f q.0 → b ≡ false → m₁ ≡ move m p q.0
+      → test_q1 i m p n f ≡ test_q1 j m₁ p n f
   unfolding Mail.test_q1
-  tests_on zero m m₁ q b t y eq z eb h e₁ e = absurd (y refl)
-  tests_on (suc i) m m₁ q b t y eq z eb h e₁ e = rw (← eq, ne_eqb q 0 z, Mail.test_q1, ← eq, ← eb, h, Mail.test_q1, ← eq, ← e₁) (simp sub-one at e)
+  tests_on zero j m m₁ q b y eq eb h e₁ = absurd (omega arith)
+  tests_on (suc i) j m m₁ q b y eq eb h e₁ =
+      let k : i ≡ j = omega arith in
+      rw (ne_eqb (word m p q1) 0 (some_not _ q eq), Mail.test_q1, ← (some_is _ q eq), ← eb, h, Mail.test_q1, ← (some_is _ q eq), ← e₁, k)
 
 pub write_is : (m m₁ m₂ m₃ : Memory) (q f a l p n b : ℕ) → p ≡ running m → n ≡ name m p → m₁ ≡ store m q note (pair n f) → m₂ ≡ store m₁ q size l
     → b ≡ place q text
@@ -80,10 +87,6 @@ pub ruleset mails = (
   awaits_is,
   heard_wakes,
   heard_not,
-  tests_none,
-  tests_end,
-  tests_here,
-  tests_on,
   write_is,
   head_is,
 )

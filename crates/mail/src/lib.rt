@@ -1,182 +1,183 @@
 // Sending: "A match on NI or flag 0 means any", what is written and read of a message, and the moves of mail.
 #![tactic(auto)]
 
-ghost use Rattle.std.specs.Prelude.{◌≡◌, ◌<◌, length};
+ghost use Rattle.std.specs.Prelude.{◌≡◌, ◌<◌};
+ghost use Rattle.model.specs.Coded.{found};
 ghost use Rattle.model.specs.Map as Map;
-ghost use Rattle.model.specs.Queue as Queue;
+ghost use Rattle.model.specs.Queue.{first};
 ghost use Rattle.model.specs.Mail as Mail;
 ghost use Rattle.model.specs.Mail.Tested.{tested};
 ghost use Rattle.model.specs.Bytes as Model;
 ghost use Rattle.mail.specs.Head.{head_out};
 
-use model::{ControlPage, Name, map};
-use processors::{name, running, wake};
-use queues::{join, leave};
-use words::{at, copy, wrapped, write};
+use model::{ControlPage, Memory, Name, map};
+use processors::{WaitQueue, name, running};
+use queues::{Queue, page_at};
+use words::{copy, wrapped, write};
+
+// A name and a flag, as one word holds them: who sent a message and with which flag, or what is asked for, where 0 means any.
+#[derive(Clone, Copy)]
+pub struct Note {
+    pub name: Name,
+    pub flag: u8,
+    ghost name_fits: { name.0 < 16 },
+    ghost flag_fits: { flag < 16 },
+}
+
+impl Note {
+    pub fn of(word: u8) -> Self
+        ensures { (result.name.0 ≡ Map.upper word) × (result.flag ≡ Map.lower word) }
+    {
+        Self {
+            name: Name(word / map::FIELD),
+            flag: word % map::FIELD,
+        }
+    }
+
+    pub fn word(self) -> u8
+        ensures { result ≡ Map.pair self.name.0 self.flag }
+    {
+        self.name.0 * map::FIELD + self.flag
+    }
+
+    // Whether it asks for a message with that word 1.
+    #[tactic(auto, using(crate::proofs::Laws::mails), unfolding(model::specs::Mail::fits))]
+    pub fn fits(self, note: u8) -> bool
+        ensures { result ≡ Mail.fits self.name.0 self.flag note }
+    {
+        asks(self.name.0, note / map::FIELD) && asks(self.flag, note % map::FIELD)
+    }
+}
 
 // Whether what is given is what is asked for; 0 asks for any.
+#[tactic(auto, using(model::proofs::Tests::tests), unfolding(model::specs::Mail::asks))]
 fn asks(asked: u8, given: u8) -> bool
     ensures { result ≡ Mail.asks asked given }
 {
-    if asked == 0 {
-        return true;
-    }
-    asked == given
+    asked == 0 || asked == given
 }
 
-// Whether name and flag ask for a message with that word 1.
-pub fn fits(name: Name, flag: u8, note: u8) -> bool
-    ensures { result ≡ Mail.fits name.0 flag note }
+// Whether it asks for the message.
+#[tactic(auto, unfolding(model::specs::Mail::matches))]
+fn matches(m: &Memory, asked: Note, message: ControlPage) -> bool
+    ensures { result ≡ Model.matches m.now asked.name.0 asked.flag message.0 }
 {
-    if asks(name.0, note / map::FIELD) {
-        return asks(flag, note % map::FIELD);
-    }
-    false
+    asked.fits(message.word(m, map::NOTE))
 }
 
-// Whether they ask for the message.
-fn matches(m: &[u8], name: Name, flag: u8, message: ControlPage) -> bool
-    requires { length m.now ≡ 8192 }
-    ensures { result ≡ Model.matches m.now name.0 flag message.0 }
+// The first match of the messages of a queue.
+fn find_message(m: &Memory, asked: Note, queue: Queue) -> Option<ControlPage>
+    ensures { result ≡ found (first (Model.matches m.now asked.name.0 asked.flag) (Model.walk Map.control_pages m.now queue.link queue.header)) }
 {
-    let note = message.word(m, map::NOTE);
-    fits(name, flag, note)
+    queue.pages(m).find(|message| matches(m, asked, *message))
 }
 
-// The first match of the messages that hang from the cell; page 0: none.
-fn find_message(m: &[u8], name: Name, flag: u8, cell: u16, left: u8) -> ControlPage
-    requires { (length m.now ≡ 8192) × (cell < 8192) }
-    ensures { result.0 ≡ Queue.first (Model.matches m.now name.0 flag) (Model.walk left m.now Map.link cell) }
+// The first match in Q1, in Q2, of the running processor.
+pub fn in_q1(m: &Memory, asked: Note) -> Option<ControlPage>
+    ensures { result ≡ found (Model.in_q1 m.now asked.name.0 asked.flag) }
 {
-    if left == 0 {
-        return ControlPage(0);
-    }
-    let w = at(m, cell);
-    if w == 0 {
-        return ControlPage(0);
-    }
-    if matches(m, name, flag, ControlPage(w)) {
-        return ControlPage(w);
-    }
-    find_message(m, name, flag, ControlPage(w).place(map::LINK), left - 1)
+    find_message(m, asked, Queue::at(running(m).place(map::Q1)))
 }
 
-// The first match in Q1, in Q2, of the running processor; page 0: none.
-pub fn in_q1(m: &[u8], name: Name, flag: u8) -> ControlPage
-    requires { length m.now ≡ 8192 }
-    ensures { result.0 ≡ Model.in_q1 m.now name.0 flag }
+pub fn in_q2(m: &Memory, asked: Note) -> Option<ControlPage>
+    ensures { result ≡ found (Model.in_q2 m.now asked.name.0 asked.flag) }
 {
-    let p = running(m);
-    find_message(m, name, flag, p.place(map::Q1), map::CONTROL_PAGES)
-}
-
-pub fn in_q2(m: &[u8], name: Name, flag: u8) -> ControlPage
-    requires { length m.now ≡ 8192 }
-    ensures { result.0 ≡ Model.in_q2 m.now name.0 flag }
-{
-    let p = running(m);
-    find_message(m, name, flag, p.place(map::Q2), map::CONTROL_PAGES)
+    find_message(m, asked, Queue::at(running(m).place(map::Q2)))
 }
 
 // Whether the processor of the page waits for the message.
-pub fn awaits(m: &[u8], page: ControlPage, message: ControlPage) -> bool
-    requires { length m.now ≡ 8192 }
+#[tactic(auto, using(crate::proofs::Laws::mails), unfolding(model::specs::Mail::awaits))]
+pub fn awaits(m: &Memory, page: ControlPage, message: ControlPage) -> bool
     ensures { result ≡ Model.awaits m.now page.0 message.0 }
 {
-    let own = page.word(m, map::OWN_QUEUE);
-    if own == 0 {
-        return false;
-    }
-    let w = page.word(m, map::REASON);
-    matches(m, Name(w / map::FIELD), w % map::FIELD, message)
+    page.word(m, map::OWN_QUEUE) != 0 && matches(m, Note::of(page.word(m, map::REASON)), message)
 }
 
 // It wakes if it waits for the message.
-fn heard(m: &mut [u8], page: ControlPage, message: ControlPage)
-    requires { length m.old ≡ 8192 }
+#[tactic(auto, using(crate::proofs::Laws::mails))]
+fn heard(m: &mut Memory, page: ControlPage, message: ControlPage)
     ensures { m.new ≡ Model.heard m.old page.0 message.0 }
 {
     if awaits(m, page, message) {
-        wake(m, page.place(map::OWN_SEMAPHORE), page);
+        WaitQueue::own(page).wake(m, page);
     }
 }
 
 // The message joins Q1 of the processor of the page, which wakes if it waits for it.
-pub fn deliver(m: &mut [u8], page: ControlPage, message: ControlPage)
-    requires { length m.old ≡ 8192 }
+#[tactic(auto, unfolding(model::specs::Mail::deliver))]
+pub fn deliver(m: &mut Memory, page: ControlPage, message: ControlPage)
     ensures { m.new ≡ Model.deliver m.old page.0 message.0 }
 {
-    join(m, page.place(map::Q1), map::LINK, message);
+    Queue::at(page.place(map::Q1)).join(m, message);
     heard(m, page, message);
 }
 
 // The page becomes the running processor's message, with the text of that size from the address on.
-pub fn write_message(m: &mut [u8], page: ControlPage, flag: u8, address: u16, size: u8)
-    requires { (length m.old ≡ 8192) × (flag < 16) × (address < 8192) }
+#[tactic(auto, using(crate::proofs::Laws::mails))]
+pub fn write_message(m: &mut Memory, page: ControlPage, flag: u8, address: u16, size: u8)
+    requires { (flag < 16) × (address < 8192) }
     ensures { m.new ≡ Model.write_message m.old page.0 flag address size }
 {
-    let p = running(m);
-    let sender = name(m, p).0;
-    page.store(m, map::NOTE, sender * map::FIELD + flag);
+    let note = Note {
+        name: name(m, running(m)),
+        flag,
+    };
+    page.store(m, map::NOTE, note.word());
     page.store(m, map::SIZE, size);
     copy(m, address, page.place(map::TEXT), size);
 }
 
 // The page becomes a notice with that sender and flag.
-pub fn make_notice(m: &mut [u8], page: ControlPage, name: Name, flag: u8)
-    requires { (length m.old ≡ 8192) × (name.0 < 16) × (flag < 16) }
-    ensures { m.new ≡ Model.make_notice m.old page.0 name.0 flag }
+#[tactic(auto, unfolding(model::specs::Mail::make_notice))]
+pub fn make_notice(m: &mut Memory, page: ControlPage, note: Note)
+    ensures { m.new ≡ Model.make_notice m.old page.0 note.name.0 note.flag }
 {
-    let sender = name.0;
-    page.store(m, map::NOTE, sender * map::FIELD + flag);
+    page.store(m, map::NOTE, note.word());
     page.store(m, map::SIZE, map::NOTICE);
 }
 
 // The message goes from Q1 of the processor of the page to the end of its Q2.
-pub fn move_message(m: &mut [u8], page: ControlPage, message: ControlPage)
-    requires { length m.old ≡ 8192 }
+pub fn move_message(m: &mut Memory, page: ControlPage, message: ControlPage)
     ensures { m.new ≡ Model.move m.old page.0 message.0 }
 {
-    leave(m, page.place(map::Q1), map::LINK, message);
-    join(m, page.place(map::Q2), map::LINK, message);
+    Queue::at(page.place(map::Q1)).leave(m, message);
+    Queue::at(page.place(map::Q2)).join(m, message);
 }
 
-// The messages of Q1 are tested in order, and go to Q2, the first match too; whether there is one.
-pub fn test_q1(m: &mut [u8], page: ControlPage, name: Name, flag: u8, left: u8) -> bool
-    requires { length m.old ≡ 8192 }
-    ensures { tested result m.new ≡ Model.test_q1 left m.old page.0 name.0 flag }
+// The messages of Q1 are tested in order, at most so many, and go to Q2, the first match too; whether there is one.
+pub fn test_q1(m: &mut Memory, page: ControlPage, asked: Note, left: u8) -> bool
+    ensures { tested result m.new ≡ Model.test_q1 left m.old page.0 asked.name.0 asked.flag }
 {
-    if left == 0 {
-        return false;
+    for _ in 0..left {
+        let Some(message) = page_at(m, page.place(map::Q1)) else {
+            return false;
+        };
+        let fits = matches(m, asked, message);
+        move_message(m, page, message);
+        if fits {
+            return true;
+        }
     }
-    let message = page.word(m, map::Q1);
-    if message == 0 {
-        return false;
-    }
-    if matches(m, name, flag, ControlPage(message)) {
-        move_message(m, page, ControlPage(message));
-        return true;
-    }
-    move_message(m, page, ControlPage(message));
-    test_q1(m, page, name, flag, left - 1)
+    false
 }
 
 // Sender, flag and length of the message go to the address on.
-fn copy_head(m: &mut [u8], message: ControlPage, address: u16)
-    requires { (length m.old ≡ 8192) × (address < 8192) }
+#[tactic(auto, using(crate::proofs::Laws::mails))]
+fn copy_head(m: &mut Memory, message: ControlPage, address: u16)
+    requires { address < 8192 }
     ensures { m.new ≡ head_out m.old message.0 address }
 {
-    let note = message.word(m, map::NOTE);
+    let note = Note::of(message.word(m, map::NOTE));
     let size = message.word(m, map::SIZE);
-    write(m, address, note / map::FIELD);
-    write(m, wrapped(address, 1), note % map::FIELD);
+    write(m, address, note.name.0);
+    write(m, wrapped(address, 1), note.flag);
     write(m, wrapped(address, 2), size % map::MARK);
 }
 
 // And its text behind them.
 #[tactic(auto, unfolding(model::specs::Mail::copy_out))]
-pub fn copy_out(m: &mut [u8], message: ControlPage, address: u16)
-    requires { (length m.old ≡ 8192) × (address < 8192) }
+pub fn copy_out(m: &mut Memory, message: ControlPage, address: u16)
+    requires { address < 8192 }
     ensures { m.new ≡ Model.copy_out m.old message.0 address }
 {
     let size = message.word(m, map::SIZE) % map::MARK;

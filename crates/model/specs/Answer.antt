@@ -1,10 +1,10 @@
 -- Refusals and faults: what a call answers, with document 01's number and values for every case.
 use Rattle.std.specs.Prelude.{ℕ, List, [], ◌∷◌}
-use Rattle.model.specs.declared.Answer.{Answer}
-use Rattle.model.specs.declared.Answer.TheVariants.{Done, Waits, HandedOut, Fault, Refused, RefusedAt}
-use Rattle.model.specs.declared.Held.{Held}
-use Rattle.model.specs.declared.Verdict.{Verdict}
-use Rattle.model.specs.declared.Writing.{Writing}
+use Rattle.model.specs.Told.{Answer}
+use Rattle.model.specs.Told.Answer.{Done, Waits, HandedOut, Fault, Refused, RefusedAt}
+use Rattle.model.specs.Told.{Held}
+use Rattle.model.specs.Told.{Verdict}
+use Rattle.model.specs.Told.{Writing}
 use Rattle.model.specs.Store.{Store}
 use Rattle.model.specs.Processor.{running, advance, set_lr}
 use Rattle.model.specs.Wait.{put_to_wait}

@@ -1,9 +1,9 @@
 -- A burst from the line card (document 02, 2/13): the seventh public call, from the memory and "a lent buffer" to an outcome. The buffer is a list
 -- of bytes, number and class number in turn.
 use Rattle.std.specs.Prelude.{ℕ, ◌+◌, ◌%◌, Bool, false, cond, List, [], ◌∷◌, eqb, ltb, length}
-use Rattle.model.specs.declared.Answer.TheVariants.{Done, Refused, RefusedAt}
-use Rattle.model.specs.declared.Checked.{Checked}
-use Rattle.model.specs.declared.Checked.TheVariants.{Good, Bad}
+use Rattle.model.specs.Told.Answer.{Done, Refused, RefusedAt}
+use Rattle.model.specs.Told.{Checked}
+use Rattle.model.specs.Told.Checked.{Good, Bad}
 use Rattle.model.specs.Store.{Store}
 use Rattle.model.specs.Map.{pair_bytes, longest_list}
 use Rattle.model.specs.Address.{unless}

@@ -2,12 +2,12 @@
 use Rattle.std.specs.Prelude.{ℕ, Bool, List}
 use Rattle.model.specs.declared.Registers.{Registers}
 use Rattle.model.specs.declared.Arguments.{Arguments}
-use Rattle.model.specs.declared.Held.{Held}
-use Rattle.model.specs.declared.Verdict.{Verdict}
-use Rattle.model.specs.declared.Finding.{Finding}
-use Rattle.model.specs.declared.Checked.{Checked}
+use Rattle.model.specs.Told.{Held}
+use Rattle.model.specs.Told.{Verdict}
+use Rattle.model.specs.Told.{Finding}
+use Rattle.model.specs.Told.{Checked}
 use Rattle.model.specs.declared.Entry.{Entry}
-use Rattle.model.specs.declared.Fit.{Fit}
+use Rattle.model.specs.Told.{Fit}
 use Rattle.model.specs.declared.State.{State}
 use Rattle.model.specs.declared.Parts.{Parts}
 use Rattle.model.specs.declared.Said.{Said}

@@ -2,11 +2,11 @@
 -- document 02, is in Burst. Refusals and faults: "Refusals leave all memory untouched, first that applies".
 use Rattle.std.specs.Prelude.{ℕ, Bool, true, false, cond, eqb, ltb}
 use Rattle.model.specs.declared.Registers.{Registers}
-use Rattle.model.specs.declared.Answer.TheVariants.{Done, Refused, RefusedAt}
-use Rattle.model.specs.declared.Held.{Held}
-use Rattle.model.specs.declared.Verdict.{Verdict}
-use Rattle.model.specs.declared.Finding.{Finding}
-use Rattle.model.specs.declared.Finding.TheVariants.{Nothing, WrongLength, Broken}
+use Rattle.model.specs.Told.Answer.{Done, Refused, RefusedAt}
+use Rattle.model.specs.Told.{Held}
+use Rattle.model.specs.Told.{Verdict}
+use Rattle.model.specs.Told.{Finding}
+use Rattle.model.specs.Told.Finding.{Nothing, WrongLength, Broken}
 use Rattle.model.specs.Store.{Store}
 use Rattle.model.specs.Map.{memory_size, first_outer, first_classed, last_outer, last_class}
 use Rattle.model.specs.Address.{unless}

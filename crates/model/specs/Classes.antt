@@ -1,7 +1,7 @@
 -- Say what is broken: "A table .. gives every rule on well-formed memory one class and the address told". Under each class its sentences, and
 -- of each sentence rows: of whom it speaks, the address that each tells, and what is asked of each. The rules are the judge's where it has one.
 use Rattle.std.specs.Prelude.{ℕ, suc, ◌/◌, cond, List, [], ◌∷◌, ◌++◌, length, eqb, leb}
-use Rattle.model.specs.declared.Finding.{Finding}
+use Rattle.model.specs.Told.{Finding}
 use Rattle.model.specs.Store.{Store}
 use Rattle.model.specs.Map as Map
 use Rattle.model.specs.Map.{place, page_size, top, free_list, free_semaphore, page_queue, processor_list, running_page, running_label}

@@ -1,7 +1,7 @@
 -- Instructions: "EXI runs another instruction by the same rules". Refusals and faults: "Order", from the word at LR on.
 use Rattle.std.specs.Prelude.{ℕ, zero, suc, ◌-◌, Bool, true, false, cond, [], ◌∷◌, eqb, get_or}
 use Rattle.model.specs.declared.Arguments.{Arguments}
-use Rattle.model.specs.declared.Answer.TheVariants.{HandedOut}
+use Rattle.model.specs.Told.Answer.{HandedOut}
 use Rattle.model.specs.Store.{Store}
 use Rattle.model.specs.Address.{unless, at, wrapped, guarded, clear}
 use Rattle.model.specs.Answer.{Step, refused, no_instruction, absent_code, exi_of_exi, protected, bad_argument}

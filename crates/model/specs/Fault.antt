@@ -1,6 +1,6 @@
 -- Refusals and faults: "A fault sets the stopped bit, enters page 9, leaves LR; then who runs."
 use Rattle.std.specs.Prelude.{ℕ, ◌+◌, cond, ltb}
-use Rattle.model.specs.declared.Answer.TheVariants.{Fault}
+use Rattle.model.specs.Told.Answer.{Fault}
 use Rattle.model.specs.Store.{Store}
 use Rattle.model.specs.Map.{pair, first_unused, entry_at, entries_full}
 use Rattle.model.specs.Address.{at, write}

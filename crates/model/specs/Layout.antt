@@ -4,8 +4,8 @@
 use Rattle.std.specs.Prelude.{ℕ, zero, suc, ◌+◌, ◌-◌, ◌*◌, Bool, true, false, cond, List, [], ◌∷◌, eqb, ltb, leb, length, get_or, take, drop}
 use Rattle.model.specs.declared.Entry.{Entry}
 use Rattle.model.specs.declared.Trailer.{Trailer}
-use Rattle.model.specs.declared.Fit.{Fit}
-use Rattle.model.specs.declared.Fit.TheVariants.{Good, Refused, RefusedAt}
+use Rattle.model.specs.Told.{Fit}
+use Rattle.model.specs.Told.Fit.{Good, Refused, RefusedAt}
 use Rattle.model.specs.Map.{word_values, last_address, four_bits, first_name, last_name, last_priority}
 use Rattle.model.specs.Address.{unless}
 use Rattle.model.specs.Answer.{out_of_range, broken_layout, too_new}

@@ -32,7 +32,9 @@ pub mod Settings
 -- Which words differ (document 02, 7/13)
 pub mod Differ
 -- Refusals and faults
+pub mod Told
 pub mod Answer
+pub mod Coded
 pub mod Fault
 pub mod Execute
 -- What a memory is; all of the above at the memory that the code has, by short names

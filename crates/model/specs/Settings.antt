@@ -1,11 +1,11 @@
 -- Settings that survive a box swap (document 02, 5/13): the eighth and the ninth public call. A fresh start from settings is one function from the memory and a
 -- file to an outcome; writing one from the lent buffer, how much of it is in use and a block to an outcome, whose memory is the buffer.
 use Rattle.std.specs.Prelude.{ℕ, ◌+◌, ◌-◌, ◌/◌, ◌%◌, cond, List, [], ◌∷◌, ◌++◌, eqb, ltb, length, take, drop}
-use Rattle.model.specs.declared.Answer.TheVariants as Answer
+use Rattle.model.specs.Told.{Answer}
 use Rattle.model.specs.declared.Entry.{Entry}
-use Rattle.model.specs.declared.Fit.{Fit}
-use Rattle.model.specs.declared.Fit.TheVariants.{Good, Refused, RefusedAt}
-use Rattle.model.specs.declared.Writing.{Writing}
+use Rattle.model.specs.Told.{Fit}
+use Rattle.model.specs.Told.Fit.{Good, Refused, RefusedAt}
+use Rattle.model.specs.Told.{Writing}
 use Rattle.model.specs.Store.{Store}
 use Rattle.model.specs.Map.{memory_size, word_values}
 use Rattle.model.specs.Address.{unless}

@@ -1,8 +1,8 @@
 -- Say what is broken: a row of the table names the numbers that a rule speaks of, and the address that each of them tells if it breaks the
 -- rule. A sentence is rows, a class sentences; what a class tells is the lowest of its addresses.
 use Rattle.std.specs.Prelude.{ℕ, min, true, false, List, [], ◌∷◌, ◌++◌}
-use Rattle.model.specs.declared.Finding.{Finding}
-use Rattle.model.specs.declared.Finding.TheVariants.{Nothing, Broken}
+use Rattle.model.specs.Told.{Finding}
+use Rattle.model.specs.Told.Finding.{Nothing, Broken}
 use Rattle.model.specs.Rule.{Rule, holds}
 
 pub data Row : Type 0 where

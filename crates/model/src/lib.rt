@@ -1,21 +1,27 @@
 // The kernel's types, and the methods of the register record. What they mean is in specs/.
 #![tactic(auto)]
 
-pub mod faults;
+pub mod fault;
 pub mod instructions;
 pub mod layout;
 pub mod map;
-pub mod refusals;
+pub mod refusal;
 
 ghost use Rattle.std.specs.Prelude.{◌≡◌, ◌<◌, ◌+◌, ◌*◌, length};
 ghost use Rattle.model.specs.Processor as Processor;
 ghost use Rattle.model.specs.Bytes as Model;
 
+pub use fault::Fault;
+pub use refusal::{Broken, Class, Refusal};
+
+// "8,192 words of 8 bits".
+pub type Memory = [u8; map::MEMORY_WORDS];
+
 // A control page's number, and a processor's name: both small, never mixed.
-#[derive(Clone, Copy)]
+#[derive(Clone, Copy, PartialEq, Eq)]
 pub struct ControlPage(pub u8);
 
-#[derive(Clone, Copy)]
+#[derive(Clone, Copy, PartialEq, Eq)]
 pub struct Name(pub u8);
 
 // A processor's registers by value. A host may name any of the first seven out of range, so they are wide.
@@ -50,47 +56,13 @@ pub struct Arguments {
     pub count: u8,
 }
 
-// What a call answers. Handed out: the program's address, and that of n+1 or of the arguments. Fault: its number, and the name. Refused: its
-// number, and with 30-34 the address, with 24 and 25 of a burst the place of the bad pair, with 29 of settings the version.
-#[derive(Clone, Copy)]
+// What a call that is not refused answers. Handed out: the program's address, and that of n+1 or of the arguments. A fault with the name of who made it.
+#[derive(Clone, Copy, PartialEq, Eq)]
 pub enum Answer {
     Done,
     Waits,
     HandedOut(u16, u16),
-    Fault(u8, u8),
-    Refused(u8),
-    RefusedAt(u8, u16),
-}
-
-// What reading the registers answers.
-#[derive(Clone, Copy)]
-pub enum Held {
-    Has(Registers),
-    Refused(u8),
-    RefusedAt(u8, u16),
-}
-
-// What the judge answers.
-#[derive(Clone, Copy)]
-pub enum Verdict {
-    WellFormed,
-    Refused(u8),
-    RefusedAt(u8, u16),
-}
-
-// What is found of a memory before a call goes on: nothing against it, a wrong length, or what is broken by its class and the lowest address.
-#[derive(Clone, Copy)]
-pub enum Finding {
-    Nothing,
-    WrongLength,
-    Broken(u8, u16),
-}
-
-// What comes of testing the pairs of a burst: all are good, or the number that refuses the first bad one, and its place.
-#[derive(Clone, Copy)]
-pub enum Checked {
-    Good,
-    Bad(u8, u16),
+    Fault(Fault, Name),
 }
 
 // Settings: a further processor, as an entry of a block names it.
@@ -108,22 +80,6 @@ pub struct Trailer {
     pub distance: u16,
     pub version: u8,
     pub count: u8,
-}
-
-// The verdict of a block or of a file: it is good, or the number that refuses it, and with 29 the version.
-#[derive(Clone, Copy)]
-pub enum Fit {
-    Good,
-    Refused(u8),
-    RefusedAt(u8, u16),
-}
-
-// What writing settings answers: the new length of the file, or the number that refuses it, and with 29 the version.
-#[derive(Clone, Copy)]
-pub enum Writing {
-    Written(usize),
-    Refused(u8),
-    RefusedAt(u8, u16),
 }
 
 // Which words differ: which of two memories is meant.
@@ -172,8 +128,8 @@ pub enum Line {
 
 impl ControlPage {
     // A word of the page, by its number.
-    pub fn word(self, m: &[u8], number: u16) -> u8
-        requires { (length m.now ≡ 8192) × (number < 32) }
+    pub fn word(self, m: &Memory, number: u16) -> u8
+        requires { number < 32 }
         ensures { result ≡ Model.word m.now self.0 number }
     {
         let n = self.0;
@@ -182,8 +138,8 @@ impl ControlPage {
     }
 
     // The value becomes that word of the page.
-    pub fn store(self, m: &mut [u8], word: u16, value: u8)
-        requires { (length m.old ≡ 8192) × (word < 32) }
+    pub fn store(self, m: &mut Memory, word: u16, value: u8)
+        requires { word < 32 }
         ensures { m.new ≡ Model.store m.old self.0 word value }
     {
         let n = self.0;
@@ -209,8 +165,8 @@ pub fn wide(x: u8) -> u16
 
 impl Registers {
     // The registers of the processor of a page.
-    pub fn of(m: &[u8], page: ControlPage) -> Self
-        requires { length m.now ≡ 8192 }
+    #[tactic(auto, unfolding(crate::specs::Processor::registers_of))]
+    pub fn of(m: &Memory, page: ControlPage) -> Self
         ensures { (result ≡ Model.registers_of m.now page.0) × (result.lr < 8192) × (result.a < 256) }
     {
         let a = wide(page.word(m, map::WORD_A));
@@ -293,8 +249,8 @@ impl Registers {
     }
 
     // P, Z, CI and LR, words 10 and 11 of a page, each modulo its field.
-    fn set_flags_lr(self, m: &mut [u8], page: ControlPage)
-        requires { length m.old ≡ 8192 }
+    #[tactic(auto, unfolding(crate::specs::Processor::set_flags_lr))]
+    fn set_flags_lr(self, m: &mut Memory, page: ControlPage)
         ensures { m.new ≡ Model.set_flags_lr m.old page.0 self }
     {
         let h = self.p % map::BITS * map::P_BIT
@@ -306,8 +262,8 @@ impl Registers {
     }
 
     // The seven registers go to a page: words 8-11 and the low four bits of word 12.
-    pub fn set_on(self, m: &mut [u8], page: ControlPage)
-        requires { length m.old ≡ 8192 }
+    #[tactic(auto, unfolding(crate::specs::Processor::set_registers_of, crate::specs::Processor::set_flags_lr))]
+    pub fn set_on(self, m: &mut Memory, page: ControlPage)
         ensures { m.new ≡ Model.set_registers_of m.old page.0 self }
     {
         page.store(m, map::WORD_A, (self.a % map::WORD_VALUES) as u8);
@@ -322,8 +278,8 @@ impl Registers {
     }
 
     // The record is handed back to its page whole, the stopped bit too.
-    pub fn hand_back(self, m: &mut [u8], page: ControlPage)
-        requires { length m.old ≡ 8192 }
+    #[tactic(auto, unfolding(crate::specs::Processor::hand_back, crate::specs::Processor::set_registers_of, crate::specs::Processor::set_flags_lr))]
+    pub fn hand_back(self, m: &mut Memory, page: ControlPage)
         ensures { m.new ≡ Model.hand_back m.old page.0 self }
     {
         self.set_on(m, page);
@@ -336,6 +292,7 @@ impl Registers {
     }
 
     // Whether each value fits its register.
+    #[tactic(auto, using(crate::proofs::Tests::tests), unfolding(crate::specs::Processor::in_range))]
     pub fn in_range(self) -> bool
         ensures { result ≡ Processor.in_range self }
     {

@@ -2,179 +2,208 @@
 // the next word.
 #![tactic(auto)]
 
-ghost use Rattle.std.specs.Prelude.{◌≡◌, ◌<◌, ◌≤◌};
-ghost use Rattle.std.proofs.Math.ListN as List;
-ghost use Rattle.model.specs.Queue as Queue;
+ghost use Rattle.std.specs.Prelude.{◌≡◌, ◌<◌, ◌≤◌, ◌+◌};
+ghost use Rattle.model.specs.Coded.{found};
 ghost use Rattle.model.specs.Map as Map;
 ghost use Rattle.model.specs.Bytes as Model;
 
-use model::{ControlPage, Name, Registers, map, wide};
-use queues::{find_page, join, leave};
+use model::{ControlPage, Memory, Name, Registers, map, wide};
+use queues::Queue;
 use words::{at, lowered, raised, write};
 
 // The running processor's page; page 0: nobody runs.
-pub fn running(m: &[u8]) -> ControlPage
-    requires { List.length m.now ≡ 8192 }
+pub fn running(m: &Memory) -> ControlPage
     ensures { result.0 ≡ Model.running m.now }
 {
     ControlPage(at(m, map::RUNNING_PAGE))
 }
 
 // The name, the priority of the processor of a page.
-pub fn name(m: &[u8], page: ControlPage) -> Name
-    requires { List.length m.now ≡ 8192 }
+pub fn name(m: &Memory, page: ControlPage) -> Name
     ensures { (result.0 ≡ Model.name m.now page.0) × (result.0 < 16) }
 {
     let w = page.word(m, map::LABEL);
     Name(w % map::FIELD)
 }
 
-pub fn priority(m: &[u8], page: ControlPage) -> u8
-    requires { List.length m.now ≡ 8192 }
+pub fn priority(m: &Memory, page: ControlPage) -> u8
     ensures { result ≡ Model.priority m.now page.0 }
 {
     page.word(m, map::LABEL) / map::FIELD
 }
 
 // Whether it is ready: neither bit is set.
-pub fn ready(m: &[u8], page: ControlPage) -> bool
-    requires { List.length m.now ≡ 8192 }
+pub fn ready(m: &Memory, page: ControlPage) -> bool
     ensures { result ≡ Model.ready m.now page.0 }
 {
     page.word(m, map::STATE) < map::WAIT_BIT
 }
 
 // Whether the processor of a page has the name.
-pub fn is_named(m: &[u8], name: Name, page: ControlPage) -> bool
-    requires { List.length m.now ≡ 8192 }
+#[tactic(auto, unfolding(model::specs::Processor::is_named))]
+pub fn is_named(m: &Memory, name: Name, page: ControlPage) -> bool
     ensures { result ≡ Model.is_named m.now name.0 page.0 }
 {
-    let w = page.word(m, map::LABEL);
-    w % map::FIELD == name.0
+    page.word(m, map::LABEL) % map::FIELD == name.0
 }
 
-// The first page of that name of those that hang from the cell along the processor list; page 0: none.
-pub fn find_name(m: &[u8], name: Name, cell: u16, left: u8) -> ControlPage
-    requires { (List.length m.now ≡ 8192) × (cell < 8192) }
-    ensures { result.0 ≡ Queue.first (Model.is_named m.now name.0) (Model.walk left m.now Map.list_link cell) }
+// The page of the processor of that name.
+#[tactic(auto, using(queues::proofs::Laws::found_by))]
+pub fn page_of(m: &Memory, name: Name) -> Option<ControlPage>
+    ensures { result ≡ found (Model.page_of m.now name.0) }
 {
-    if left == 0 {
-        return ControlPage(0);
-    }
-    let w = at(m, cell);
-    if w == 0 {
-        return ControlPage(0);
-    }
-    if is_named(m, name, ControlPage(w)) {
-        return ControlPage(w);
-    }
-    find_name(m, name, ControlPage(w).place(map::LIST_LINK), left - 1)
-}
-
-// The page of the processor of that name; page 0: there is none.
-pub fn page_of(m: &[u8], name: Name) -> ControlPage
-    requires { List.length m.now ≡ 8192 }
-    ensures { result.0 ≡ Model.page_of m.now name.0 }
-{
-    find_name(m, name, map::PROCESSOR_LIST, map::CONTROL_PAGES)
+    Queue::processors()
+        .pages(m)
+        .find(|page| is_named(m, name, *page))
 }
 
 // By the record of a page: A becomes the value; the stopped bit is set, is cleared; LR becomes the address.
-pub fn accumulate(m: &mut [u8], page: ControlPage, value: u8)
-    requires { List.length m.old ≡ 8192 }
+#[tactic(auto, using(crate::proofs::Records::records))]
+pub fn accumulate(m: &mut Memory, page: ControlPage, value: u8)
     ensures { m.new ≡ Model.store m.old page.0 Map.word_a value }
 {
-    let r = Registers::of(m, page);
-    let n = r.set_accumulator(wide(value));
-    n.hand_back(m, page);
+    Registers::of(m, page)
+        .set_accumulator(wide(value))
+        .hand_back(m, page);
 }
 
-pub fn stop(m: &mut [u8], page: ControlPage)
-    requires { List.length m.old ≡ 8192 }
+#[tactic(auto, using(crate::proofs::Records::records))]
+pub fn stop(m: &mut Memory, page: ControlPage)
     ensures { m.new ≡ Model.stop m.old page.0 }
 {
-    let r = Registers::of(m, page);
-    let n = r.set_stopped();
-    n.hand_back(m, page);
+    Registers::of(m, page).set_stopped().hand_back(m, page);
 }
 
-pub fn start(m: &mut [u8], page: ControlPage)
-    requires { List.length m.old ≡ 8192 }
+#[tactic(auto, using(crate::proofs::Records::records))]
+pub fn start(m: &mut Memory, page: ControlPage)
     ensures { m.new ≡ Model.start m.old page.0 }
 {
-    let r = Registers::of(m, page);
-    let n = r.clear_stopped();
-    n.hand_back(m, page);
+    Registers::of(m, page).clear_stopped().hand_back(m, page);
 }
 
-pub fn set_lr(m: &mut [u8], page: ControlPage, address: u16)
-    requires { List.length m.old ≡ 8192 }
+#[tactic(auto, using(crate::proofs::Records::records))]
+pub fn set_lr(m: &mut Memory, page: ControlPage, address: u16)
     ensures { m.new ≡ Model.set_lr m.old page.0 address }
 {
-    let r = Registers::of(m, page);
-    let n = r.jump(address);
-    n.hand_back(m, page);
+    Registers::of(m, page).jump(address).hand_back(m, page);
 }
 
 // LR of the running processor, and LR grown by the length.
-pub fn lr(m: &[u8]) -> u16
-    requires { List.length m.now ≡ 8192 }
+#[tactic(auto, unfolding(model::specs::Processor::registers_of))]
+pub fn lr(m: &Memory) -> u16
     ensures { (result ≡ Model.lr m.now) × (result < 8192) }
 {
-    let p = running(m);
-    let r = Registers::of(m, p);
-    r.lr
+    Registers::of(m, running(m)).lr
 }
 
-pub fn advance(m: &mut [u8], length: u16)
-    requires { (List.length m.old ≡ 8192) × (length < 8192) }
+#[tactic(auto, using(crate::proofs::Records::records))]
+pub fn advance(m: &mut Memory, length: u16)
+    requires { length < 8192 }
     ensures { m.new ≡ Model.advance m.old length }
 {
-    let p = running(m);
-    let r = Registers::of(m, p);
-    let n = r.advance(length);
-    n.hand_back(m, p);
+    let runner = running(m);
+    Registers::of(m, runner)
+        .advance(length)
+        .hand_back(m, runner);
 }
 
-// The page joins, leaves the wait queue of the semaphore.
-pub fn enqueue(m: &mut [u8], semaphore: u16, page: ControlPage)
-    requires { (List.length m.old ≡ 8192) × (semaphore < 8191) }
-    ensures { m.new ≡ Model.enqueue m.old semaphore page.0 }
-{
-    let v = at(m, semaphore);
-    write(m, semaphore, lowered(v));
-    join(m, semaphore + 1, map::LINK, page);
+// A wait queue, by the place of its semaphore; its header is the next word.
+#[derive(Clone, Copy)]
+pub struct WaitQueue {
+    pub semaphore: u16,
+    ghost in_memory: { semaphore < 8191 },
 }
 
-#[tactic(auto, unfolding(model::specs::Wait::unqueue))]
-pub fn unqueue(m: &mut [u8], semaphore: u16, page: ControlPage)
-    requires { (List.length m.old ≡ 8192) × (semaphore < 8191) }
-    ensures { m.new ≡ Model.unqueue m.old semaphore page.0 }
-{
-    let v = at(m, semaphore);
-    write(m, semaphore, raised(v));
-    leave(m, semaphore + 1, map::LINK, page);
-}
+impl WaitQueue {
+    // The queue of those that wait for a page, for an interrupt, and a processor's own, for a message.
+    pub fn for_page() -> Self
+        ensures { result.semaphore ≡ Map.free_semaphore }
+    {
+        Self {
+            semaphore: map::FREE_SEMAPHORE,
+        }
+    }
 
-// It is put to wait in that queue, for a reason.
-#[tactic(auto, unfolding(model::specs::Wait::put_to_wait))]
-pub fn put_to_wait(m: &mut [u8], semaphore: u16, page: ControlPage, reason: u8)
-    requires { (List.length m.old ≡ 8192) × (semaphore < 8191) }
-    ensures { m.new ≡ Model.put_to_wait m.old semaphore page.0 reason }
-{
-    let x = page.word(m, map::STATE);
-    page.store(
-        m,
-        map::STATE,
-        x / map::STOP_BIT * map::STOP_BIT + map::WAIT_BIT + x % map::WAIT_BIT,
-    );
-    page.store(m, map::REASON, reason);
-    enqueue(m, semaphore, page);
+    pub fn for_interrupt(interrupt: u8) -> Self
+        requires { interrupt ≤ 54 }
+        ensures { result.semaphore ≡ Map.semaphore_of interrupt }
+    {
+        Self {
+            semaphore: map::SEMAPHORES + 2 * wide(interrupt),
+        }
+    }
+
+    pub fn own(page: ControlPage) -> Self
+        ensures { result.semaphore ≡ Map.place page.0 Map.own_semaphore }
+    {
+        Self {
+            semaphore: page.place(map::OWN_SEMAPHORE),
+        }
+    }
+
+    // The pages that wait.
+    fn waiters(self) -> Queue
+        ensures { (result.header ≡ self.semaphore + 1) × (result.link ≡ Map.link) }
+    {
+        Queue::at(self.semaphore + 1)
+    }
+
+    // The page joins, leaves it.
+    #[tactic(auto, using(crate::proofs::Laws::enqueue_is))]
+    pub fn enqueue(self, m: &mut Memory, page: ControlPage)
+        ensures { m.new ≡ Model.enqueue m.old self.semaphore page.0 }
+    {
+        let count = at(m, self.semaphore);
+        write(m, self.semaphore, lowered(count));
+        self.waiters().join(m, page);
+    }
+
+    #[tactic(auto, unfolding(model::specs::Wait::unqueue))]
+    pub fn unqueue(self, m: &mut Memory, page: ControlPage)
+        ensures { m.new ≡ Model.unqueue m.old self.semaphore page.0 }
+    {
+        let count = at(m, self.semaphore);
+        write(m, self.semaphore, raised(count));
+        self.waiters().leave(m, page);
+    }
+
+    // It is put to wait there, for a reason.
+    #[tactic(auto, unfolding(model::specs::Wait::put_to_wait))]
+    pub fn put_to_wait(self, m: &mut Memory, page: ControlPage, reason: u8)
+        ensures { m.new ≡ Model.put_to_wait m.old self.semaphore page.0 reason }
+    {
+        let x = page.word(m, map::STATE);
+        page.store(
+            m,
+            map::STATE,
+            x / map::STOP_BIT * map::STOP_BIT + map::WAIT_BIT + x % map::WAIT_BIT,
+        );
+        page.store(m, map::REASON, reason);
+        self.enqueue(m, page);
+    }
+
+    // It wakes: it leaves that queue, its waiting bit and reason are cleared.
+    #[tactic(auto, using(crate::proofs::Laws::wake_is))]
+    pub fn wake(self, m: &mut Memory, page: ControlPage)
+        ensures { m.new ≡ Model.wake m.old self.semaphore page.0 }
+    {
+        self.unqueue(m, page);
+        clear_waiting(m, page);
+        page.store(m, map::REASON, 0);
+    }
+
+    // Whether the page waits there; page 0, which is no control page, passes for one that does.
+    #[tactic(auto, using(crate::proofs::Laws::queued_zero, crate::proofs::Laws::queued_other))]
+    pub fn holds(self, m: &Memory, page: ControlPage) -> bool
+        ensures { result ≡ Model.queued m.now self.semaphore page.0 }
+    {
+        page.0 == 0 || self.waiters().pages(m).any(|waiter| waiter == page)
+    }
 }
 
 // Its waiting bit is cleared.
-fn clear_waiting(m: &mut [u8], page: ControlPage)
-    requires { List.length m.old ≡ 8192 }
+#[tactic(auto, using(crate::proofs::Laws::clear_is))]
+fn clear_waiting(m: &mut Memory, page: ControlPage)
     ensures { m.new ≡ Model.store m.old page.0 Map.state (Map.wait_cleared (Model.word m.old page.0 Map.state)) }
 {
     let x = page.word(m, map::STATE);
@@ -185,50 +214,32 @@ fn clear_waiting(m: &mut [u8], page: ControlPage)
     );
 }
 
-// It wakes: it leaves that queue, its waiting bit and reason are cleared.
-pub fn wake(m: &mut [u8], semaphore: u16, page: ControlPage)
-    requires { (List.length m.old ≡ 8192) × (semaphore < 8191) }
-    ensures { m.new ≡ Model.wake m.old semaphore page.0 }
+// Where it waits: for one of so many interrupts, the last first, else for a page, else for a message.
+#[tactic(auto, using(crate::proofs::Laws::seats))]
+pub fn seat(m: &Memory, page: ControlPage, interrupts: u8) -> WaitQueue
+    requires { interrupts ≤ 54 }
+    ensures { result.semaphore ≡ Model.seat interrupts m.now page.0 }
 {
-    unqueue(m, semaphore, page);
-    clear_waiting(m, page);
-    page.store(m, map::REASON, 0);
-}
-
-// Whether the wait queue of the semaphore holds the page.
-pub fn queued(m: &[u8], semaphore: u16, page: ControlPage) -> bool
-    requires { (List.length m.now ≡ 8192) × (semaphore < 8191) }
-    ensures { result ≡ Model.queued m.now semaphore page.0 }
-{
-    let q = find_page(m, page, semaphore + 1, map::CONTROL_PAGES);
-    q.0 == page.0
-}
-
-// Where it waits: in one of so many interrupt queues, else for a page, else for a message.
-pub fn seat(m: &[u8], page: ControlPage, queues: u8) -> u16
-    requires { (List.length m.now ≡ 8192) × (queues ≤ 54) }
-    ensures { (result ≡ Model.seat queues m.now page.0) × (result < 8191) }
-{
-    if queues == 0 {
-        if queued(m, map::FREE_SEMAPHORE, page) {
-            return map::FREE_SEMAPHORE;
+    for before in (0..interrupts).rev() {
+        let queue = WaitQueue::for_interrupt(before + 1);
+        if queue.holds(m, page) {
+            return queue;
         }
-        return page.place(map::OWN_SEMAPHORE);
     }
-    let semaphore = map::SEMAPHORES_AFTER + 2 * wide(queues - 1);
-    if queued(m, semaphore, page) {
-        return semaphore;
+    let queue = WaitQueue::for_page();
+    if queue.holds(m, page) {
+        return queue;
     }
-    seat(m, page, queues - 1)
+    WaitQueue::own(page)
 }
 
 // It leaves any wait queue, not woken.
-pub fn leave_wait(m: &mut [u8], page: ControlPage)
-    requires { List.length m.old ≡ 8192 }
+#[tactic(auto, using(crate::proofs::Laws::wait_left, crate::proofs::Laws::wait_none))]
+pub fn leave_wait(m: &mut Memory, page: ControlPage)
     ensures { m.new ≡ Model.leave_wait m.old page.0 }
 {
-    let semaphore = seat(m, page, map::INTERRUPTS);
-    if queued(m, semaphore, page) {
-        unqueue(m, semaphore, page);
+    let queue = seat(m, page, map::INTERRUPTS);
+    if queue.holds(m, page) {
+        queue.unqueue(m, page);
     }
 }

@@ -3,7 +3,7 @@
 -- that is defined in the laws is said in words where it stands first (laws/specs/Differing, Swapped, Renaming). Each statement is followed by its proof in
 -- the laws. Assumes nothing.
 use Rattle.std.specs.Prelude.{◌≡◌, ◌≢◌, ◌↔◌, ◌⊎◌, true, false, List, [], ◌∷◌, ◌++◌, map, ℕ, ◌≤◌, ◌<◌, length}
-use Rattle.model.specs.declared.Finding.{Finding}
+use Rattle.model.specs.Told.{Finding}
 use Rattle.model.specs.declared.Side.{Side}
 use Rattle.model.specs.declared.Side.TheVariants.{First, Second}
 use Rattle.model.specs.declared.State.{State}

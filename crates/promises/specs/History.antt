@@ -8,7 +8,7 @@ use Rattle.model.specs.declared.Entry.{Entry}
 use Rattle.model.specs.Map.{memory_size, place, q1, head_words, first_priority}
 use Rattle.model.specs.Address.{wrapped}
 use Rattle.model.specs.Instruction.{sme_code, rme_code, dep_code}
-use Rattle.model.specs.declared.Fit.TheVariants.{Good}
+use Rattle.model.specs.Told.Fit.{Good}
 use Rattle.model.specs.Fresh.{startable}
 use Rattle.model.specs.Layout.{is_good, of_file, newest, entries_of}
 use Rattle.model.specs.Answer.{memory_of}

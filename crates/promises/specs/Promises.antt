@@ -7,7 +7,7 @@ use Rattle.model.specs.declared.Registers.{Registers}
 use Rattle.model.specs.Map.{memory_size, first_control, last_control, grant_for, last_fault, last_name}
 use Rattle.model.specs.Instruction.{crp_code, exi_code, shape_for}
 use Rattle.model.specs.Fresh.{startable}
-use Rattle.model.specs.declared.Answer.TheVariants.{Done}
+use Rattle.model.specs.Told.Answer.{Done}
 use Rattle.model.specs.Answer.Outcome.{gives}
 use Rattle.model.specs.Answer.{answer_of, memory_of, numbers, held_numbers, verdict_numbers, done_number, handed_out_number, wrong_length}
 use Rattle.model.specs.Bytes.{judged, fresh, from_settings, instruction, interrupt, burst, set_registers, read_registers, judge, running, at, lr, direct}

@@ -2,9 +2,9 @@
 -- `of_block` are the verdicts, `newest` is the newest block of a file, `from_settings` and `write_settings` are the two calls (model/specs/Layout.antt and
 -- Settings.antt). Each statement is followed by its proof in the laws. Assumes nothing.
 use Rattle.std.specs.Prelude.{◌≡◌, ◌≢◌, List, [], ◌∷◌, ℕ, ◌+◌, ◌-◌, ◌≤◌, ◌<◌, length, take, drop}
-use Rattle.model.specs.declared.Answer.TheVariants.{Done}
-use Rattle.model.specs.declared.Fit.TheVariants.{Good, Refused, RefusedAt}
-use Rattle.model.specs.declared.Writing.TheVariants.{Written}
+use Rattle.model.specs.Told.Answer.{Done}
+use Rattle.model.specs.Told.Fit.{Good, Refused, RefusedAt}
+use Rattle.model.specs.Told.Writing.{Written}
 use Rattle.model.specs.Map.{memory_size, start_address}
 use Rattle.model.specs.Answer.{answer_of, memory_of, numbers, writing_numbers, done_number, written_number}
 use Rattle.model.specs.Answer.Outcome.{gives}

@@ -1,72 +1,145 @@
 // Memory map: "A header holds the first page, a link the next, 0 ends." A cell is the address of a word that points to a page, a header or a
-// link alike; a walk goes by recursion along links, with at most twenty pages left.
+// link alike.
 #![tactic(auto)]
 
-ghost use Rattle.std.specs.Prelude.{◌≡◌, ◌<◌, eqb, length};
+ghost use Rattle.std.specs.Prelude.{◌≡◌, ◌<◌, ℕ, List};
+ghost use Rattle.std.specs.Iterator.{item_count};
+ghost use Rattle.std.specs.Map.Iter.{TakesFirst};
+ghost use Rattle.model.specs.Coded.{found};
 ghost use Rattle.model.specs.Map as Map;
-ghost use Rattle.model.specs.Queue as Queue;
 ghost use Rattle.model.specs.Bytes as Model;
 
-use model::{ControlPage, map};
+use model::{ControlPage, Memory, map};
+use std::marker::Model;
 use words::{at, write};
 
-// From a cell on, along links in the word `link`, the first cell that holds the page, at most `left` links on.
-pub fn cell_of(m: &[u8], link: u16, cell: u16, page: ControlPage, left: u8) -> u16
-    requires { (length m.now ≡ 8192) × (link < 32) × (cell < 8192) }
-    ensures { (result ≡ Model.cell_of left m.now link cell page.0) × (result < 8192) }
+// The page that the word at an address names, "0 ends".
+#[tactic(auto, using(model::proofs::Tests::tests), unfolding(model::specs::Coded::found))]
+pub fn page_at(m: &Memory, address: u16) -> Option<ControlPage>
+    requires { address < 8192 }
+    ensures { result ≡ found (Model.at m.now address) }
 {
-    if left == 0 {
-        return cell;
+    match at(m, address) {
+        0 => None,
+        page => Some(ControlPage(page)),
     }
-    let w = at(m, cell);
-    if w == page.0 {
-        return cell;
-    }
-    cell_of(m, link, ControlPage(w).place(link), page, left - 1)
 }
 
-// The page joins the queue of the header, with links in the word `link`, at its end.
-pub fn join(m: &mut [u8], header: u16, link: u16, page: ControlPage)
-    requires { (length m.old ≡ 8192) × (header < 8192) × (link < 32) }
-    ensures { m.new ≡ Model.join m.old header link page.0 }
-{
-    page.store(m, link, 0);
-    let cell = cell_of(m, link, header, ControlPage(0), map::CONTROL_PAGES);
-    write(m, cell, page.0);
+// The pages that hang from a cell along the links in one word, at most so many; a clause sees those that are left, by their numbers.
+#[derive(Drop)]
+pub struct Walk<'m> {
+    m: &'m Memory,
+    link: u16,
+    cell: u16,
+    left: u8,
 }
 
-// The page leaves that queue.
-pub fn leave(m: &mut [u8], header: u16, link: u16, page: ControlPage)
-    requires { (length m.old ≡ 8192) × (header < 8192) × (link < 32) }
-    ensures { m.new ≡ Model.leave m.old header link page.0 }
-{
-    let next = page.word(m, link);
-    let cell = cell_of(m, link, header, page, map::CONTROL_PAGES);
-    write(m, cell, next);
-    page.store(m, link, 0);
+impl<'m> Model for Walk<'m> {
+    ghost Value = { List ℕ };
+
+    ghost view = { λ w. Model.walk w.left w.m.now w.link w.cell };
+
+    ghost invariant = { λ w. (w.link < 32) × (w.cell < 8192) };
 }
 
-// Whether the two are one page.
-fn is_page(page: ControlPage, found: ControlPage) -> bool
-    ensures { result ≡ eqb page.0 found.0 }
-{
-    page.0 == found.0
+impl<'m> Walk<'m> {
+    pub fn new(m: &'m Memory, link: u16, cell: u16, left: u8) -> Self
+        requires { (link < 32) × (cell < 8192) }
+        ensures { result ≡ Model.walk left m.now link cell }
+    {
+        Self { m, link, cell, left }
+    }
 }
 
-// The page, if it hangs from the cell; else page 0.
-pub fn find_page(m: &[u8], page: ControlPage, cell: u16, left: u8) -> ControlPage
-    requires { (length m.now ≡ 8192) × (cell < 8192) }
-    ensures { result.0 ≡ Queue.first (eqb page.0) (Model.walk left m.now Map.link cell) }
-{
-    if left == 0 {
-        return ControlPage(0);
+impl<'m> Iterator for Walk<'m> {
+    type Item = ControlPage;
+
+    ghost next_gives = { TakesFirst (λ p. p.0) };
+
+    ghost remaining = { item_count (λ w. w) };
+
+    fn next(&mut self) -> Option<ControlPage> {
+        if self.left == 0 {
+            return None;
+        }
+        let page = page_at(self.m, self.cell)?;
+        self.left -= 1;
+        self.cell = page.place(self.link);
+        Some(page)
     }
-    let w = at(m, cell);
-    if w == 0 {
-        return ControlPage(0);
+}
+
+// A queue, by the place of its header and by the word of a page that links to the next.
+#[derive(Clone, Copy)]
+pub struct Queue {
+    pub header: u16,
+    pub link: u16,
+    ghost in_memory: { header < 8192 },
+    ghost in_page: { link < 32 },
+}
+
+impl Queue {
+    // "The processor list links through word 1, all else through word 0."
+    pub fn processors() -> Self
+        ensures { (result.header ≡ Map.processor_list) × (result.link ≡ Map.list_link) }
+    {
+        Self {
+            header: map::PROCESSOR_LIST,
+            link: map::LIST_LINK,
+        }
     }
-    if is_page(page, ControlPage(w)) {
-        return ControlPage(w);
+
+    pub fn at(header: u16) -> Self
+        requires { header < 8192 }
+        ensures { (result.header ≡ header) × (result.link ≡ Map.link) }
+    {
+        Self {
+            header,
+            link: map::LINK,
+        }
     }
-    find_page(m, page, ControlPage(w).place(map::LINK), left - 1)
+
+    // The pages that wait in it, from the first on.
+    pub fn pages(self, m: &Memory) -> Walk
+        ensures { result ≡ Model.walk Map.control_pages m.now self.link self.header }
+    {
+        Walk::new(m, self.link, self.header, map::CONTROL_PAGES)
+    }
+
+    // The first cell that holds the page, at most so many links on: the header, or the link of the page before it. Page 0: the end's.
+    #[tactic(auto, using(crate::proofs::Laws::cells))]
+    pub fn cell_of(self, m: &Memory, page: ControlPage, left: u8) -> u16
+        ensures { (result ≡ Model.cell_of left m.now self.link self.header page.0) × (result < 8192) }
+    {
+        let mut cell = self.header;
+        for _ in 0..left {
+            let word = at(m, cell);
+            if word == page.0 {
+                return cell;
+            }
+            cell = ControlPage(word).place(self.link);
+        }
+        cell
+    }
+
+    // The page joins it at its end.
+    #[tactic(auto, using(crate::proofs::Laws::join_is))]
+    pub fn join(self, m: &mut Memory, page: ControlPage)
+        ensures { m.new ≡ Model.join m.old self.header self.link page.0 }
+    {
+        page.store(m, self.link, 0);
+        let cell = self.cell_of(m, ControlPage(0), map::CONTROL_PAGES);
+        write(m, cell, page.0);
+    }
+
+    // The page leaves it.
+    #[tactic(auto, unfolding(model::specs::Queue::leave))]
+    pub fn leave(self, m: &mut Memory, page: ControlPage)
+        ensures { m.new ≡ Model.leave m.old self.header self.link page.0 }
+    {
+        let next = page.word(m, self.link);
+        let cell = self.cell_of(m, page, map::CONTROL_PAGES);
+        write(m, cell, next);
+        page.store(m, self.link, 0);
+    }
 }

@@ -4,19 +4,20 @@
 ghost use Rattle.std.specs.Prelude.{◌≡◌, ◌<◌};
 ghost use Rattle.std.proofs.Math.ListN as List;
 ghost use Rattle.model.specs.Answer.Outcome.{gives};
+ghost use Rattle.model.specs.Coded.{answered};
 ghost use Rattle.model.specs.Bytes as Model;
 
 use answers::{done, fault, jump, wait, wait_for_page};
 use mail::{copy_out, deliver, in_q1, in_q2, make_notice, move_message, test_q1, write_message};
-use model::{Answer, ControlPage, Name, faults, map};
+use model::{Answer, ControlPage, Fault, Memory, Name, map};
 use pages::{give_back, take_page};
 use processors::{page_of, running};
 use queues::leave;
 use words::{at, clear, guarded, wrapped};
 
 // The page is posted to the processor of that name, with the text of that size behind the address; where there is none, it comes back as a notice.
-fn post(m: &mut [u8], page: ControlPage, name: Name, flag: u8, address: u16, size: u8)
-    requires { (List.length m.old ≡ 8192) × (name.0 < 16) × (flag < 16) × (address < 8192) }
+fn post(m: &mut Memory, page: ControlPage, name: Name, flag: u8, address: u16, size: u8)
+    requires { (name.0 < 16) × (flag < 16) × (address < 8192) }
     ensures { m.new ≡ Model.posted m.old page.0 name.0 flag address size }
 {
     let p = page_of(m, name);
@@ -31,9 +32,9 @@ fn post(m: &mut [u8], page: ControlPage, name: Name, flag: u8, address: u16, siz
 }
 
 // A page is taken and posted; with none, the runner waits for one.
-fn send(m: &mut [u8], name: Name, flag: u8, address: u16, size: u8, length: u16) -> Answer
-    requires { (List.length m.old ≡ 8192) × (name.0 < 16) × (flag < 16) × (address < 8192) × (length < 8192) }
-    ensures { gives result m.new ≡ Model.sent m.old name.0 flag address size length }
+fn send(m: &mut Memory, name: Name, flag: u8, address: u16, size: u8, length: u16) -> Answer
+    requires { (name.0 < 16) × (flag < 16) × (address < 8192) × (length < 8192) }
+    ensures { gives (answered result) m.new ≡ Model.sent m.old name.0 flag address size length }
 {
     let r = running(m);
     let q = take_page(m, r);
@@ -44,40 +45,40 @@ fn send(m: &mut [u8], name: Name, flag: u8, address: u16, size: u8, length: u16)
     done(m, length)
 }
 
-fn sme_text(m: &mut [u8], name: Name, flag: u8, address: u16, length: u16) -> Answer
-    requires { (List.length m.old ≡ 8192) × (name.0 < 16) × (flag < 16) × (address < 8192) × (length < 8192) }
-    ensures { gives result m.new ≡ Model.sme_text m.old name.0 flag address length }
+fn sme_text(m: &mut Memory, name: Name, flag: u8, address: u16, length: u16) -> Answer
+    requires { (name.0 < 16) × (flag < 16) × (address < 8192) × (length < 8192) }
+    ensures { gives (answered result) m.new ≡ Model.sme_text m.old name.0 flag address length }
 {
     let size = at(m, address);
     if map::LONGEST < size {
-        return fault(m, faults::BAD_ARGUMENT);
+        return fault(m, Fault::BadArgument);
     }
     let b = wrapped(address, 1);
     if clear(size, b) {
         return send(m, name, flag, address, size, length);
     }
-    fault(m, faults::PROTECTED)
+    fault(m, Fault::Protected)
 }
 
-pub fn sme(m: &mut [u8], name: Name, flag: u8, address: u16, length: u16) -> Answer
-    requires { (List.length m.old ≡ 8192) × (name.0 < 16) × (flag < 16) × (address < 8192) × (length < 8192) }
-    ensures { gives result m.new ≡ Model.sme m.old name.0 flag address length }
+pub fn sme(m: &mut Memory, name: Name, flag: u8, address: u16, length: u16) -> Answer
+    requires { (name.0 < 16) × (flag < 16) × (address < 8192) × (length < 8192) }
+    ensures { gives (answered result) m.new ≡ Model.sme m.old name.0 flag address length }
 {
     if name.0 == 0 {
-        return fault(m, faults::BAD_ARGUMENT);
+        return fault(m, Fault::BadArgument);
     }
     if flag == 0 {
-        return fault(m, faults::BAD_ARGUMENT);
+        return fault(m, Fault::BadArgument);
     }
     if guarded(address) {
-        return fault(m, faults::PROTECTED);
+        return fault(m, Fault::Protected);
     }
     sme_text(m, name, flag, address, length)
 }
 
-pub fn wnm(m: &mut [u8], name: Name, flag: u8, length: u16) -> Answer
-    requires { (List.length m.old ≡ 8192) × (name.0 < 16) × (flag < 16) × (length < 8192) }
-    ensures { gives result m.new ≡ Model.wnm m.old name.0 flag length }
+pub fn wnm(m: &mut Memory, name: Name, flag: u8, length: u16) -> Answer
+    requires { (name.0 < 16) × (flag < 16) × (length < 8192) }
+    ensures { gives (answered result) m.new ≡ Model.wnm m.old name.0 flag length }
 {
     let r = running(m);
     let q = in_q1(m, name, flag);
@@ -90,8 +91,8 @@ pub fn wnm(m: &mut [u8], name: Name, flag: u8, length: u16) -> Answer
 }
 
 // The message is read: copied out, unlinked, its page given back.
-fn receive(m: &mut [u8], message: ControlPage, address: u16)
-    requires { (List.length m.old ≡ 8192) × (address < 8192) }
+fn receive(m: &mut Memory, message: ControlPage, address: u16)
+    requires { address < 8192 }
     ensures { m.new ≡ Model.received m.old message.0 address }
 {
     let r = running(m);
@@ -100,25 +101,25 @@ fn receive(m: &mut [u8], message: ControlPage, address: u16)
     give_back(m, message);
 }
 
-pub fn rme(m: &mut [u8], name: Name, flag: u8, address: u16, length: u16) -> Answer
-    requires { (List.length m.old ≡ 8192) × (address < 8192) × (length < 8192) }
-    ensures { gives result m.new ≡ Model.rme m.old name.0 flag address length }
+pub fn rme(m: &mut Memory, name: Name, flag: u8, address: u16, length: u16) -> Answer
+    requires { (address < 8192) × (length < 8192) }
+    ensures { gives (answered result) m.new ≡ Model.rme m.old name.0 flag address length }
 {
     let message = in_q2(m, name, flag);
     if message.0 == 0 {
-        return fault(m, faults::NO_MATCH);
+        return fault(m, Fault::NoMatch);
     }
     let size = message.word(m, map::SIZE);
     if clear(map::HEAD_WORDS + size % map::MARK, address) {
         receive(m, message, address);
         return done(m, length);
     }
-    fault(m, faults::PROTECTED)
+    fault(m, Fault::Protected)
 }
 
-fn tme_q1(m: &mut [u8], name: Name, flag: u8, address: u16, length: u16) -> Answer
-    requires { (List.length m.old ≡ 8192) × (length < 8192) }
-    ensures { gives result m.new ≡ Model.tme_q1 m.old name.0 flag address length }
+fn tme_q1(m: &mut Memory, name: Name, flag: u8, address: u16, length: u16) -> Answer
+    requires { length < 8192 }
+    ensures { gives (answered result) m.new ≡ Model.tme_q1 m.old name.0 flag address length }
 {
     let r = running(m);
     if test_q1(m, r, name, flag, map::CONTROL_PAGES) {
@@ -127,9 +128,9 @@ fn tme_q1(m: &mut [u8], name: Name, flag: u8, address: u16, length: u16) -> Answ
     done(m, length)
 }
 
-pub fn tme(m: &mut [u8], name: Name, flag: u8, address: u16, length: u16) -> Answer
-    requires { (List.length m.old ≡ 8192) × (length < 8192) }
-    ensures { gives result m.new ≡ Model.tme m.old name.0 flag address length }
+pub fn tme(m: &mut Memory, name: Name, flag: u8, address: u16, length: u16) -> Answer
+    requires { length < 8192 }
+    ensures { gives (answered result) m.new ≡ Model.tme m.old name.0 flag address length }
 {
     let q = in_q2(m, name, flag);
     if q.0 == 0 {

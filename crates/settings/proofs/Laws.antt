@@ -11,8 +11,8 @@ use native.Mathlib.Numerals.{sub-one}
 use native.Mathlib.Omega.{arith}
 use Rattle.model.specs.declared.Entry.{Entry}
 use Rattle.model.specs.declared.Trailer.{Trailer}
-use Rattle.model.specs.declared.Fit.{Fit}
-use Rattle.model.specs.declared.Fit.TheVariants.{Good, Refused, RefusedAt}
+use Rattle.model.specs.Told.{Fit}
+use Rattle.model.specs.Told.Fit.{Good, Refused, RefusedAt}
 use Rattle.model.specs.Answer.{broken_layout, too_new, out_of_range}
 use Rattle.model.specs.Fresh.{startable}
 use Rattle.model.specs.Layout as Layout

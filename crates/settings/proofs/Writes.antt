@@ -8,9 +8,9 @@ use lib.ListN.{length, get_or, take, drop, length-append, length-drop, drop_of_l
 use lib.Seq.{take-length, take_all, length-take-le, drop-drop, drop-append-add, take_at}
 use borrow.Author.Tests.{eq-eqb, ne_eqb, ltb-false, lt-ltb, le-ltb}
 use native.Mathlib.Omega.{arith}
-use Rattle.model.specs.declared.Fit.{Fit}
-use Rattle.model.specs.declared.Fit.TheVariants.{Good, Refused, RefusedAt}
-use Rattle.model.specs.declared.Writing.{Writing}
+use Rattle.model.specs.Told.{Fit}
+use Rattle.model.specs.Told.Fit.{Good, Refused, RefusedAt}
+use Rattle.model.specs.Told.{Writing}
 use Rattle.model.specs.Answer.{no_room}
 use Rattle.model.specs.Answer.Outcome.{gives}
 use Rattle.model.specs.Layout.{of_block, of_file}

@@ -7,15 +7,15 @@ ghost use Rattle.model.specs.Bytes as Model;
 
 use creating::create;
 use fresh::start;
-use model::{Entry, Name, layout};
+use model::{Entry, Memory, Name, layout};
 use pages::take_page;
 use processors::running;
 use settings::block::head_bytes;
 use settings::entries::{Cursor, Read, entry_at};
 
 // What CRP does when it is done, but for its LR.
-fn make(m: &mut [u8], e: Entry)
-    requires { (length m.old ≡ 8192) × (e.name < 16) × (e.priority < 16) }
+fn make(m: &mut Memory, e: Entry)
+    requires { (e.name < 16) × (e.priority < 16) }
     ensures { m.new ≡ Model.made m.old e }
 {
     let runner = running(m);
@@ -24,8 +24,8 @@ fn make(m: &mut [u8], e: Entry)
 }
 
 // So many entries of a block from the cursor on, in order.
-fn make_all(m: &mut [u8], block: &[u8], cursor: Cursor, left: u8)
-    requires { (length m.old ≡ 8192) × (cursor.at + left * 5 ≤ length block.now)
+fn make_all(m: &mut Memory, block: &[u8], cursor: Cursor, left: u8)
+    requires { (cursor.at + left * 5 ≤ length block.now)
         × (Layout.are_entries (Layout.entries_from left block.now cursor.at) ≡ true) }
     ensures { m.new ≡ Model.all_made m.old (Layout.entries_from left block.now cursor.at) }
 {
@@ -42,8 +42,8 @@ fn make_all(m: &mut [u8], block: &[u8], cursor: Cursor, left: u8)
 }
 
 // The fresh start with the settings of a good block.
-pub fn settle(m: &mut [u8], block: &[u8])
-    requires { (length m.old ≡ 8192) × (4 ≤ length block.now) × (Layout.is_good (Layout.of_block block.now) ≡ true) }
+pub fn settle(m: &mut Memory, block: &[u8])
+    requires { (4 ≤ length block.now) × (Layout.is_good (Layout.of_block block.now) ≡ true) }
     ensures { m.new ≡ Model.settled m.old block.now }
 {
     start(m, block[layout::LINE], block[layout::DIVIDER]);

@@ -16,9 +16,9 @@ use Rattle.std.proofs.lemmas.List.{take-append-le}
 use Rattle.std.proofs.lemmas.Slice.Eq.{slice_eq-Decides}
 use Rattle.std.proofs.lemmas.Bool.Decides.{Decides-eqb}
 use lib.Pointwise.{pointwise}
-use Rattle.model.specs.declared.Fit.{Fit}
-use Rattle.model.specs.declared.Fit.TheVariants.{Good, Refused, RefusedAt}
-use Rattle.model.specs.declared.Writing.{Writing}
+use Rattle.model.specs.Told.{Fit}
+use Rattle.model.specs.Told.Fit.{Good, Refused, RefusedAt}
+use Rattle.model.specs.Told.{Writing}
 use Rattle.model.specs.Answer.{no_room}
 use Rattle.model.specs.Answer.Outcome.{gives}
 use Rattle.model.specs.Map.{a_word, word_values}

@@ -9,8 +9,8 @@ use borrow.Author.Tests.{eqb-true, ne_eqb, lt-ltb, le-ltb, le-leb, lt-leb}
 use native.Mathlib.Omega.{arith}
 use Rattle.std.specs.Prelude.{Option, None, Some}
 use Rattle.model.specs.declared.Entry.{Entry}
-use Rattle.model.specs.declared.Fit.{Fit}
-use Rattle.model.specs.declared.Fit.TheVariants.{Good}
+use Rattle.model.specs.Told.{Fit}
+use Rattle.model.specs.Told.Fit.{Good}
 use Rattle.model.specs.Layout as Layout
 use Rattle.model.specs.Layout.{head_bytes, of_block, of_file, is_good, newest}
 use Rattle.settings.specs.declared.entries.Cursor.{Cursor}

@@ -6,8 +6,8 @@ use mathlib.Core.Logic.{◌⊎◌, inl, inr}
 use mathlib.Core.List.{List, [], ◌∷◌}
 use native.Mathlib.Omega.{arith}
 use lib.ListN.{length}
-use Rattle.model.specs.declared.Finding.{Finding}
-use Rattle.model.specs.declared.Finding.TheVariants.{Nothing, Broken}
+use Rattle.model.specs.Told.{Finding}
+use Rattle.model.specs.Told.Finding.{Nothing, Broken}
 use Rattle.model.specs.Map.{memory_size, control_pages, first_control, processor_list}
 use Rattle.model.specs.Store.{bytes}
 use Rattle.model.specs.Lists.{count, sum}

@@ -6,38 +6,38 @@ ghost use Rattle.telling.specs.Rows.{here, lowest_by};
 
 use crate::lowest::unless;
 use judge::tables::{is_at, lies_at, under_at};
-use model::map;
+use model::{Memory, map};
 
-pub fn nought(m: &[u8], a: u16, low: u16) -> u16
-    requires { (length m.now ≡ 8192) × (a < 8192) }
+pub fn nought(m: &Memory, a: u16, low: u16) -> u16
+    requires { a < 8192 }
     ensures { result ≡ lowest_by Classes.itself (here (Classes.nought bytes) m.now) low (a ∷ []) }
 {
     unless(is_at(m, a, 0), a, low)
 }
 
-pub fn below(m: &[u8], a: u16, end: u8, low: u16) -> u16
-    requires { (length m.now ≡ 8192) × (a < 8192) }
+pub fn below(m: &Memory, a: u16, end: u8, low: u16) -> u16
+    requires { a < 8192 }
     ensures { result ≡ lowest_by Classes.itself (here (Classes.below bytes) m.now end) low (a ∷ []) }
 {
     unless(under_at(m, a, end), a, low)
 }
 
-pub fn positive(m: &[u8], a: u16, low: u16) -> u16
-    requires { (length m.now ≡ 8192) × (a < 8192) }
+pub fn positive(m: &Memory, a: u16, low: u16) -> u16
+    requires { a < 8192 }
     ensures { result ≡ lowest_by Classes.itself (here (Classes.positive bytes) m.now) low (a ∷ []) }
 {
     unless(lies_at(m, a, 1, map::A_WORD), a, low)
 }
 
-pub fn outer(m: &[u8], a: u16, low: u16) -> u16
-    requires { (length m.now ≡ 8192) × (a < 8192) }
+pub fn outer(m: &Memory, a: u16, low: u16) -> u16
+    requires { a < 8192 }
     ensures { result ≡ lowest_by Classes.itself (here (Classes.outer bytes) m.now) low (a ∷ []) }
 {
     unless(lies_at(m, a, map::FIRST_OUTER, map::LAST_LINE), a, low)
 }
 
-pub fn in_range(m: &[u8], a: u16, low: u16) -> u16
-    requires { (length m.now ≡ 8192) × (a < 8192) }
+pub fn in_range(m: &Memory, a: u16, low: u16) -> u16
+    requires { a < 8192 }
     ensures { result ≡ lowest_by Classes.itself (here (Classes.in_range bytes) m.now) low (a ∷ []) }
 {
     unless(lies_at(m, a, 1, map::ENTRIES_FULL), a, low)

@@ -12,19 +12,18 @@ use crate::cells::{below, nought, outer, positive};
 use crate::lowest::unless;
 use crate::walks::{control_at, met_in};
 use lists::both;
-use model::{ControlPage, map};
+use model::{ControlPage, Memory, map};
 use words::at;
 
-fn below_divider(m: &[u8], a: u16, low: u16) -> u16
-    requires { (length m.now ≡ 8192) × (a < 8192) }
+fn below_divider(m: &Memory, a: u16, low: u16) -> u16
+    requires { a < 8192 }
     ensures { result ≡ lowest_by Classes.itself (here (Classes.below bytes) m.now (Model.at m.now Map.divider)) low (a ∷ []) }
 {
     let end = at(m, map::DIVIDER);
     below(m, a, end, low)
 }
 
-fn clock(m: &[u8], low: u16) -> u16
-    requires { length m.now ≡ 8192 }
+fn clock(m: &Memory, low: u16) -> u16
     ensures { result ≡ least low (offending (here (Classes.clock bytes) m.now)) }
 {
     let a = outer(m, map::CLOCK_LINE, low);
@@ -37,8 +36,8 @@ fn clock(m: &[u8], low: u16) -> u16
 }
 
 // The running one, a processor's page, is ready; its label is shown.
-fn runner(m: &[u8], a: u16) -> bool
-    requires { (length m.now ≡ 8192) × (a < 8192) }
+fn runner(m: &Memory, a: u16) -> bool
+    requires { a < 8192 }
     ensures { result ≡ holds (here (Classes.runner bytes) m.now a) }
 {
     let w = at(m, a);
@@ -50,15 +49,15 @@ fn runner(m: &[u8], a: u16) -> bool
     both(n == 1, s < map::WAIT_BIT)
 }
 
-fn tell_runner(m: &[u8], a: u16, low: u16) -> u16
-    requires { (length m.now ≡ 8192) × (a < 8192) }
+fn tell_runner(m: &Memory, a: u16, low: u16) -> u16
+    requires { a < 8192 }
     ensures { result ≡ lowest_by Classes.itself (here (Classes.runner bytes) m.now) low (a ∷ []) }
 {
     unless(runner(m, a), a, low)
 }
 
-fn shown(m: &[u8], a: u16) -> bool
-    requires { (length m.now ≡ 8192) × (a < 8192) }
+fn shown(m: &Memory, a: u16) -> bool
+    requires { a < 8192 }
     ensures { result ≡ holds (here (Classes.shown bytes) m.now a) }
 {
     let p = at(m, map::RUNNING_PAGE);
@@ -70,16 +69,15 @@ fn shown(m: &[u8], a: u16) -> bool
     w == l
 }
 
-fn tell_shown(m: &[u8], a: u16, low: u16) -> u16
-    requires { (length m.now ≡ 8192) × (a < 8192) }
+fn tell_shown(m: &Memory, a: u16, low: u16) -> u16
+    requires { a < 8192 }
     ensures { result ≡ lowest_by Classes.itself (here (Classes.shown bytes) m.now) low (a ∷ []) }
 {
     unless(shown(m, a), a, low)
 }
 
 // Who is ready is not higher than the running one.
-fn not_higher(m: &[u8], p: ControlPage) -> bool
-    requires { length m.now ≡ 8192 }
+fn not_higher(m: &Memory, p: ControlPage) -> bool
     ensures { result ≡ holds (here (Classes.not_higher bytes) m.now p.0) }
 {
     let s = p.word(m, map::STATE);
@@ -92,8 +90,7 @@ fn not_higher(m: &[u8], p: ControlPage) -> bool
     true
 }
 
-fn none_higher(m: &[u8], low: u16) -> u16
-    requires { length m.now ≡ 8192 }
+fn none_higher(m: &Memory, low: u16) -> u16
     ensures { result ≡ lowest_by (λ p. Map.running_page) (here (Classes.not_higher bytes) m.now)
         low (Model.met m.now Map.processor_list) }
 {
@@ -113,8 +110,7 @@ fn none_higher(m: &[u8], low: u16) -> u16
     lowest
 }
 
-fn running(m: &[u8], low: u16) -> u16
-    requires { length m.now ≡ 8192 }
+fn running(m: &Memory, low: u16) -> u16
     ensures { result ≡ least low (offending (here (Classes.running bytes) m.now)) }
 {
     let a = tell_runner(m, map::RUNNING_PAGE, low);
@@ -122,8 +118,7 @@ fn running(m: &[u8], low: u16) -> u16
     tell_shown(m, map::RUNNING_LABEL, b)
 }
 
-pub fn counters(m: &[u8]) -> u16
-    requires { length m.now ≡ 8192 }
+pub fn counters(m: &Memory) -> u16
     ensures { result ≡ least 8192 (offending_in (here (Classes.of_counters bytes) m.now)) }
 {
     let a = clock(m, map::MEMORY_SIZE);

@@ -22,11 +22,10 @@ use crate::tables::tables;
 use crate::uses::pages;
 use crate::waits::waits;
 use judge::judged;
-use model::{Finding, map, refusals};
+use model::{Finding, Memory, map, refusals};
 
 // "The classes are tried in that order".
-fn told(m: &[u8]) -> Finding
-    requires { length m.now ≡ 8192 }
+fn told(m: &Memory) -> Finding
     ensures { result ≡ Model.told_of m.now }
 {
     let a = pages(m);
@@ -53,8 +52,7 @@ fn told(m: &[u8]) -> Finding
 }
 
 // What is found of a memory of 8,192 words.
-pub fn finding(m: &[u8]) -> Finding
-    requires { length m.now ≡ 8192 }
+pub fn finding(m: &Memory) -> Finding
     ensures { result ≡ Model.told_of m.now }
 {
     if judged(m) {

@@ -10,7 +10,7 @@ ghost use Rattle.telling.specs.Rows.{here, lowest_end};
 
 use crate::walks::{control_at, end};
 use lists::lies;
-use model::{ControlPage, map};
+use model::{ControlPage, Memory, map};
 use words::at;
 
 fn lower(low: u16, a: u16) -> u16
@@ -33,8 +33,8 @@ pub fn unless(holds: bool, told: u16, low: u16) -> u16
 }
 
 // 0 or a control page.
-pub fn pointer(m: &[u8], a: u16) -> bool
-    requires { (length m.now ≡ 8192) × (a < 8192) }
+pub fn pointer(m: &Memory, a: u16) -> bool
+    requires { a < 8192 }
     ensures { result ≡ holds (here (Classes.pointer bytes) m.now a) }
 {
     let w = at(m, a);
@@ -56,8 +56,8 @@ fn told_by(a: u16) -> u16
 }
 
 // The end of the list of a head; an empty list ends well. Of so many heads, by steps; of the mail of the processors; of their own queues.
-pub fn list_end(m: &[u8], head: u16, low: u16) -> u16
-    requires { (length m.now ≡ 8192) × (head < 8192) }
+pub fn list_end(m: &Memory, head: u16, low: u16) -> u16
+    requires { head < 8192 }
     ensures { result ≡ lowest_end m.now low (head ∷ []) }
 {
     let w = at(m, head);
@@ -68,8 +68,8 @@ pub fn list_end(m: &[u8], head: u16, low: u16) -> u16
     unless(pointer(m, e), told_by(e), low)
 }
 
-pub fn lists_end(m: &[u8], heads: u8, step: u16, head: u16, low: u16) -> u16
-    requires { (length m.now ≡ 8192) × (step ≤ 2) × (head + 2 * heads < 8192) }
+pub fn lists_end(m: &Memory, heads: u8, step: u16, head: u16, low: u16) -> u16
+    requires { (step ≤ 2) × (head + 2 * heads < 8192) }
     ensures { result ≡ lowest_end m.now low (range heads step head) }
 {
     let mut lowest = low;
@@ -83,8 +83,7 @@ pub fn lists_end(m: &[u8], heads: u8, step: u16, head: u16, low: u16) -> u16
     lowest
 }
 
-pub fn mails_end(m: &[u8], low: u16) -> u16
-    requires { length m.now ≡ 8192 }
+pub fn mails_end(m: &Memory, low: u16) -> u16
     ensures { result ≡ lowest_end m.now low (mails (Model.met m.now Map.processor_list)) }
 {
     let mut lowest = low;
@@ -103,8 +102,7 @@ pub fn mails_end(m: &[u8], low: u16) -> u16
     lowest
 }
 
-pub fn owns_end(m: &[u8], low: u16) -> u16
-    requires { length m.now ≡ 8192 }
+pub fn owns_end(m: &Memory, low: u16) -> u16
     ensures { result ≡ lowest_end m.now low (owns (Model.met m.now Map.processor_list)) }
 {
     let mut lowest = low;

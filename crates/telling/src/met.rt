@@ -9,7 +9,7 @@ ghost use Rattle.telling.specs.Met.{marked_all, marked_lists};
 
 use crate::walks::control_at;
 use lists::{left_of, link_of};
-use model::{ControlPage, map};
+use model::{ControlPage, Memory, map};
 use words::at;
 
 pub type Marks = u64;
@@ -44,8 +44,8 @@ fn mark(marks: Marks, page: u8) -> Marks
 }
 
 // So are the pages that are met from a cell on; in the list of a head.
-fn mark_path(m: &[u8], marks: Marks, link: u16, cell: u16, left: u8) -> Marks
-    requires { (length m.now ≡ 8192) × (link < 32) × (cell < 8192) × (marks < Met.most) }
+fn mark_path(m: &Memory, marks: Marks, link: u16, cell: u16, left: u8) -> Marks
+    requires { (link < 32) × (cell < 8192) × (marks < Met.most) }
     ensures { (result ≡ marked_all marks (Model.path left m.now link cell)) × (result < Met.most) }
 {
     if left == 0 {
@@ -59,8 +59,8 @@ fn mark_path(m: &[u8], marks: Marks, link: u16, cell: u16, left: u8) -> Marks
     mark_path(m, t, link, ControlPage(w).place(link), left - 1)
 }
 
-fn mark_list(m: &[u8], marks: Marks, head: u16) -> Marks
-    requires { (length m.now ≡ 8192) × (head < 8192) × (marks < Met.most) }
+fn mark_list(m: &Memory, marks: Marks, head: u16) -> Marks
+    requires { (head < 8192) × (marks < Met.most) }
     ensures { (result ≡ marked_all marks (Model.met m.now head)) × (result < Met.most) }
 {
     let w = at(m, head);
@@ -71,8 +71,8 @@ fn mark_list(m: &[u8], marks: Marks, head: u16) -> Marks
 }
 
 // In the lists of so many heads, by steps; in the mail of the processors; in their own queues.
-fn mark_lists(m: &[u8], marks: Marks, heads: u8, step: u16, head: u16) -> Marks
-    requires { (length m.now ≡ 8192) × (step ≤ 2) × (head + 2 * heads < 8192) × (marks < Met.most) }
+fn mark_lists(m: &Memory, marks: Marks, heads: u8, step: u16, head: u16) -> Marks
+    requires { (step ≤ 2) × (head + 2 * heads < 8192) × (marks < Met.most) }
     ensures { (result ≡ marked_lists marks (Model.met m.now) (range heads step head)) × (result < Met.most) }
 {
     let mut t = marks;
@@ -86,8 +86,8 @@ fn mark_lists(m: &[u8], marks: Marks, heads: u8, step: u16, head: u16) -> Marks
     t
 }
 
-fn mark_mails(m: &[u8], marks: Marks) -> Marks
-    requires { (length m.now ≡ 8192) × (marks < Met.most) }
+fn mark_mails(m: &Memory, marks: Marks) -> Marks
+    requires { marks < Met.most }
     ensures { (result ≡ marked_lists marks (Model.met m.now) (mails (Model.met m.now Map.processor_list))) × (result < Met.most) }
 {
     let mut t = marks;
@@ -106,8 +106,8 @@ fn mark_mails(m: &[u8], marks: Marks) -> Marks
     t
 }
 
-fn mark_owns(m: &[u8], marks: Marks) -> Marks
-    requires { (length m.now ≡ 8192) × (marks < Met.most) }
+fn mark_owns(m: &Memory, marks: Marks) -> Marks
+    requires { marks < Met.most }
     ensures { (result ≡ marked_lists marks (Model.met m.now) (owns (Model.met m.now Map.processor_list))) × (result < Met.most) }
 {
     let mut t = marks;
@@ -126,8 +126,7 @@ fn mark_owns(m: &[u8], marks: Marks) -> Marks
 }
 
 // Of all that is used, of all that wait, of the processors.
-pub fn used_marks(m: &[u8]) -> Marks
-    requires { length m.now ≡ 8192 }
+pub fn used_marks(m: &Memory) -> Marks
     ensures { result ≡ Met.used_marks m.now }
 {
     let p = mark_list(m, 0, map::PROCESSOR_LIST);
@@ -136,8 +135,7 @@ pub fn used_marks(m: &[u8]) -> Marks
     mark_lists(m, q, map::LAST_NAME, 1, map::GRANTS + 1)
 }
 
-pub fn wait_marks(m: &[u8]) -> Marks
-    requires { length m.now ≡ 8192 }
+pub fn wait_marks(m: &Memory) -> Marks
     ensures { result ≡ Met.wait_marks m.now }
 {
     let q = mark_list(m, 0, map::PAGE_QUEUE);
@@ -145,8 +143,7 @@ pub fn wait_marks(m: &[u8]) -> Marks
     mark_lists(m, o, map::INTERRUPTS, 2, map::HEADERS_AFTER)
 }
 
-pub fn list_marks(m: &[u8]) -> Marks
-    requires { length m.now ≡ 8192 }
+pub fn list_marks(m: &Memory) -> Marks
     ensures { result ≡ Met.list_marks m.now }
 {
     mark_list(m, 0, map::PROCESSOR_LIST)
@@ -160,8 +157,7 @@ pub fn title(name: u8) -> u8
     map::FIRST_CONTROL + name
 }
 
-pub fn name_marks(m: &[u8]) -> Marks
-    requires { length m.now ≡ 8192 }
+pub fn name_marks(m: &Memory) -> Marks
     ensures { result ≡ Met.name_marks m.now }
 {
     let mut t = 0;

@@ -19,12 +19,12 @@ use crate::places::grant_for;
 use crate::walks::control_at;
 use judge::records::{message, zero_bits};
 use lists::{both, lies};
-use model::{ControlPage, map};
+use model::{ControlPage, Memory, map};
 use words::at;
 
 // Its name is its own, name and priority are 1-15, by the marks of the names.
-fn label(m: &[u8], marks: Marks, p: ControlPage) -> bool
-    requires { (length m.now ≡ 8192) × (marks ≡ Met.name_marks m.now) }
+fn label(m: &Memory, marks: Marks, p: ControlPage) -> bool
+    requires { marks ≡ Met.name_marks m.now }
     ensures { result ≡ holds (here (Judge.label bytes) m.now p.0) }
 {
     let w = p.word(m, map::LABEL);
@@ -38,8 +38,8 @@ fn label(m: &[u8], marks: Marks, p: ControlPage) -> bool
     )
 }
 
-fn all_labels(m: &[u8], marks: Marks, low: u16) -> u16
-    requires { (length m.now ≡ 8192) × (marks ≡ Met.name_marks m.now) }
+fn all_labels(m: &Memory, marks: Marks, low: u16) -> u16
+    requires { marks ≡ Met.name_marks m.now }
     ensures { result ≡ lowest_by Classes.page (here (Judge.label bytes) m.now) low (Model.met m.now Map.processor_list) }
 {
     let mut lowest = low;
@@ -58,8 +58,7 @@ fn all_labels(m: &[u8], marks: Marks, low: u16) -> u16
     lowest
 }
 
-fn all_zero_bits(m: &[u8], low: u16) -> u16
-    requires { length m.now ≡ 8192 }
+fn all_zero_bits(m: &Memory, low: u16) -> u16
     ensures { result ≡ lowest_by Classes.page (Judge.zero_bits bytes m.now) low (Model.met m.now Map.processor_list) }
 {
     let mut lowest = low;
@@ -78,8 +77,8 @@ fn all_zero_bits(m: &[u8], low: u16) -> u16
     lowest
 }
 
-fn labels(m: &[u8], marks: Marks, low: u16) -> u16
-    requires { (length m.now ≡ 8192) × (marks ≡ Met.name_marks m.now) }
+fn labels(m: &Memory, marks: Marks, low: u16) -> u16
+    requires { marks ≡ Met.name_marks m.now }
     ensures { result ≡ least low (offending (here (Classes.labels bytes) m.now)) }
 {
     let a = all_labels(m, marks, low);
@@ -87,8 +86,8 @@ fn labels(m: &[u8], marks: Marks, low: u16) -> u16
 }
 
 // A grant is that of a name.
-fn existing(m: &[u8], marks: Marks, name: u8) -> bool
-    requires { (length m.now ≡ 8192) × (name < 16) × (marks ≡ Met.name_marks m.now) }
+fn existing(m: &Memory, marks: Marks, name: u8) -> bool
+    requires { (name < 16) × (marks ≡ Met.name_marks m.now) }
     ensures { result ≡ holds (here (Classes.existing bytes) m.now name) }
 {
     let w = at(m, grant_for(name));
@@ -99,8 +98,8 @@ fn existing(m: &[u8], marks: Marks, name: u8) -> bool
     1 <= n
 }
 
-fn all_existing(m: &[u8], marks: Marks, low: u16) -> u16
-    requires { (length m.now ≡ 8192) × (marks ≡ Met.name_marks m.now) }
+fn all_existing(m: &Memory, marks: Marks, low: u16) -> u16
+    requires { marks ≡ Met.name_marks m.now }
     ensures { result ≡ lowest_by Map.grant_for (here (Classes.existing bytes) m.now) low (range Map.last_name 1 1) }
 {
     let mut lowest = low;
@@ -114,8 +113,7 @@ fn all_existing(m: &[u8], marks: Marks, low: u16) -> u16
     lowest
 }
 
-fn rest_nought(m: &[u8], low: u16) -> u16
-    requires { length m.now ≡ 8192 }
+fn rest_nought(m: &Memory, low: u16) -> u16
     ensures { result ≡ lowest_by Classes.itself (here (Classes.nought bytes) m.now) low (range 16 1 (Map.grant_for 16)) }
 {
     let mut lowest = low;
@@ -129,8 +127,8 @@ fn rest_nought(m: &[u8], low: u16) -> u16
     lowest
 }
 
-fn granted(m: &[u8], marks: Marks, low: u16) -> u16
-    requires { (length m.now ≡ 8192) × (marks ≡ Met.name_marks m.now) }
+fn granted(m: &Memory, marks: Marks, low: u16) -> u16
+    requires { marks ≡ Met.name_marks m.now }
     ensures { result ≡ least low (offending (here (Classes.granted bytes) m.now)) }
 {
     let a = all_existing(m, marks, low);
@@ -139,8 +137,8 @@ fn granted(m: &[u8], marks: Marks, low: u16) -> u16
 }
 
 // The messages of a queue; of the mail of the processors.
-fn messages_from(m: &[u8], cell: u16, left: u8, low: u16) -> u16
-    requires { (length m.now ≡ 8192) × (cell < 8192) }
+fn messages_from(m: &Memory, cell: u16, left: u8, low: u16) -> u16
+    requires { cell < 8192 }
     ensures { result ≡ lowest_by Classes.page (Judge.message bytes m.now) low (Model.path left m.now Map.link cell) }
 {
     if left == 0 {
@@ -155,15 +153,14 @@ fn messages_from(m: &[u8], cell: u16, left: u8, low: u16) -> u16
     messages_from(m, p.place(map::LINK), left - 1, lowest)
 }
 
-fn messages_in(m: &[u8], p: ControlPage, word: u16, low: u16) -> u16
-    requires { (length m.now ≡ 8192) × (Map.first_control ≤ p.0) × (word < 32) }
+fn messages_in(m: &Memory, p: ControlPage, word: u16, low: u16) -> u16
+    requires { (Map.first_control ≤ p.0) × (word < 32) }
     ensures { result ≡ lowest_by Classes.page (Judge.message bytes m.now) low (Model.met m.now (Map.place p.0 word)) }
 {
     messages_from(m, p.place(word), map::ONE_MORE, low)
 }
 
-fn all_messages(m: &[u8], low: u16) -> u16
-    requires { length m.now ≡ 8192 }
+fn all_messages(m: &Memory, low: u16) -> u16
     ensures { result ≡ lowest_by Classes.page (Judge.message bytes m.now)
         low (gather (Model.met m.now) (mails (Model.met m.now Map.processor_list))) }
 {
@@ -184,15 +181,13 @@ fn all_messages(m: &[u8], low: u16) -> u16
     lowest
 }
 
-fn messages(m: &[u8], low: u16) -> u16
-    requires { length m.now ≡ 8192 }
+fn messages(m: &Memory, low: u16) -> u16
     ensures { result ≡ least low (offending (here (Classes.messages bytes) m.now)) }
 {
     all_messages(m, low)
 }
 
-pub fn records(m: &[u8]) -> u16
-    requires { length m.now ≡ 8192 }
+pub fn records(m: &Memory) -> u16
     ensures { result ≡ least 8192 (offending_in (here (Classes.of_records bytes) m.now)) }
 {
     let marks = name_marks(m);

@@ -14,12 +14,11 @@ use crate::lowest::unless;
 use crate::places::{grant_for, header_after, semaphore_after};
 use crate::walks::{control_at, length_of};
 use lists::less;
-use model::{ControlPage, map};
+use model::{ControlPage, Memory, map};
 use words::at;
 
 // Interrupt k + 1: nobody waits where its queue is empty.
-fn interrupt_semaphore(m: &[u8], k: u8) -> bool
-    requires { length m.now ≡ 8192 }
+fn interrupt_semaphore(m: &Memory, k: u8) -> bool
     ensures { result ≡ holds (here (Judge.interrupt_semaphore bytes) m.now k) }
 {
     let s = at(m, semaphore_after(k));
@@ -32,8 +31,7 @@ fn interrupt_semaphore(m: &[u8], k: u8) -> bool
     s == less(0, n)
 }
 
-fn interrupt_semaphores(m: &[u8], low: u16) -> u16
-    requires { length m.now ≡ 8192 }
+fn interrupt_semaphores(m: &Memory, low: u16) -> u16
     ensures { result ≡ lowest_by Map.semaphore_after (here (Judge.interrupt_semaphore bytes) m.now) low (range Map.interrupts 1 0) }
 {
     let mut lowest = low;
@@ -47,8 +45,7 @@ fn interrupt_semaphores(m: &[u8], low: u16) -> u16
     lowest
 }
 
-fn message_semaphore(m: &[u8], p: ControlPage) -> bool
-    requires { length m.now ≡ 8192 }
+fn message_semaphore(m: &Memory, p: ControlPage) -> bool
     ensures { result ≡ holds (here (Judge.message_semaphore bytes) m.now p.0) }
 {
     let s = p.word(m, map::OWN_SEMAPHORE);
@@ -56,8 +53,7 @@ fn message_semaphore(m: &[u8], p: ControlPage) -> bool
     s == less(0, n)
 }
 
-fn message_semaphores(m: &[u8], low: u16) -> u16
-    requires { length m.now ≡ 8192 }
+fn message_semaphores(m: &Memory, low: u16) -> u16
     ensures { result ≡ lowest_by Classes.semaphore (here (Judge.message_semaphore bytes) m.now)
         low (Model.met m.now Map.processor_list) }
 {
@@ -77,8 +73,7 @@ fn message_semaphores(m: &[u8], low: u16) -> u16
     lowest
 }
 
-fn page_semaphore(m: &[u8]) -> bool
-    requires { length m.now ≡ 8192 }
+fn page_semaphore(m: &Memory) -> bool
     ensures { result ≡ holds (here (Classes.page_semaphore bytes) m.now Map.free_semaphore) }
 {
     let s = at(m, map::FREE_SEMAPHORE);
@@ -87,15 +82,13 @@ fn page_semaphore(m: &[u8]) -> bool
     s == less(f, w)
 }
 
-fn tell_page_semaphore(m: &[u8], low: u16) -> u16
-    requires { length m.now ≡ 8192 }
+fn tell_page_semaphore(m: &Memory, low: u16) -> u16
     ensures { result ≡ lowest_by Classes.itself (here (Classes.page_semaphore bytes) m.now) low (Map.free_semaphore ∷ []) }
 {
     unless(page_semaphore(m), map::FREE_SEMAPHORE, low)
 }
 
-pub fn semaphores(m: &[u8], low: u16) -> u16
-    requires { length m.now ≡ 8192 }
+pub fn semaphores(m: &Memory, low: u16) -> u16
     ensures { result ≡ least low (offending (here (Classes.semaphores bytes) m.now)) }
 {
     let a = interrupt_semaphores(m, low);
@@ -104,16 +97,15 @@ pub fn semaphores(m: &[u8], low: u16) -> u16
 }
 
 // Of each that waits for a page: none is free, and it has no grant.
-fn none_free(m: &[u8]) -> bool
-    requires { length m.now ≡ 8192 }
+fn none_free(m: &Memory) -> bool
     ensures { result ≡ eqb (length (Model.met m.now Map.free_list)) 0 }
 {
     let n = length_of(m, map::FREE_LIST);
     n == 0
 }
 
-fn none_free_from(m: &[u8], cell: u16, left: u8, low: u16) -> u16
-    requires { (length m.now ≡ 8192) × (cell < 8192) }
+fn none_free_from(m: &Memory, cell: u16, left: u8, low: u16) -> u16
+    requires { cell < 8192 }
     ensures { result ≡ lowest_by (λ p. Map.free_list) (here (Classes.none_free bytes) m.now)
         low (Model.path left m.now Map.link cell) }
 {
@@ -129,24 +121,22 @@ fn none_free_from(m: &[u8], cell: u16, left: u8, low: u16) -> u16
     none_free_from(m, p.place(map::LINK), left - 1, lowest)
 }
 
-fn grant_of(m: &[u8], p: ControlPage) -> u16
-    requires { length m.now ≡ 8192 }
+fn grant_of(m: &Memory, p: ControlPage) -> u16
     ensures { (result ≡ here (Classes.grant_of bytes) m.now p.0) × (result < 8192) }
 {
     let w = p.word(m, map::LABEL);
     grant_for(w % map::FIELD)
 }
 
-fn no_grant(m: &[u8], p: ControlPage) -> bool
-    requires { length m.now ≡ 8192 }
+fn no_grant(m: &Memory, p: ControlPage) -> bool
     ensures { result ≡ holds (here (Classes.no_grant bytes) m.now p.0) }
 {
     let w = at(m, grant_of(m, p));
     w == 0
 }
 
-fn no_grant_from(m: &[u8], cell: u16, left: u8, low: u16) -> u16
-    requires { (length m.now ≡ 8192) × (cell < 8192) }
+fn no_grant_from(m: &Memory, cell: u16, left: u8, low: u16) -> u16
+    requires { cell < 8192 }
     ensures { result ≡ lowest_by (here (Classes.grant_of bytes) m.now) (here (Classes.no_grant bytes) m.now)
         low (Model.path left m.now Map.link cell) }
 {
@@ -162,23 +152,20 @@ fn no_grant_from(m: &[u8], cell: u16, left: u8, low: u16) -> u16
     no_grant_from(m, p.place(map::LINK), left - 1, lowest)
 }
 
-fn asking_none_free(m: &[u8], low: u16) -> u16
-    requires { length m.now ≡ 8192 }
+fn asking_none_free(m: &Memory, low: u16) -> u16
     ensures { result ≡ lowest_by (λ p. Map.free_list) (here (Classes.none_free bytes) m.now) low (Model.met m.now Map.page_queue) }
 {
     none_free_from(m, map::PAGE_QUEUE, map::ONE_MORE, low)
 }
 
-fn asking_no_grant(m: &[u8], low: u16) -> u16
-    requires { length m.now ≡ 8192 }
+fn asking_no_grant(m: &Memory, low: u16) -> u16
     ensures { result ≡ lowest_by (here (Classes.grant_of bytes) m.now) (here (Classes.no_grant bytes) m.now)
         low (Model.met m.now Map.page_queue) }
 {
     no_grant_from(m, map::PAGE_QUEUE, map::ONE_MORE, low)
 }
 
-pub fn page_waits(m: &[u8], low: u16) -> u16
-    requires { length m.now ≡ 8192 }
+pub fn page_waits(m: &Memory, low: u16) -> u16
     ensures { result ≡ least low (offending (here (Classes.page_waits bytes) m.now)) }
 {
     let a = asking_none_free(m, low);

@@ -12,10 +12,9 @@ use crate::cells::in_range;
 use crate::lowest::unless;
 use crate::places::{code_word, entry_after};
 use judge::tables::{built_in, entry, foreign, kind};
-use model::map;
+use model::{Memory, map};
 
-fn kinds(m: &[u8], low: u16) -> u16
-    requires { length m.now ≡ 8192 }
+fn kinds(m: &Memory, low: u16) -> u16
     ensures { result ≡ lowest_by Map.code_word (Judge.kind bytes m.now) low (range Map.all_codes 1 0) }
 {
     let mut lowest = low;
@@ -29,22 +28,19 @@ fn kinds(m: &[u8], low: u16) -> u16
     lowest
 }
 
-fn tell_built_in(m: &[u8], code: u8, low: u16) -> u16
-    requires { length m.now ≡ 8192 }
+fn tell_built_in(m: &Memory, code: u8, low: u16) -> u16
     ensures { result ≡ lowest_by Map.code_word (here (Classes.is_built_in bytes) m.now) low (code ∷ []) }
 {
     unless(built_in(m, code), code_word(code), low)
 }
 
-fn tell_foreign(m: &[u8], code: u8, low: u16) -> u16
-    requires { length m.now ≡ 8192 }
+fn tell_foreign(m: &Memory, code: u8, low: u16) -> u16
     ensures { result ≡ lowest_by Map.code_word (here (Classes.is_foreign bytes) m.now) low (code ∷ []) }
 {
     unless(foreign(m, code), code_word(code), low)
 }
 
-fn codes(m: &[u8], low: u16) -> u16
-    requires { length m.now ≡ 8192 }
+fn codes(m: &Memory, low: u16) -> u16
     ensures { result ≡ least low (offending (here (Classes.codes bytes) m.now)) }
 {
     let a = kinds(m, low);
@@ -53,8 +49,7 @@ fn codes(m: &[u8], low: u16) -> u16
     tell_foreign(m, map::BUILT_IN_CODES, c)
 }
 
-fn all_entries(m: &[u8], low: u16) -> u16
-    requires { length m.now ≡ 8192 }
+fn all_entries(m: &Memory, low: u16) -> u16
     ensures { result ≡ lowest_by Map.entry_after (Judge.entry bytes m.now) low (range Map.entries 1 0) }
 {
     let mut lowest = low;
@@ -68,16 +63,14 @@ fn all_entries(m: &[u8], low: u16) -> u16
     lowest
 }
 
-fn faults(m: &[u8], low: u16) -> u16
-    requires { length m.now ≡ 8192 }
+fn faults(m: &Memory, low: u16) -> u16
     ensures { result ≡ least low (offending (here (Classes.faults bytes) m.now)) }
 {
     let a = in_range(m, map::FIRST_UNUSED, low);
     all_entries(m, a)
 }
 
-pub fn tables(m: &[u8]) -> u16
-    requires { length m.now ≡ 8192 }
+pub fn tables(m: &Memory) -> u16
     ensures { result ≡ least 8192 (offending_in (here (Classes.of_tables bytes) m.now)) }
 {
     let a = codes(m, map::MEMORY_SIZE);

@@ -10,7 +10,7 @@ ghost use Rattle.telling.specs.Met as Met;
 
 use crate::lowest::{list_end, mails_end, pointer, unless};
 use crate::met::{Marks, times, used_marks};
-use model::{ControlPage, map};
+use model::{ControlPage, Memory, map};
 
 // The page is used once, by the marks of all that is used.
 fn once(m: &[u8], marks: Marks, page: u8) -> bool
@@ -32,8 +32,8 @@ fn tell_once(m: &[u8], marks: Marks, page: u8, low: u16) -> u16
     )
 }
 
-fn each_once(m: &[u8], marks: Marks, low: u16) -> u16
-    requires { (length m.now ≡ 8192) × (marks ≡ Met.used_marks m.now) }
+fn each_once(m: &Memory, marks: Marks, low: u16) -> u16
+    requires { marks ≡ Met.used_marks m.now }
     ensures { result ≡ lowest_by Classes.page (here (Classes.once bytes) m.now) low Classes.controls }
 {
     let mut lowest = low;
@@ -47,8 +47,7 @@ fn each_once(m: &[u8], marks: Marks, low: u16) -> u16
     lowest
 }
 
-fn used_once(m: &[u8], low: u16) -> u16
-    requires { length m.now ≡ 8192 }
+fn used_once(m: &Memory, low: u16) -> u16
     ensures { result ≡ least low (offending (here (Classes.used_once bytes) m.now)) }
 {
     let marks = used_marks(m);
@@ -56,8 +55,7 @@ fn used_once(m: &[u8], low: u16) -> u16
 }
 
 // A grant is 0 or a control page.
-fn grants_point(m: &[u8], low: u16) -> u16
-    requires { length m.now ≡ 8192 }
+fn grants_point(m: &Memory, low: u16) -> u16
     ensures { result ≡ lowest_by Classes.itself (here (Classes.pointer bytes) m.now) low Classes.holders }
 {
     let mut lowest = low;
@@ -71,8 +69,7 @@ fn grants_point(m: &[u8], low: u16) -> u16
     lowest
 }
 
-fn uses_end(m: &[u8], low: u16) -> u16
-    requires { length m.now ≡ 8192 }
+fn uses_end(m: &Memory, low: u16) -> u16
     ensures { result ≡ least low (offending (here (Classes.uses_end bytes) m.now)) }
 {
     let a = list_end(m, map::PROCESSOR_LIST, low);
@@ -81,8 +78,7 @@ fn uses_end(m: &[u8], low: u16) -> u16
     grants_point(m, c)
 }
 
-pub fn pages(m: &[u8]) -> u16
-    requires { length m.now ≡ 8192 }
+pub fn pages(m: &Memory) -> u16
     ensures { result ≡ least 8192 (offending_in (here (Classes.of_pages bytes) m.now)) }
 {
     let a = used_once(m, map::MEMORY_SIZE);

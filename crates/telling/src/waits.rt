@@ -17,11 +17,10 @@ use crate::semaphores::{page_waits, semaphores};
 use crate::walks::control_at;
 use judge::waits::{quiet, reasoned, reasonless, unasked};
 use lists::{both, left_of, link_of};
-use model::{ControlPage, map};
+use model::{ControlPage, Memory, map};
 use words::at;
 
-fn queues_end(m: &[u8], low: u16) -> u16
-    requires { length m.now ≡ 8192 }
+fn queues_end(m: &Memory, low: u16) -> u16
     ensures { result ≡ least low (offending (here (Classes.queues_end bytes) m.now)) }
 {
     let a = list_end(m, map::PAGE_QUEUE, low);
@@ -30,8 +29,8 @@ fn queues_end(m: &[u8], low: u16) -> u16
 }
 
 // The waiting bit of a processor, and who waits is a processor, by the marks of all that wait and of the processors.
-fn bit(m: &[u8], marks: Marks, p: ControlPage) -> bool
-    requires { (length m.now ≡ 8192) × (Map.first_control ≤ p.0) × (marks ≡ Met.wait_marks m.now) }
+fn bit(m: &Memory, marks: Marks, p: ControlPage) -> bool
+    requires { (Map.first_control ≤ p.0) × (marks ≡ Met.wait_marks m.now) }
     ensures { result ≡ holds (here (Judge.bit bytes) m.now p.0) }
 {
     let n = times(marks, p.0);
@@ -39,8 +38,8 @@ fn bit(m: &[u8], marks: Marks, p: ControlPage) -> bool
     n == (w % map::STOP_BIT / map::WAIT_BIT) as u64
 }
 
-fn bits(m: &[u8], marks: Marks, low: u16) -> u16
-    requires { (length m.now ≡ 8192) × (marks ≡ Met.wait_marks m.now) }
+fn bits(m: &Memory, marks: Marks, low: u16) -> u16
+    requires { marks ≡ Met.wait_marks m.now }
     ensures { result ≡ lowest_by Classes.page (here (Judge.bit bytes) m.now) low (Model.met m.now Map.processor_list) }
 {
     let mut lowest = low;
@@ -79,8 +78,8 @@ fn tell_waiter(m: &[u8], marks: Marks, listed: Marks, page: u8, low: u16) -> u16
     )
 }
 
-fn waiters(m: &[u8], marks: Marks, listed: Marks, low: u16) -> u16
-    requires { (length m.now ≡ 8192) × (marks ≡ Met.wait_marks m.now) × (listed ≡ Met.list_marks m.now) × Met.Single m.now }
+fn waiters(m: &Memory, marks: Marks, listed: Marks, low: u16) -> u16
+    requires { (marks ≡ Met.wait_marks m.now) × (listed ≡ Met.list_marks m.now) × Met.Single m.now }
     ensures { result ≡ lowest_by Classes.page (here (Judge.waiter bytes) m.now) low Classes.controls }
 {
     let mut lowest = low;
@@ -94,8 +93,8 @@ fn waiters(m: &[u8], marks: Marks, listed: Marks, low: u16) -> u16
     lowest
 }
 
-fn waiting_bits(m: &[u8], low: u16) -> u16
-    requires { (length m.now ≡ 8192) × Met.Single m.now }
+fn waiting_bits(m: &Memory, low: u16) -> u16
+    requires { Met.Single m.now }
     ensures { result ≡ least low (offending (here (Classes.waiting_bits bytes) m.now)) }
 {
     let marks = wait_marks(m);
@@ -105,8 +104,8 @@ fn waiting_bits(m: &[u8], low: u16) -> u16
 }
 
 // The reasons of those in a queue; of those in the queues of the interrupts.
-fn reasoned_from(m: &[u8], cell: u16, left: u8, low: u16) -> u16
-    requires { (length m.now ≡ 8192) × (cell < 8192) }
+fn reasoned_from(m: &Memory, cell: u16, left: u8, low: u16) -> u16
+    requires { cell < 8192 }
     ensures { result ≡ lowest_by Classes.page (Judge.reasoned bytes m.now) low (Model.path left m.now Map.link cell) }
 {
     if left == 0 {
@@ -121,8 +120,8 @@ fn reasoned_from(m: &[u8], cell: u16, left: u8, low: u16) -> u16
     reasoned_from(m, p.place(map::LINK), left - 1, lowest)
 }
 
-fn served(m: &[u8], head: u16, low: u16) -> u16
-    requires { (length m.now ≡ 8192) × (head < Map.processor_list) }
+fn served(m: &Memory, head: u16, low: u16) -> u16
+    requires { head < Map.processor_list }
     ensures { result ≡ lowest_by Classes.page (Judge.reasoned bytes m.now) low (Model.met m.now head) }
 {
     let w = at(m, head);
@@ -132,8 +131,7 @@ fn served(m: &[u8], head: u16, low: u16) -> u16
     reasoned_from(m, head, map::ONE_MORE, low)
 }
 
-fn all_served(m: &[u8], low: u16) -> u16
-    requires { length m.now ≡ 8192 }
+fn all_served(m: &Memory, low: u16) -> u16
     ensures { result ≡ lowest_by Classes.page (Judge.reasoned bytes m.now) low (gather (Model.met m.now) Classes.lines) }
 {
     let mut lowest = low;
@@ -147,8 +145,8 @@ fn all_served(m: &[u8], low: u16) -> u16
     lowest
 }
 
-fn reasonless_from(m: &[u8], cell: u16, left: u8, low: u16) -> u16
-    requires { (length m.now ≡ 8192) × (cell < 8192) }
+fn reasonless_from(m: &Memory, cell: u16, left: u8, low: u16) -> u16
+    requires { cell < 8192 }
     ensures { result ≡ lowest_by Classes.page (Judge.reasonless bytes m.now) low (Model.path left m.now Map.link cell) }
 {
     if left == 0 {
@@ -163,15 +161,13 @@ fn reasonless_from(m: &[u8], cell: u16, left: u8, low: u16) -> u16
     reasonless_from(m, p.place(map::LINK), left - 1, lowest)
 }
 
-fn asking_reasonless(m: &[u8], low: u16) -> u16
-    requires { length m.now ≡ 8192 }
+fn asking_reasonless(m: &Memory, low: u16) -> u16
     ensures { result ≡ lowest_by Classes.page (Judge.reasonless bytes m.now) low (Model.met m.now Map.page_queue) }
 {
     reasonless_from(m, map::PAGE_QUEUE, map::ONE_MORE, low)
 }
 
-fn all_quiet(m: &[u8], low: u16) -> u16
-    requires { length m.now ≡ 8192 }
+fn all_quiet(m: &Memory, low: u16) -> u16
     ensures { result ≡ lowest_by Classes.page (Judge.quiet bytes m.now) low (Model.met m.now Map.processor_list) }
 {
     let mut lowest = low;
@@ -190,8 +186,7 @@ fn all_quiet(m: &[u8], low: u16) -> u16
     lowest
 }
 
-fn reasons(m: &[u8], low: u16) -> u16
-    requires { length m.now ≡ 8192 }
+fn reasons(m: &Memory, low: u16) -> u16
     ensures { result ≡ least low (offending (here (Classes.reasons bytes) m.now)) }
 {
     let a = all_served(m, low);
@@ -200,8 +195,8 @@ fn reasons(m: &[u8], low: u16) -> u16
 }
 
 // What page p waits for is none of the messages that are met from a cell on.
-fn all_unasked(m: &[u8], p: ControlPage, link: u16, cell: u16, left: u8) -> bool
-    requires { (length m.now ≡ 8192) × (link < 32) × (cell < 8192) }
+fn all_unasked(m: &Memory, p: ControlPage, link: u16, cell: u16, left: u8) -> bool
+    requires { (link < 32) × (cell < 8192) }
     ensures { result ≡ holds (each (Model.path left m.now link cell) (Judge.unasked bytes m.now p.0)) }
 {
     if left == 0 {
@@ -218,8 +213,7 @@ fn all_unasked(m: &[u8], p: ControlPage, link: u16, cell: u16, left: u8) -> bool
 }
 
 // Page x is in the own queue of page p; each that is met there from a cell on.
-fn owner(m: &[u8], p: ControlPage, x: u8) -> bool
-    requires { length m.now ≡ 8192 }
+fn owner(m: &Memory, p: ControlPage, x: u8) -> bool
     ensures { result ≡ holds (here (Judge.owner bytes) m.now p.0 x) }
 {
     let w = p.word(m, map::REASON);
@@ -233,8 +227,8 @@ fn owner(m: &[u8], p: ControlPage, x: u8) -> bool
     )
 }
 
-fn all_owners(m: &[u8], p: ControlPage, link: u16, cell: u16, left: u8) -> bool
-    requires { (length m.now ≡ 8192) × (link < 32) × (cell < 8192) }
+fn all_owners(m: &Memory, p: ControlPage, link: u16, cell: u16, left: u8) -> bool
+    requires { (link < 32) × (cell < 8192) }
     ensures { result ≡ holds (each (Model.path left m.now link cell) (here (Judge.owner bytes) m.now p.0)) }
 {
     if left == 0 {
@@ -250,16 +244,14 @@ fn all_owners(m: &[u8], p: ControlPage, link: u16, cell: u16, left: u8) -> bool
     false
 }
 
-fn message_wait(m: &[u8], p: ControlPage) -> bool
-    requires { length m.now ≡ 8192 }
+fn message_wait(m: &Memory, p: ControlPage) -> bool
     ensures { result ≡ holds (here (Judge.message_wait bytes) m.now p.0) }
 {
     let a = p.place(map::OWN_QUEUE);
     all_owners(m, p, link_of(a), a, left_of(a))
 }
 
-fn all_message_waits(m: &[u8], low: u16) -> u16
-    requires { length m.now ≡ 8192 }
+fn all_message_waits(m: &Memory, low: u16) -> u16
     ensures { result ≡ lowest_by Classes.page (here (Judge.message_wait bytes) m.now) low (Model.met m.now Map.processor_list) }
 {
     let mut lowest = low;
@@ -278,15 +270,14 @@ fn all_message_waits(m: &[u8], low: u16) -> u16
     lowest
 }
 
-fn message_waits(m: &[u8], low: u16) -> u16
-    requires { length m.now ≡ 8192 }
+fn message_waits(m: &Memory, low: u16) -> u16
     ensures { result ≡ least low (offending (here (Classes.message_waits bytes) m.now)) }
 {
     all_message_waits(m, low)
 }
 
-pub fn waits(m: &[u8]) -> u16
-    requires { (length m.now ≡ 8192) × Met.Single m.now }
+pub fn waits(m: &Memory) -> u16
+    requires { Met.Single m.now }
     ensures { result ≡ least 8192 (offending_in (here (Classes.of_waits bytes) m.now)) }
 {
     let a = queues_end(m, map::MEMORY_SIZE);

@@ -1,44 +1,101 @@
 -- What who runs is found by, step by step.
 use Prim.Native.Nat.{ℕ, zero, suc, ◌+◌, ◌-◌, ◌≤◌, ◌<◌}
-use mathlib.Core.Path.{◌≡◌, refl, ◌∙◌}
-use mathlib.Core.List.{List}
-use lib.Dec.{ltb}
+use mathlib.Core.Path.{◌≡◌, refl, sym, ◌∙◌}
+use mathlib.Core.List.{List, [], ◌∷◌}
+use mathlib.Core.Bool.{Bool, true, false}
+use denote.Param.Members.{Mut, Called}
+use Rattle.std.proofs.Common.{subst, ap, ⊎_elim, add-zero}
+use Rattle.std.specs.Bool.{then_some}
+use Rattle.std.specs.Option.{option_eq}
+use Rattle.std.specs.Array.{IsFromFnResult, IsFromFnResultFrom}
+use Rattle.std.proofs.lemmas.List.FromFn.{fill_by_all}
+use Rattle.std.proofs.lemmas.Bool.{cases_eq}
+use lib.Dec.{ltb, eqb}
 use lib.ListN.{get_or, set, replicate}
-use borrow.Author.Tests.{lt-ltb, le-ltb}
-use native.Mathlib.Numerals.{sub-one}
+use borrow.Author.Tests.{lt-ltb, le-ltb, eq-eqb, ne_eqb}
 use native.Mathlib.Omega.{arith}
+use Rattle.std.specs.Prelude.{Option, Some, None, cond}
+use Rattle.model.specs.declared.ControlPage.{ControlPage}
+use Rattle.model.specs.Coded.{found}
 use Rattle.model.specs.declared.Context.{Context}
-use Rattle.model.specs.Map.{place, zero_place, keeps, kept_count}
+use Rattle.model.specs.Map.{control_pages, list_link, processor_list, place, zero_place, keeps, kept_count}
 use Rattle.model.specs.Turn as Turn
-use Rattle.model.specs.Turn.{fold}
-use Rattle.model.specs.Bytes.{Memory, running, processors, chosen, at, word, store, write, walk, priority, stays, better, context_of}
-use Rattle.model.specs.Bytes.{saved_of, on_page0, kept_on, kept, restored, save, load, runs, hand_back}
-use Rattle.turn.specs.Words as Words
-use Rattle.turn.specs.Words.{read_zero, read_kept}
-use Rattle.queues.proofs.Laws.{walk_none, walk_end, walk_on}
+use Rattle.model.specs.Turn.{fold, nineteen}
+use Rattle.model.specs.Bytes.{Memory, running, processors, chosen, at, word, store, write, walk, ready, priority, stays, above, better, context_of}
+use Rattle.model.specs.Bytes.{saved_of, on_page0, kept_on, kept, restored, save, load, runs, who_runs, hand_back}
+use Rattle.turn.specs.Leading.{above_leader}
+use Rattle.queues.proofs.Laws.{found_none, found_is, none_is, some_is, some_not, NoZero, no_zero}
 use Rattle.processors.proofs.Records.{Bytes, back_same}
 
-pub above_is : (m : Memory) (b p v w : ℕ) → v ≡ priority m b → w ≡ priority m p → ltb v w ≡ ltb (priority m b) (priority m p)
-above_is m b p v w ev ew = rw (← ev, ← ew)
+-- ---- the one that runs
+pub stays_none : (m : Memory) (r : Option ControlPage) → None ≡ found (running m) → r ≡ None → r ≡ found (stays m (running m))
+unfolding Turn.stays
+stays_none m r e er = rw (eq-eqb (running m) 0 (none_is _ e)) (er ∙ sym (found_none 0 refl))
 
--- ---- over the list that hangs from a cell
-module _ {A : Type 0} (g : A → ℕ → A) (t : A) (n : ℕ) (m : Memory) (k a : ℕ) where
-  pub fold_none : n ≡ 0 → t ≡ fold g t (walk n m k a)
-  unfolding Turn.fold
-  fold_none e = rw (walk_none n m k a e)
+page_or_none : (p : ControlPage) (b : Bool) → (p.0 ≡ 0 → ⊥) → then_some b p ≡ found (cond b p.0 0)
+page_or_none p true z = sym (found_is p.0 z)
+page_or_none p false z = sym (found_none 0 refl)
 
-  pub fold_end : (w : ℕ) → w ≡ at m a → w ≡ 0 → t ≡ fold g t (walk n m k a)
-  unfolding Turn.fold
-  fold_end w e z = rw (walk_end n m k a w e z)
+pub stays_some : (m : Memory) (r : Option ControlPage) (p : ControlPage) (b : Bool) → Some p ≡ found (running m) → b ≡ ready m p.0 → r ≡ then_some b p → r ≡ found (stays m (running m))
+unfolding Turn.stays
+stays_some m r p b e eb er =
+    let z : running m ≡ 0 → ⊥ = some_not _ p e in
+    let k : p.0 ≡ running m = some_is _ p e in
+    rw (ne_eqb (running m) 0 z, ← k, ← eb) (er ∙ page_or_none p b (λ h. z (sym k ∙ h)))
 
-  pub fold_on : (w b : ℕ) (u r : A) → (n ≡ 0 → ⊥) → w ≡ at m a → (w ≡ 0 → ⊥) → u ≡ g t w → b ≡ place w k → r ≡ fold g u (walk (n - 1) m k b)
-      → r ≡ fold g t (walk n m k a)
-  unfolding Turn.fold
-  fold_on w b u r o e z eu eb er = rw (walk_on n m k a w b o e z eb, fold, ← eu) er
+-- ---- the best of a list
+-- what leads as the code has it, which is n in the model
+above_found : (m : Memory) (n p : ℕ) → above_leader m (found n) p ≡ above m n p
+unfolding Turn.above
+above_found m n p =
+    ⊎_elim (λ (z : n ≡ 0). rw (found_none n z, eq-eqb n 0 z)) (λ (z : n ≡ 0 → ⊥). rw (found_is n z, ne_eqb n 0 z)) (cases_eq n 0)
 
-pub chosen_is : (m : Memory) (r s p : ℕ) → r ≡ running m → s ≡ stays m r → p ≡ fold (better m) s (processors m) → p ≡ chosen m
+-- what leads so far, and what comes of the pages that are left
+pub record Leads (m : Memory) (l : Option ControlPage) (xs : List ℕ) : Type 0 where
+  pub number : ℕ
+  pub is : l ≡ found number
+  pub comes : fold (better m) number xs ≡ chosen m
+  pub pages : NoZero xs
+
+pub leads_first : (m : Memory) (l : Option ControlPage) (xs : List ℕ) → l ≡ found (stays m (running m)) → xs ≡ processors m → Leads m l xs
 unfolding Turn.chosen
-chosen_is m r s p er es ep = rw (← er, ← es) ep
+leads_first m l xs e ex = record {
+  number = stays m (running m);
+  is = e;
+  comes = rw ex;
+  pages = subst NoZero (sym ex) (no_zero control_pages m list_link processor_list);
+}
+
+pub leads_end : (m : Memory) (l : Option ControlPage) (xs : List ℕ) → Leads m l xs → xs ≡ [] → l ≡ found (chosen m)
+unfolding Turn.fold
+leads_end m l xs d e = d.is ∙ ap found (subst (λ ys. fold (better m) d.number ys ≡ chosen m) e d.comes)
+
+module _ (m : Memory) (l : Option ControlPage) (xs t : List ℕ) (p : ControlPage) (d : Leads m l xs) (e : xs ≡ p.0 ∷ t) where
+  -- the next page leads, as the number k in the model
+  leads_on : (r : Option ControlPage) (k : ℕ) → r ≡ found k → better m d.number p.0 ≡ k → Leads m r t
+  unfolding Turn.fold
+  leads_on r k er eb = record {
+    number = k;
+    is = er;
+    comes = subst (λ n. fold (better m) n t ≡ chosen m) eb (subst (λ ys. fold (better m) d.number ys ≡ chosen m) e d.comes);
+    pages = (subst NoZero e d.pages).1;
+  }
+
+  above_number : above_leader m l p.0 ≡ above m d.number p.0
+  above_number = subst (λ o. above_leader m o p.0 ≡ above m d.number p.0) (sym d.is) (above_found m d.number p.0)
+
+  pub leads_taken : true ≡ ready m p.0 → true ≡ above_leader m l p.0 → Leads m (Some p) t
+  unfolding Turn.better
+  leads_taken er ea =
+      leads_on (Some p) p.0 (sym (found_is p.0 (subst NoZero e d.pages).0)) (rw (← er, ← above_number, ← ea))
+
+  pub leads_unready : false ≡ ready m p.0 → Leads m l t
+  unfolding Turn.better
+  leads_unready er = leads_on l d.number d.is (rw (← er))
+
+  pub leads_below : true ≡ ready m p.0 → false ≡ above_leader m l p.0 → Leads m l t
+  unfolding Turn.better
+  leads_below er ea = leads_on l d.number d.is (rw (← er, ← above_number, ← ea))
 
 -- ---- contexts
 pub zero_first : (i : ℕ) → i < 3 → 4 + i ≡ zero_place i
@@ -47,59 +104,51 @@ zero_first i h = rw (lt-ltb i 3 h)
 pub zero_later : (i : ℕ) → 3 ≤ i → 13 + i ≡ zero_place i
 zero_later i h = rw (le-ltb i 3 h)
 
-pub zero_none : (n : ℕ) (m : Memory) (w : List ℕ) → n ≡ 0 → w ≡ read_zero n m w
-unfolding Words.read_zero
-zero_none zero m w e = refl
-zero_none (suc n) m w e = absurd (omega arith)
+-- what is made by a function of the index, which calls to the closure compute
+from_fn_at : {F : Type 0} (g : Mut F (ℕ × Unit {0}) ℕ) (h : ℕ → ℕ) (f : F) (ys : List ℕ) (i n : ℕ) → ((x y : ℕ) (q : F) → Called g f (x, tt) y q → (q ≡ f) × (y ≡ h x))
+    → IsFromFnResultFrom g f ys i n → (k : ℕ) → k < n → get_or ys (i + k) 0 ≡ h (i + k)
+from_fn_at g h f ys i zero calls e k l = absurd (omega arith)
+from_fn_at g h f ys i (suc n) calls e zero l = rw add-zero ((e.2).1 0 ∙ (calls i e.1 e.0 e.3).1)
+from_fn_at g h f ys i (suc n) calls e (suc k) l =
+    let s : i + suc k ≡ i + 1 + k = omega arith in
+    let more : IsFromFnResultFrom g f ys (i + 1) n = subst (λ q. IsFromFnResultFrom g q ys (i + 1) n) (calls i e.1 e.0 e.3).0 e.4 in
+    rw s (from_fn_at g h f ys (i + 1) n calls more k (omega arith))
 
-pub zero_on : (n a v : ℕ) (m : Memory) (w u r : List ℕ) → (n ≡ 0 → ⊥) → a ≡ zero_place (n - 1) → v ≡ at m a → u ≡ set w (n - 1) v → r ≡ read_zero (n - 1) m u
-    → r ≡ read_zero n m w
-unfolding Words.read_zero
-zero_on zero a v m w u r o ea ev eu er = absurd (o refl)
-zero_on (suc n) a v m w u r o ea ev eu er =
-    rw (← (simp sub-one at ea), ← ev, ← (simp sub-one at eu)) (simp sub-one at er)
+pub words_made : {F : Type 0} (g : Mut F (ℕ × Unit {0}) ℕ) (h : ℕ → ℕ) (f : F) (ys : List ℕ) → IsFromFnResult g f ys 19
+    → ((x y : ℕ) (q : F) → Called g f (x, tt) y q → (q ≡ f) × (y ≡ h x)) → ys ≡ nineteen h
+words_made g h f ys e calls =
+    fill_by_all h ys 19 0 e.long (λ k l. let z : 0 + k ≡ k = omega arith in rw z at (from_fn_at g h f ys 0 19 calls e.each k l))
 
-pub zero_read : (m : Memory) (r : List ℕ) → r ≡ read_zero kept_count m (replicate kept_count 0) → r ≡ on_page0 m
-unfolding Words.read_zero Turn.on_page0
-zero_read m r e = e
-
-pub keeping_none : (n : ℕ) (m : Memory) (p : ℕ) (w : List ℕ) → n ≡ 0 → w ≡ read_kept n m p w
-unfolding Words.read_kept
-keeping_none zero m p w e = refl
-keeping_none (suc n) m p w e = absurd (omega arith)
-
-pub keeping_on : (n v : ℕ) (m : Memory) (p : ℕ) (w u r : List ℕ) → (n ≡ 0 → ⊥) → v ≡ word m p (keeps (n - 1)) → u ≡ set w (n - 1) v
-    → r ≡ read_kept (n - 1) m p u → r ≡ read_kept n m p w
-unfolding Words.read_kept
-keeping_on zero v m p w u r o ev eu er = absurd (o refl)
-keeping_on (suc n) v m p w u r o ev eu er = rw (← (simp sub-one at ev), ← (simp sub-one at eu)) (simp sub-one at er)
-
-pub keeping_read : (m : Memory) (p : ℕ) (r : List ℕ) → r ≡ read_kept kept_count m p (replicate kept_count 0) → r ≡ kept_on m p
-unfolding Words.read_kept Turn.kept_on
-keeping_read m p r e = e
-
-pub kept_none : (n : ℕ) (m : Memory) (p : ℕ) (w : List ℕ) → n ≡ 0 → m ≡ kept n m p w
+-- a turn of the loop that keeps, of the one that restores, and their ends: n words are left
+kept_more : (n j : ℕ) (m : Memory) (p : ℕ) (w : List ℕ) → n ≡ j + 1 → kept n m p w ≡ kept j (store m p (keeps j) (get_or w j 0)) p w
 unfolding Turn.kept
-kept_none zero m p w e = refl
-kept_none (suc n) m p w e = absurd (omega arith)
+kept_more zero j m p w e = absurd (omega arith)
+kept_more (suc n) j m p w e = let k : n ≡ j = omega arith in rw k
 
-pub kept_on_lem : (n : ℕ) (m m₁ m₂ : Memory) (p : ℕ) (w : List ℕ) → (n ≡ 0 → ⊥) → m₁ ≡ store m p (keeps (n - 1)) (get_or w (n - 1) 0) → m₂ ≡ kept (n - 1) m₁ p w
-    → m₂ ≡ kept n m p w
+pub kept_on_lem : (n : ℕ) (m m₁ r : Memory) (p : ℕ) (w : List ℕ) → kept n m p w ≡ r → 0 < n → m₁ ≡ store m p (keeps (n - 1)) (get_or w (n - 1) 0) → kept (n - 1) m₁ p w ≡ r
+kept_on_lem n m m₁ r p w e l e₁ = rw e₁ (sym (kept_more n (n - 1) m p w (omega arith)) ∙ e)
+
+pub kept_end : (n : ℕ) (m r : Memory) (p : ℕ) (w : List ℕ) → kept n m p w ≡ r → n ≤ 0 → m ≡ r
 unfolding Turn.kept
-kept_on_lem zero m m₁ m₂ p w o e₁ e₂ = absurd (o refl)
-kept_on_lem (suc n) m m₁ m₂ p w o e₁ e₂ = rw (← (simp sub-one at e₁)) (simp sub-one at e₂)
+kept_end zero m r p w e l = e
+kept_end (suc n) m r p w e l = absurd (omega arith)
 
-pub restored_none : (n : ℕ) (m : Memory) (w : List ℕ) → n ≡ 0 → m ≡ restored n m w
-unfolding Turn.restored
-restored_none zero m w e = refl
-restored_none (suc n) m w e = absurd (omega arith)
+pub ruleset keeping = (kept_on_lem, kept_end)
 
-pub restored_on : (n : ℕ) (m m₁ m₂ : Memory) (a : ℕ) (w : List ℕ) → (n ≡ 0 → ⊥) → a ≡ zero_place (n - 1) → m₁ ≡ write m a (get_or w (n - 1) 0)
-    → m₂ ≡ restored (n - 1) m₁ w
-    → m₂ ≡ restored n m w
+restored_more : (n j : ℕ) (m : Memory) (w : List ℕ) → n ≡ j + 1 → restored n m w ≡ restored j (write m (zero_place j) (get_or w j 0)) w
 unfolding Turn.restored
-restored_on zero m m₁ m₂ a w o ea e₁ e₂ = absurd (o refl)
-restored_on (suc n) m m₁ m₂ a w o ea e₁ e₂ = rw (← (simp sub-one at ea), ← (simp sub-one at e₁)) (simp sub-one at e₂)
+restored_more zero j m w e = absurd (omega arith)
+restored_more (suc n) j m w e = let k : n ≡ j = omega arith in rw k
+
+pub restored_on : (n a : ℕ) (m m₁ r : Memory) (w : List ℕ) → restored n m w ≡ r → 0 < n → a ≡ zero_place (n - 1) → m₁ ≡ write m a (get_or w (n - 1) 0) → restored (n - 1) m₁ w ≡ r
+restored_on n a m m₁ r w e l ea e₁ = rw (e₁, ea) (sym (restored_more n (n - 1) m w (omega arith)) ∙ e)
+
+pub restored_end : (n : ℕ) (m r : Memory) (w : List ℕ) → restored n m w ≡ r → n ≤ 0 → m ≡ r
+unfolding Turn.restored
+restored_end zero m r w e l = e
+restored_end (suc n) m r w e l = absurd (omega arith)
+
+pub ruleset restoring = (restored_on, restored_end)
 
 -- ---- the change
 -- the registers of a context come back to where they were taken from, so they change nothing
@@ -112,24 +161,60 @@ module _ (m m₁ m₂ : Memory) (p : ℕ) (c : Context) (b : Bytes m) where
   unfolding Turn.saved_of
   load_is ec e₁ e₂ = let e : m₁ ≡ m = rw ec at e₁ ∙ back_same m p b in rw (e, ec) at e₂
 
-pub switch_is : (m m₁ m₂ m₃ : Memory) (a b : ℕ) → m₁ ≡ save m a → m₂ ≡ load m₁ b → m₃ ≡ runs m₂ b → m₃ ≡ runs (load (save m a) b) b
-switch_is m m₁ m₂ m₃ a b e₁ e₂ e₃ = rw (← e₁, ← e₂) e₃
+-- ---- who runs is changed: from a page or none to a page or none
+found_one : (a b : ℕ) → found a ≡ found b → a ≡ b
+found_one a b e =
+    ⊎_elim (λ (z : b ≡ 0). let h : found a ≡ None = e ∙ found_none b z in none_is a (sym h) ∙ sym z)
+    (λ (z : b ≡ 0 → ⊥). let h : found a ≡ Some (record { 0 = b }) = e ∙ found_is b z in sym (some_is a (record { 0 = b }) (sym h))) (cases_eq b 0)
 
-pub ruleset turns = (
-  above_is,
-  fold_none,
-  fold_end,
-  fold_on,
-  chosen_is,
-  zero_first,
-  zero_later,
-  kept_none,
-  kept_on_lem,
-  restored_none,
-  restored_on,
-  save_is,
-  load_is,
-  switch_is,
-)
+-- whether two are the same page, or both none
+abbrev pub same : Option ControlPage → Option ControlPage → Bool
+same o n = option_eq (λ (p q : ControlPage). eqb p.0 q.0) o n
 
-pub ruleset reads = (zero_none, zero_on, zero_read, keeping_none, keeping_on, keeping_read)
+same_is : (o n : Option ControlPage) → true ≡ same o n → o ≡ n
+same_is None None e = refl
+same_is None (Some q) e = cc
+same_is (Some p) None e = cc
+same_is (Some p) (Some q) e =
+    ⊎_elim (λ (h : p.0 ≡ q.0). ap (λ (k : ℕ). Some (record { 0 = k })) h) (λ (z : p.0 ≡ q.0 → ⊥). let h : eqb p.0 q.0 ≡ false = ne_eqb p.0 q.0 z in cc) (cases_eq p.0 q.0)
+
+same_self : (o : Option ControlPage) → same o o ≡ true
+same_self None = refl
+same_self (Some p) = eq-eqb p.0 p.0 refl
+
+module _ (m : Memory) (o n : Option ControlPage) (eo : o ≡ found (running m)) (en : n ≡ found (chosen m)) where
+  pub turn_stays : true ≡ same o n → m ≡ who_runs m
+  unfolding Turn.who_runs Turn.switch
+  turn_stays e =
+      let h : running m ≡ chosen m = found_one (running m) (chosen m) (sym eo ∙ same_is o n e ∙ en) in rw (eq-eqb (running m) (chosen m) h)
+
+  pub turn_changes : (m₁ m₂ m₃ : Memory) → false ≡ same o n → m₁ ≡ save m (running m) → m₂ ≡ load m₁ (chosen m) → m₃ ≡ runs m₂ (chosen m) → m₃ ≡ who_runs m
+  unfolding Turn.who_runs Turn.switch
+  turn_changes m₁ m₂ m₃ e e₁ e₂ e₃ =
+      let z : running m ≡ chosen m → ⊥ =
+      λ h. let k : o ≡ n = eo ∙ ap found h ∙ sym en in let t : same o n ≡ true = subst (λ r. same o r ≡ true) k (same_self o) in cc in
+      rw (ne_eqb (running m) (chosen m) z, ← e₁, ← e₂) e₃
+
+-- k is the number of the page, or 0
+module _ (m m₁ : Memory) (o : Option ControlPage) (k : ℕ) (eo : o ≡ found k) where
+  pub saved_none : o ≡ None → m ≡ save m k
+  unfolding Turn.save
+  saved_none e = rw (eq-eqb k 0 (none_is k (sym e ∙ eo)))
+
+  pub saved_some : (p : ControlPage) → o ≡ Some p → m₁ ≡ kept kept_count m p.0 (on_page0 m) → m₁ ≡ save m k
+  unfolding Turn.save
+  saved_some p e e₁ = rw (ne_eqb k 0 (some_not k p (sym e ∙ eo)), ← (some_is k p (sym e ∙ eo))) e₁
+
+  pub loaded_none : o ≡ None → m ≡ load m k
+  unfolding Turn.load
+  loaded_none e = rw (eq-eqb k 0 (none_is k (sym e ∙ eo)))
+
+  pub loaded_some : (p : ControlPage) → o ≡ Some p → m₁ ≡ restored kept_count m (kept_on m p.0) → m₁ ≡ load m k
+  unfolding Turn.load
+  loaded_some p e e₁ = rw (ne_eqb k 0 (some_not k p (sym e ∙ eo)), ← (some_is k p (sym e ∙ eo))) e₁
+
+  pub runs_none : o ≡ None → m₁ ≡ runs m 0 → m₁ ≡ runs m k
+  runs_none e e₁ = rw (none_is k (sym e ∙ eo)) e₁
+
+  pub runs_some : (p : ControlPage) → o ≡ Some p → m₁ ≡ runs m p.0 → m₁ ≡ runs m k
+  runs_some p e e₁ = rw (← (some_is k p (sym e ∙ eo))) e₁

@@ -1,2 +1,2 @@
--- What a contract of the context cites beside the model.
-pub mod Words
+-- What a contract of the turn cites beside the model.
+pub mod Leading

@@ -1,29 +1,27 @@
 // Memory map: words read and written, 13-bit addresses, protected words.
 #![tactic(auto)]
 
-ghost use Rattle.std.specs.Prelude.{◌≡◌, ◌<◌, ◌≤◌, ◌+◌, length};
+ghost use Rattle.std.specs.Prelude.{◌≡◌, ◌<◌, ◌≤◌, ◌+◌};
 ghost use Rattle.model.specs.Map as Map;
 ghost use Rattle.model.specs.Address as Address;
 ghost use Rattle.model.specs.Bytes as Model;
 
-use model::{map, wide};
+use model::{Memory, map, wide};
 
 // The word at an address.
-pub fn at(m: &[u8], address: u16) -> u8
-    requires { (length m.now ≡ 8192) × (address < 8192) }
+pub fn at(m: &Memory, address: u16) -> u8
+    requires { address < 8192 }
     ensures { result ≡ Model.at m.now address }
 {
-    let i = address as usize;
-    m[i]
+    m[usize::from(address)]
 }
 
 // The value becomes the word at an address.
-pub fn write(m: &mut [u8], address: u16, value: u8)
-    requires { (length m.old ≡ 8192) × (address < 8192) }
+pub fn write(m: &mut Memory, address: u16, value: u8)
+    requires { address < 8192 }
     ensures { m.new ≡ Model.write m.old address value }
 {
-    let i = address as usize;
-    m[i] = value;
+    m[usize::from(address)] = value;
 }
 
 // The sum of two 13-bit addresses, modulo 8,192.
@@ -35,13 +33,11 @@ pub fn wrapped(address: u16, offset: u16) -> u16
 }
 
 // The address in two words at an address: the low five bits of the first, and the second.
-pub fn address_at(m: &[u8], address: u16) -> u16
-    requires { (length m.now ≡ 8192) × (address < 8192) }
+pub fn address_at(m: &Memory, address: u16) -> u16
+    requires { address < 8192 }
     ensures { (result ≡ Model.address_at m.now address) × (result < 8192) }
 {
-    let i = address as usize;
-    let j = (i + 1) % map::MEMORY_WORDS;
-    wide(m[i]) % map::HIGHS_WIDE * map::WORD_VALUES + wide(m[j])
+    wide(at(m, address)) % map::HIGHS_WIDE * map::WORD_VALUES + wide(at(m, wrapped(address, 1)))
 }
 
 // The high five bits of an address, and the low eight.
@@ -61,67 +57,55 @@ pub fn low(number: u16) -> u8
 pub fn raised(word: u8) -> u8
     ensures { result ≡ Map.raised word }
 {
-    ((wide(word) + 1) % map::WORD_VALUES) as u8
+    word.wrapping_add(1)
 }
 
 pub fn lowered(word: u8) -> u8
     ensures { result ≡ Map.lowered word }
 {
-    ((wide(word) + map::A_WORD_WIDE) % map::WORD_VALUES) as u8
+    word.wrapping_sub(1)
 }
 
 // Whether an address is protected.
+#[tactic(auto, using(model::proofs::Tests::tests), unfolding(model::specs::Address::guarded))]
 pub fn guarded(address: u16) -> bool
     ensures { result ≡ Address.guarded address }
 {
-    if address < map::GUARDED_END {
-        return true;
-    }
-    if address < map::GUARDED_FROM {
-        return false;
-    }
-    if address < map::GUARDED_TO {
-        return true;
-    }
-    map::GUARDED_LAST <= address
+    address < map::GUARDED_END
+        || (map::GUARDED_FROM..map::GUARDED_TO).contains(&address)
+        || map::GUARDED_LAST <= address
 }
 
 // Whether none of so many words from an address on is protected.
+#[tactic(auto, using(crate::proofs::Laws::clear_all))]
 pub fn clear(count: u8, address: u16) -> bool
     requires { address < 8192 }
     ensures { result ≡ Address.clear count address }
 {
-    if count == 0 {
-        return true;
-    }
-    let b = wrapped(address, wide(count - 1));
-    if guarded(b) {
-        return false;
-    }
-    clear(count - 1, address)
+    (0..count).all(|offset| !guarded(wrapped(address, wide(offset))))
 }
 
 // So many words are copied.
-pub fn copy(m: &mut [u8], from: u16, to: u16, count: u8)
-    requires { (length m.old ≡ 8192) × (from < 8192) × (to < 8192) }
+#[tactic(auto, using(crate::proofs::Laws::copied))]
+pub fn copy(m: &mut Memory, from: u16, to: u16, count: u8)
+    requires { (from < 8192) × (to < 8192) }
     ensures { m.new ≡ Model.copy count m.old from to }
 {
-    if count == 0 {
-        return;
+    let mut source = from;
+    let mut target = to;
+    for _ in 0..count {
+        let word = at(m, source);
+        write(m, target, word);
+        source = wrapped(source, 1);
+        target = wrapped(target, 1);
     }
-    let word = at(m, from);
-    write(m, to, word);
-    copy(m, wrapped(from, 1), wrapped(to, 1), count - 1);
 }
 
 // So many words from an address on become 0.
-pub fn zero(m: &mut [u8], address: u16, count: u16)
-    requires { (length m.old ≡ 8192) × (address + count ≤ 8192) }
+pub fn zero(m: &mut Memory, address: u16, count: u16)
+    requires { address + count ≤ 8192 }
     ensures { m.new ≡ Model.zeroed count m.old address }
 {
-    let mut left = count;
-    while 0 < left {
-        left -= 1;
-        write(m, address + left, 0);
-    }
+    let start = usize::from(address);
+    m[start..start + usize::from(count)].fill(0);
 }

@@ -1,0 +1,2 @@
+-- What taking a page gives.
+pub mod Taken
