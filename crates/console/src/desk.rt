@@ -7,10 +7,9 @@ use model::{Answer, Writing, map};
 use screen::kept::Kept;
 use std::io;
 
-// Why a line is not carried out; or what the system said, which ends the script.
+// Why an order is not carried out; or what the system said, which ends the script.
 #[derive(Debug, Drop)]
 pub enum Failure {
-    NotUnderstood,
     NotAllowed,
     System(io::Error),
 }

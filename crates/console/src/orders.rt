@@ -87,7 +87,7 @@ impl<'a, R: Files + Print, E: Print> Desk<'a, R, E> {
             return Err(Failure::NotAllowed);
         };
         self.write()?;
-        if replace(self.rt, self.errors, name, &self.m[..self.lent]) {
+        if replace(self.rt, self.errors, name, &self.m[..self.lent]).is_ok() {
             self.writing(Writing::Written(self.lent))?;
         }
         Ok(())
@@ -99,7 +99,6 @@ impl<'a, R: Files + Print, E: Print> Desk<'a, R, E> {
     {
         match order {
             Order::Nothing => {}
-            Order::NotUnderstood => return Err(Failure::NotUnderstood),
             Order::Fresh(clock, divider) => self.call(|m| kernel::fresh(m, clock, divider))?,
             Order::Step => self.call(|m| kernel::instruction(m))?,
             Order::Interrupt(number, class) => self.call(|m| kernel::interrupt(m, number, class))?,
@@ -135,10 +134,11 @@ impl<'a, R: Files + Print, E: Print> Desk<'a, R, E> {
     // Carries out a line, by its number.
     pub fn run_line(&mut self, line: &[u8], number: u64) -> io::Result<()> {
         let mut given = [0u16; script::sizes::MOST_NUMBERS];
-        let order = script::parse(line, &mut given);
+        let Some(order) = script::parse(line, &mut given) else {
+            return self.not_understood(number);
+        };
         match self.obey(order, line, &given) {
             Ok(()) => Ok(()),
-            Err(Failure::NotUnderstood) => self.not_understood(number),
             Err(Failure::NotAllowed) => self.not_allowed(),
             Err(Failure::System(error)) => Err(error),
         }

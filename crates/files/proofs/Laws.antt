@@ -5,10 +5,8 @@ use mathlib.Core.List.{List, [], ◌∷◌, ◌++◌}
 use lib.ListN.{length, take, drop, length-append}
 use lib.Seq.{length-take-le, take-append_seam, take_at}
 use native.Mathlib.Omega.{arith}
-use Rattle.files.specs.declared.Got.{Got}
-use Rattle.files.specs.declared.Got.TheVariants.{Has}
 use Rattle.files.specs.Files as Files
-use Rattle.files.specs.Files.{new_bytes, new_name, got_bytes}
+use Rattle.files.specs.Files.{new_bytes, new_name}
 
 -- ---- the name of the new file
 pub new_name_lem : (f l l₁ l₂ : List ℕ) → l₁ ≡ take 0 l ++ f ++ drop (0 + length f) l
@@ -23,18 +21,3 @@ pub new_long : (f l l₁ l₂ : List ℕ) → l₁ ≡ take 0 l ++ f ++ drop (0 
     → l₂ ≡ take (length f) l₁ ++ (46 ∷ 110 ∷ 101 ∷ 119 ∷ []) ++ drop (length f + new_bytes) l₁ → length f + new_bytes ≡ length (take (length f + new_bytes) l₂)
 unfolding Files.new_name
 new_long f l l₁ l₂ e₁ e₂ = sym (ap length (new_name_lem f l l₁ l₂ e₁ e₂) ∙ length-append f (46 ∷ 110 ∷ 101 ∷ 119 ∷ []))
-
--- ---- what was read stands in the buffer
-pub read_fits : (r : Got) (n k : ℕ) → got_bytes r ≤ k → r ≡ Has n → n ≤ k
-read_fits r n k h e = rw e at h
-
-pub counts_is : (l : List ℕ) (n : ℕ) → n ≤ length l → n ≡ length (take n l)
-counts_is l n h = sym (length-take-le n l h)
-
-pub counts_below : (l : List ℕ) (n k : ℕ) → n ≤ k → length l ≡ k → n ≡ length (take n l)
-counts_below l n k h e = counts_is l n (omega arith)
-
-pub prefix_most : (l : List ℕ) (n k : ℕ) → n ≤ length l → length l ≡ k → length (take n l) ≤ k
-prefix_most l n k h e = omega (arith, counts_is l n h)
-
-pub ruleset reading = (read_fits, counts_is, counts_below, prefix_most)

@@ -1,13 +1,5 @@
--- How many bytes were read of a file, and the name of the new one.
+-- The name of the new file.
 use Rattle.std.specs.Prelude.{ℕ, List, [], ◌∷◌, ◌++◌}
-use Rattle.files.specs.declared.Got.{Got}
-use Rattle.files.specs.declared.Got.TheVariants.{Has, TooLong, Missing, Failed}
-
-abbrev pub got_bytes : Got → ℕ
-got_bytes (Has n) = n
-got_bytes TooLong = 0
-got_bytes Missing = 0
-got_bytes Failed = 0
 
 -- a file's name is at most so long; ".new" behind it
 abbrev pub name_room : ℕ

@@ -4,7 +4,8 @@ ghost use Rattle.std.specs.Prelude.{◌≡◌, IfOk};
 use std::io;
 use std::io::{Cursor, Error, Write};
 
-// Linux's numbers of errors, on x86-64 and aarch64: there is no such file, a byte of the name is 0, the name is too long, the name is not UTF-8.
+// Linux's numbers of errors, on x86-64 and aarch64: there is no such file, a byte of the name is 0, the name is too long, the name is not UTF-8. They stay
+// numbers, since the words that are printed of an `ErrorKind` are not the system's.
 const NO_ENTRY: i32 = 2;
 
 const INVALID: i32 = 22;
@@ -32,21 +33,15 @@ pub fn path_of(name: &[u8]) -> io::Result<&str>
     if name.contains(&0) {
         return Err(Error::from_raw_os_error(INVALID));
     }
-    match str::from_utf8(name) {
-        Ok(path) => Ok(path),
-        Err(_) => Err(Error::from_raw_os_error(NOT_UTF_8)),
-    }
+    str::from_utf8(name).map_err(|_| Error::from_raw_os_error(NOT_UTF_8))
 }
 
 // The words of an error, without its number.
 fn words(said: &[u8]) -> &[u8] {
-    match str::from_utf8(said) {
-        Ok(text) => match text.rsplit_once(NUMBER) {
-            Some((front, _)) => front.as_bytes(),
-            None => said,
-        },
-        Err(_) => said,
-    }
+    str::from_utf8(said)
+        .ok()
+        .and_then(|text| text.rsplit_once(NUMBER))
+        .map_or(said, |(front, _)| front.as_bytes())
 }
 
 fn write_words<E: Print>(errors: &E, error: Error) -> io::Result<()> {
@@ -64,12 +59,17 @@ fn write_line<E: Print>(errors: &E, name: &[u8], error: Error) -> io::Result<()>
     errors.write_all(b"\n")
 }
 
+// An error of the system of which its line is written already.
+#[derive(Clone, Copy, Debug, PartialEq, Eq)]
+pub struct Told;
+
 // A line of what the system says of the file with a name.
-pub fn fail<E: Print>(errors: &E, name: &[u8], error: Error) {
+pub fn fail<E: Print>(errors: &E, name: &[u8], error: Error) -> Told {
     let _ = write_line(errors, name, error);
+    Told
 }
 
 // The line of a file that is missing.
-pub fn fail_missing<E: Print>(errors: &E, name: &[u8]) {
-    fail(errors, name, Error::from_raw_os_error(NO_ENTRY));
+pub fn fail_missing<E: Print>(errors: &E, name: &[u8]) -> Told {
+    fail(errors, name, Error::from_raw_os_error(NO_ENTRY))
 }

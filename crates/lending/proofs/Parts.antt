@@ -41,7 +41,7 @@ fresh_is m l f x k a n r h ef e =
     rw (z, ← g)
 
 -- the buffer l becomes l₁, which is copied back
-pub back_is : (m m₁ l l₁ : List ℕ) (a u b n : ℕ) (r : Writing) → gives r l₁ ≡ write_settings l u (part m b (b + n - b)) → m₁ ≡ Parts.with_part m a l₁
+back_is : (m m₁ l l₁ : List ℕ) (a u b n : ℕ) (r : Writing) → gives r l₁ ≡ write_settings l u (part m b (b + n - b)) → m₁ ≡ Parts.with_part m a l₁
     → gives r m₁ ≡ back m a (write_settings l u (part m b n))
 unfolding Parts.back
 back_is m m₁ l l₁ a u b n r e e₁ =
@@ -49,10 +49,14 @@ back_is m m₁ l l₁ a u b n r e e₁ =
     let g = rw z at e in
     rw (← g, e₁)
 
-pub written_in_lem : (m m₁ l f : List ℕ) (a k u b n : ℕ) (r : Writing) → a + k ≤ length m → f ≡ part m a k ++ drop k l
+written_in_lem : (m m₁ l f : List ℕ) (a k u b n : ℕ) (r : Writing) → a + k ≤ length m → f ≡ part m a k ++ drop k l
     → gives r m₁ ≡ back m a (write_settings (take (k - 0) (drop 0 f)) u (part m b n))
     → gives r m₁ ≡ written_in m a k u b n
 unfolding Parts.written_in
 written_in_lem m m₁ l f a k u b n r h ef e = rw (front_is m l f a k h ef) at e
 
-pub ruleset parts = (out_is, fresh_is, back_is, written_in_lem)
+pub written_is : (m m₁ l f l₁ : List ℕ) (a k u b n : ℕ) (r : Writing) → a + k ≤ length m → f ≡ part m a k ++ drop k l
+    → gives r l₁ ≡ write_settings (take (k - 0) (drop 0 f)) u (part m b (b + n - b)) → m₁ ≡ Parts.with_part m a l₁ → gives r m₁ ≡ written_in m a k u b n
+written_is m m₁ l f l₁ a k u b n r h ef e e₁ = written_in_lem m m₁ l f a k u b n r h ef (back_is m m₁ (take (k - 0) (drop 0 f)) l₁ a u b n r e e₁)
+
+pub ruleset parts = (out_is, fresh_is, written_is)

@@ -7,7 +7,7 @@ ghost use Rattle.std.specs.Prelude.{◌≤◌, IfSome, length};
 
 use comparing::{Cursor, Step, next};
 use files::saying::fail_missing;
-use files::{Got, name_of, read_file, word_count};
+use files::{Unread, name_of, read_file, word_count};
 use lines::tell_line;
 use screen::kept::Kept;
 use std::env::Env;
@@ -53,13 +53,13 @@ fn read<R: Env + Files, E: Print>(
     let mut name = [0u8; NAME_ROOM];
     let end = name_of(rt, number, &mut name);
     match read_file(rt, errors, &name[..end], file) {
-        Got::Has(count) => Some(count),
-        Got::TooLong => Some(0),
-        Got::Missing => {
+        Ok(count) => Some(count),
+        Err(Unread::TooLong) => Some(0),
+        Err(Unread::Missing) => {
             fail_missing(errors, &name[..end]);
             None
         }
-        Got::Failed => None,
+        Err(Unread::Told) => None,
     }
 }
 

@@ -12,19 +12,15 @@ largest_number = 65535
 abbrev pub no_number : ℕ
 no_number = 65536
 
--- "1 to 32 values", behind an address: with it one number more
-abbrev pub most_stored : ℕ
-most_stored = 33
+-- "1 to 32 values", behind an address
+abbrev pub most_values : ℕ
+most_values = 32
 
--- `burst`: "as many numbers as a line of 255 characters holds", behind its five letters, each with a space before it; and what stands for too many
--- or a wrong one
+-- `burst`: "as many numbers as a line of 255 characters holds", behind its five letters, each with a space before it
 abbrev pub most_numbers : ℕ
 most_numbers = 125
 
-abbrev pub wrong_numbers : ℕ
-wrong_numbers = 126
-
--- "parted by spaces"; "#"; the digits 0 and 9
+-- "parted by spaces"; "#"; the digit 0
 abbrev pub space : ℕ
 space = 32
 
@@ -33,6 +29,3 @@ sharp = 35
 
 abbrev pub digit0 : ℕ
 digit0 = 48
-
-abbrev pub digit9 : ℕ
-digit9 = 57

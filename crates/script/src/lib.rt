@@ -4,12 +4,12 @@
 pub mod reading;
 pub mod sizes;
 
-ghost use Rattle.std.specs.Prelude.{◌≡◌, ◌≤◌, length};
-ghost use Rattle.script.specs.Sizes.{most_numbers};
+ghost use Rattle.std.specs.Prelude.{◌≡◌, ◌<◌, ◌≤◌, ◌↔◌, IsTrue, length};
+ghost use Rattle.script.specs.Sizes.{most_numbers, most_values};
 ghost use Rattle.script.specs.Script as Script;
 ghost use Rattle.script.specs.Script.Parsed.{parsed};
 
-use reading::{ended, ends, is_word, numbers, skip, word_end};
+use reading::{ended, ends, numbers, skip, word_len};
 
 // The seven numbers of `set`.
 #[derive(Clone, Copy)]
@@ -33,12 +33,11 @@ pub struct Five {
     pub length: u16,
 }
 
-// What a line asks for. The values of Put and Break, as many as their second number says, and those of Burst stand beside it. The name of Save stands in the
-// line, between two places.
+// What a line asks for. The values of Put and Break, as many as their second number says, and those of Burst stand beside it, in the room that the caller
+// lends: there is no heap. The name of Save stands in the line, between two places: an order with a reference in it would be no value that a contract equates.
 #[derive(Clone, Copy)]
 pub enum Order {
     Nothing,
-    NotUnderstood,
     Fresh(u16, u16),
     Step,
     Interrupt(u16, u16),
@@ -57,227 +56,122 @@ pub enum Order {
     Show,
 }
 
-// An order, which has so many numbers, of a line with `count`.
-fn counted(order: Order, count: usize, wanted: usize) -> Order
-    ensures { result ≡ Script.counted order count wanted }
-{
-    if count == wanted {
-        return order;
-    }
-    Order::NotUnderstood
-}
-
-// How many values stand behind the address in `count` numbers; 0 where they are not 1 to 32.
-fn values(count: usize) -> usize
-    ensures { result ≡ Script.values count }
-{
-    if count < 2 {
-        return 0;
-    }
-    if sizes::MOST_STORED < count {
-        return 0;
-    }
-    count - 1
-}
-
-// Any count of numbers will do, none too; a wrong one will not.
-fn burst(count: usize) -> Order
-    ensures { result ≡ Script.burst count }
-{
-    if sizes::MOST_NUMBERS < count {
-        return Order::NotUnderstood;
-    }
-    Order::Burst(count)
-}
-
-// An order with so many values.
-fn valued(order: Order, values: usize) -> Order
-    ensures { result ≡ Script.valued order values }
-{
-    if values == 0 {
-        return Order::NotUnderstood;
-    }
-    order
-}
-
-// The class number may be left out.
-fn interrupt(given: &[u16], count: usize) -> Order
-    requires { length given.now ≡ most_numbers }
-    ensures { result ≡ Script.interrupt given.now count }
-{
-    if count == 1 {
-        return Order::Interrupt(given[0], 0);
-    }
-    counted(Order::Interrupt(given[0], given[1]), count, 2)
-}
-
-fn registers(given: &[u16]) -> Seven
-    requires { length given.now ≡ most_numbers }
-    ensures { result ≡ Script.registers given.now }
-{
-    Seven {
-        a: given[0],
-        s: given[1],
-        p: given[2],
-        z: given[3],
-        ci: given[4],
-        lr: given[5],
-        w: given[6],
-    }
-}
-
-fn parts_written(given: &[u16]) -> Five
-    requires { length given.now ≡ most_numbers }
-    ensures { result ≡ Script.parts_written given.now }
-{
-    Five {
-        file: given[0],
-        room: given[1],
-        used: given[2],
-        block: given[3],
-        length: given[4],
-    }
-}
-
-// A file's name is one word behind the order's own, which ends at a place.
-fn save(line: &[u8], end: usize) -> Order
-    requires { end ≤ length line.now }
-    ensures { result ≡ Script.save line.now end }
-{
-    let begin = skip(line, end, line.len() - end);
-    let behind = word_end(line, begin, line.len() - begin);
-    if behind == begin {
-        return Order::NotUnderstood;
-    }
-    if ended(line, behind) {
-        return Order::Save(begin, behind);
-    }
-    Order::NotUnderstood
-}
-
-// The orders by their words; the line has one between two places, `given` has the numbers behind it, so many.
-#[tactic(auto, unfolding(crate::specs::Script::host_order))]
-fn host_order(line: &[u8], at: usize, end: usize, given: &[u16], count: usize) -> Order
-    requires { (at ≤ end) × (end ≤ length line.now) × (length given.now ≡ most_numbers) }
-    ensures { result ≡ Script.host_order line.now at end given.now count }
-{
-    if is_word(line, at, end, b"words") {
-        return counted(Order::Words(given[0], given[1]), count, 2);
-    }
-    if is_word(line, at, end, b"changes") {
-        return counted(Order::Changes, count, 0);
-    }
-    if is_word(line, at, end, b"show") {
-        return counted(Order::Show, count, 0);
-    }
-    Order::NotUnderstood
-}
-
-#[tactic(auto, unfolding(crate::specs::Script::save_order))]
-fn save_order(line: &[u8], at: usize, end: usize, given: &[u16], count: usize) -> Order
-    requires { (at ≤ end) × (end ≤ length line.now) × (length given.now ≡ most_numbers) }
-    ensures { result ≡ Script.save_order line.now at end given.now count }
-{
-    if is_word(line, at, end, b"save") {
-        return save(line, end);
-    }
-    host_order(line, at, end, given, count)
-}
-
-#[tactic(auto, unfolding(crate::specs::Script::file_order))]
-fn file_order(line: &[u8], at: usize, end: usize, given: &[u16], count: usize) -> Order
-    requires { (at ≤ end) × (end ≤ length line.now) × (length given.now ≡ most_numbers) }
-    ensures { result ≡ Script.file_order line.now at end given.now count }
-{
-    if is_word(line, at, end, b"settings") {
-        return counted(Order::Settings(given[0], given[1]), count, 2);
-    }
-    if is_word(line, at, end, b"write") {
-        return counted(
-            Order::Write(parts_written(given)),
-            count,
-            sizes::WRITE_NUMBERS,
-        );
-    }
-    save_order(line, at, end, given, count)
-}
-
-#[tactic(auto, unfolding(crate::specs::Script::store_order))]
-fn store_order(line: &[u8], at: usize, end: usize, given: &[u16], count: usize) -> Order
-    requires { (at ≤ end) × (end ≤ length line.now) × (length given.now ≡ most_numbers) }
-    ensures { result ≡ Script.store_order line.now at end given.now count }
-{
-    let values = values(count);
-    if is_word(line, at, end, b"put") {
-        return valued(Order::Put(given[0], values), values);
-    }
-    if is_word(line, at, end, b"break") {
-        return valued(Order::Break(given[0], values), values);
-    }
-    if is_word(line, at, end, b"length") {
-        return counted(Order::Length(given[0]), count, 1);
-    }
-    file_order(line, at, end, given, count)
-}
-
-#[tactic(auto, unfolding(crate::specs::Script::look_order))]
-fn look_order(line: &[u8], at: usize, end: usize, given: &[u16], count: usize) -> Order
-    requires { (at ≤ end) × (end ≤ length line.now) × (length given.now ≡ most_numbers) }
-    ensures { result ≡ Script.look_order line.now at end given.now count }
-{
-    if is_word(line, at, end, b"burst") {
-        return burst(count);
-    }
-    if is_word(line, at, end, b"registers") {
-        return counted(Order::Registers, count, 0);
-    }
-    if is_word(line, at, end, b"set") {
-        return counted(Order::Set(registers(given)), count, sizes::SET_NUMBERS);
-    }
-    if is_word(line, at, end, b"judge") {
-        return counted(Order::Judge, count, 0);
-    }
-    store_order(line, at, end, given, count)
-}
-
+// The calls by their words, each with the numbers behind it; none where the word is no call's, or the numbers are too many or too few.
 #[tactic(auto, unfolding(crate::specs::Script::call_order))]
-fn call_order(line: &[u8], at: usize, end: usize, given: &[u16], count: usize) -> Order
-    requires { (at ≤ end) × (end ≤ length line.now) × (length given.now ≡ most_numbers) }
-    ensures { result ≡ Script.call_order line.now at end given.now count }
+fn call_order(word: &str, given: &[u16]) -> Option<Order>
+    ensures { result ≡ Script.call_order word.now given.now }
 {
-    if is_word(line, at, end, b"fresh") {
-        return counted(Order::Fresh(given[0], given[1]), count, 2);
+    match (word, given) {
+        ("fresh", &[line, divider]) => Some(Order::Fresh(line, divider)),
+        ("step", []) => Some(Order::Step),
+        // The class number may be left out.
+        ("interrupt", &[number]) => Some(Order::Interrupt(number, 0)),
+        ("interrupt", &[number, class]) => Some(Order::Interrupt(number, class)),
+        ("burst", _) => Some(Order::Burst(given.len())),
+        ("registers", []) => Some(Order::Registers),
+        ("set", &[a, s, p, z, ci, lr, w]) => Some(Order::Set(Seven {
+            a,
+            s,
+            p,
+            z,
+            ci,
+            lr,
+            w,
+        })),
+        ("judge", []) => Some(Order::Judge),
+        ("settings", &[address, long]) => Some(Order::Settings(address, long)),
+        ("write", &[file, room, used, block, length]) => {
+            Some(Order::Write(Five {
+                file,
+                room,
+                used,
+                block,
+                length,
+            }))
+        }
+        _ => None,
     }
-    if is_word(line, at, end, b"step") {
-        return counted(Order::Step, count, 0);
-    }
-    if is_word(line, at, end, b"interrupt") {
-        return interrupt(given, count);
-    }
-    look_order(line, at, end, given, count)
 }
 
-// The order that begins at a place; its numbers go to `given`.
-fn ordered(line: &[u8], at: usize, given: &mut [u16]) -> Order
-    requires { (at ≤ length line.now) × (length given.old ≡ most_numbers) }
-    ensures { parsed result given.new ≡ Script.ordered line.now at given.old }
+// The orders that are no calls.
+#[tactic(auto, unfolding(crate::specs::Script::host_order))]
+fn host_order(word: &str, given: &[u16]) -> Option<Order>
+    ensures { result ≡ Script.host_order word.now given.now }
 {
-    let end = word_end(line, at, line.len() - at);
-    let count = numbers(line, end, given, sizes::MOST_NUMBERS);
-    call_order(line, at, end, given, count)
+    match (word, given) {
+        ("put", &[address, ref values @ ..]) if are_stored(values) => Some(Order::Put(
+            address,
+            values.len(),
+        )),
+        ("break", &[address, ref values @ ..]) if are_stored(values) => Some(Order::Break(
+            address,
+            values.len(),
+        )),
+        ("length", &[wanted]) => Some(Order::Length(wanted)),
+        ("words", &[address, count]) => Some(Order::Words(address, count)),
+        ("changes", []) => Some(Order::Changes),
+        ("show", []) => Some(Order::Show),
+        _ => None,
+    }
 }
 
-// What a line asks for; its numbers go to `given`. Of Put and Break the values are those from given[1] on, of Burst from given[0] on.
-pub fn parse(line: &[u8], given: &mut [u16]) -> Order
+// The order with a word and the numbers behind it.
+#[tactic(auto, unfolding(crate::specs::Script::asked))]
+fn asked(word: &str, given: &[u16]) -> Option<Order>
+    ensures { result ≡ Script.asked word.now given.now }
+{
+    call_order(word, given).or(host_order(word, given))
+}
+
+// Whether an order may have so many values behind its address.
+fn are_stored(values: &[u16]) -> bool
+    ensures { IsTrue result ↔ ((0 < length values.now) × (length values.now ≤ most_values)) }
+{
+    (1..=sizes::MOST_VALUES).contains(&values.len())
+}
+
+// A file's name is one word behind the order's own.
+#[tactic(auto, unfolding(crate::specs::Script::save))]
+fn save(line: &[u8], behind: &[u8]) -> Option<Order>
+    requires { length behind.now ≤ length line.now }
+    ensures { result ≡ Script.save (length line.now) behind.now }
+{
+    let name = skip(behind);
+    let long = word_len(name);
+    if long == 0 || !ended(&name[long..]) {
+        return None;
+    }
+    let begin = line.len() - name.len();
+    Some(Order::Save(begin, begin + long))
+}
+
+// The order that the text, the end of the line, begins with; its numbers go to `given`.
+#[tactic(auto, using(crate::proofs::Laws::ordered_none), unfolding(crate::specs::Script::ordered))]
+fn ordered(line: &[u8], text: &[u8], given: &mut [u16]) -> Option<Order>
+    requires { (length text.now ≤ length line.now) × (length given.old ≡ most_numbers) }
+    ensures { parsed result given.new ≡ Script.ordered (length line.now) text.now given.old }
+{
+    let (word, behind) = text.split_at(word_len(text));
+    let count = numbers(behind, given);
+    match str::from_utf8(word) {
+        Ok("save") => save(line, behind),
+        Ok(word) => asked(word, &given[..count?]),
+        Err(_) => None,
+    }
+}
+
+// What a line asks for, if it is understood; its numbers go to `given`. Of Put and Break the values are those from given[1] on, of Burst from given[0] on.
+#[tactic(auto, unfolding(crate::specs::Script::parse))]
+pub fn parse(line: &[u8], given: &mut [u16]) -> Option<Order>
     requires { length given.old ≡ most_numbers }
     ensures { parsed result given.new ≡ Script.parse line.now given.old }
 {
     if sizes::LONGEST_LINE < line.len() {
-        return Order::NotUnderstood;
+        return None;
     }
-    let at = skip(line, 0, line.len());
-    if ends(line, at) {
-        return Order::Nothing;
+    let text = skip(line);
+    if ends(text) {
+        return Some(Order::Nothing);
     }
-    ordered(line, at, given)
+    ordered(line, text, given)
 }

@@ -1,205 +1,110 @@
-// The parts of a line: blanks, words and numbers. What each function answers is said in specs/Script.antt.
-ghost use Rattle.std.specs.Prelude.{◌≡◌, cond, ◌<◌, ◌≤◌, ◌+◌, length};
-ghost use Rattle.script.specs.Sizes.{no_number, most_numbers, wrong_numbers};
+// The parts of a line: blanks, words and numbers. A text is what is left of the line. What each function answers is said in specs/Script.antt.
+ghost use Rattle.std.specs.Prelude.{◌≡◌, ◌≤◌, length, IfSome};
+ghost use Rattle.script.specs.Sizes.{most_numbers};
 ghost use Rattle.script.specs.Script as Script;
 ghost use Rattle.script.specs.Script.Read.{read};
 
 use crate::sizes;
 
-// A number, 65536 where there is none or it is larger, and the place behind it.
-#[derive(Clone, Copy)]
-pub struct Figures {
-    pub value: u32,
-    pub next: usize,
+// How many blanks the text begins with.
+#[tactic(auto, unfolding(crate::specs::Script::blanks))]
+fn blanks(text: &[u8]) -> usize
+    ensures is { result ≡ Script.blanks text.now }
+    ensures within { result ≤ length text.now }
+{
+    text.iter().take_while(|c| **c == b' ').count()
 }
 
-// The place after the blanks from `at` on; `left` characters are left.
-pub fn skip(line: &[u8], at: usize, left: usize) -> usize
-    requires { at + left ≡ length line.now }
-    ensures { (result ≡ Script.skip left line.now at) × (result ≤ length line.now) }
+// What is left behind the blanks.
+#[tactic(auto, unfolding(crate::specs::Script::skip))]
+pub fn skip(text: &[u8]) -> &[u8]
+    ensures is { result.now ≡ Script.skip text.now }
+    ensures within { length result.now ≤ length text.now }
 {
-    let mut next = at;
-    let mut rest = left;
-    while 0 < rest {
-        if line[next] == b' ' {
-            next += 1;
-            rest -= 1;
-            continue;
-        }
-        return next;
-    }
-    next
+    &text[blanks(text)..]
 }
 
 // Whether a word ends before a character.
+#[tactic(auto, unfolding(crate::specs::Script::parts))]
 fn parts(character: u8) -> bool
     ensures { result ≡ Script.parts character }
 {
-    if character == b' ' {
-        return true;
-    }
-    character == b'#'
+    matches!(character, b' ' | b'#')
 }
 
-// The place after the word that begins at `at`; `left` characters are left.
-pub fn word_end(line: &[u8], at: usize, left: usize) -> usize
-    requires { at + left ≡ length line.now }
-    ensures { (result ≡ Script.word_end left line.now at) × (at ≤ result) × (result ≤ length line.now) }
+// How long the word is that the text begins with.
+#[tactic(auto, unfolding(crate::specs::Script::word_len))]
+pub fn word_len(text: &[u8]) -> usize
+    ensures is { result ≡ Script.word_len text.now }
+    ensures within { result ≤ length text.now }
 {
-    let mut next = at;
-    let mut rest = left;
-    while 0 < rest {
-        if parts(line[next]) {
-            return next;
+    text.iter().take_while(|c| !parts(**c)).count()
+}
+
+// Whether the line, or what counts of it, ends here.
+pub fn ends(text: &[u8]) -> bool
+    ensures { result ≡ Script.ends text.now }
+{
+    matches!(text, [] | [b'#', ..])
+}
+
+// Whether only blanks, and a comment perhaps, are left.
+#[tactic(auto, unfolding(crate::specs::Script::ended))]
+pub fn ended(text: &[u8]) -> bool
+    ensures { result ≡ Script.ended text.now }
+{
+    ends(skip(text))
+}
+
+// A number with one digit more; none where the character is no digit, or the number is over 65535.
+#[tactic(auto, unfolding(crate::specs::Script::more))]
+fn more(value: u16, character: u8) -> Option<u16>
+    ensures { result ≡ Script.more value character }
+{
+    let digit = char::from(character).to_digit(10)?;
+    value.checked_mul(10)?.checked_add(digit as u16)
+}
+
+// A word as a number: digits only, 0 to 65535.
+#[tactic(auto, using(crate::proofs::Laws::decimals))]
+pub fn whole_number(word: &[u8]) -> Option<u16>
+    ensures { result ≡ Script.whole_number word.now }
+{
+    if word.is_empty() {
+        return None;
+    }
+    let mut value = 0;
+    for character in word {
+        value = more(value, *character)?;
+    }
+    Some(value)
+}
+
+// How many digits the text begins with.
+#[tactic(auto, unfolding(crate::specs::Script::digits_len))]
+fn digits_len(text: &[u8]) -> usize
+    ensures is { result ≡ Script.digits_len text.now }
+    ensures within { result ≤ length text.now }
+{
+    text.iter().take_while(|c| c.is_ascii_digit()).count()
+}
+
+// The numbers that are left go to `given`. Answers how many there are; none where one is wrong, or one too many.
+#[tactic(auto, using(crate::proofs::Laws::reads))]
+pub fn numbers(text: &[u8], given: &mut [u16]) -> Option<usize>
+    requires { length given.old ≡ most_numbers }
+    ensures is { read result given.new ≡ Script.numbers most_numbers text.now given.old }
+    ensures most { IfSome result (λ n. n ≤ most_numbers) }
+{
+    let mut left = text;
+    for (count, place) in given.iter_mut().enumerate() {
+        if ended(left) {
+            return Some(count);
         }
-        next += 1;
-        rest -= 1;
+        let from = skip(left);
+        let (digits, behind) = from.split_at(digits_len(from));
+        *place = whole_number(digits)?;
+        left = behind;
     }
-    next
-}
-
-// Whether the line, or what counts of it, ends at a place.
-pub fn ends(line: &[u8], at: usize) -> bool
-    requires { at ≤ length line.now }
-    ensures { result ≡ Script.ends line.now at }
-{
-    if at == line.len() {
-        return true;
-    }
-    line[at] == b'#'
-}
-
-// Whether only blanks, and a comment perhaps, stand from a place on.
-pub fn ended(line: &[u8], at: usize) -> bool
-    requires { at ≤ length line.now }
-    ensures { result ≡ Script.ended line.now at }
-{
-    let next = skip(line, at, line.len() - at);
-    ends(line, next)
-}
-
-fn is_digit(character: u8) -> bool
-    ensures { result ≡ Script.is_digit character }
-{
-    if character < b'0' {
-        return false;
-    }
-    character <= b'9'
-}
-
-// A value with one digit more.
-fn more(value: u32, digit: u8) -> u32
-    requires { value ≤ no_number }
-    ensures { (result ≡ Script.more value digit) × (result ≤ no_number) }
-{
-    let grown = value * 10 + (digit as u32) % 16;
-    if grown < sizes::NO_NUMBER {
-        return grown;
-    }
-    sizes::NO_NUMBER
-}
-
-// The digits from `at` on, behind those whose value is known; `left` characters are left.
-pub fn digits(line: &[u8], at: usize, left: usize, value: u32) -> Figures
-    requires { (at + left ≡ length line.now) × (value ≤ no_number) }
-    ensures { (result ≡ Script.digits left line.now at value) × (result.next ≤ length line.now) }
-{
-    let mut known = value;
-    let mut next = at;
-    let mut rest = left;
-    while 0 < rest {
-        let character = line[next];
-        if is_digit(character) {
-            known = more(known, character);
-            next += 1;
-            rest -= 1;
-            continue;
-        }
-        return Figures { value: known, next };
-    }
-    Figures { value: known, next }
-}
-
-// The number behind the blanks from `at` on.
-fn number(line: &[u8], at: usize) -> Figures
-    requires { at ≤ length line.now }
-    ensures { (result ≡ Script.number line.now at) × (result.next ≤ length line.now) }
-{
-    let start = skip(line, at, line.len() - at);
-    let figures = digits(line, start, line.len() - start, 0);
-    if figures.next == start {
-        return Figures {
-            value: sizes::NO_NUMBER,
-            next: start,
-        };
-    }
-    figures
-}
-
-// A value becomes one of the numbers.
-fn keep(given: &mut [u16], at: usize, value: u16)
-    requires { at < length given.old }
-    ensures { given.new ≡ Script.keep given.old at value }
-{
-    given[at] = value;
-}
-
-// How many numbers there are where there is room for none: the line must have ended.
-fn all_given(line: &[u8], at: usize) -> usize
-    requires { at ≤ length line.now }
-    ensures { (result ≡ cond (Script.ended line.now at) most_numbers wrong_numbers) × (result ≤ wrong_numbers) }
-{
-    if ended(line, at) {
-        return sizes::MOST_NUMBERS;
-    }
-    sizes::WRONG_NUMBERS
-}
-
-// The numbers from `at` on go to `given`, which has room for `left` more. Answers how many it has then, or that one is wrong or too many.
-pub fn numbers(line: &[u8], at: usize, given: &mut [u16], left: usize) -> usize
-    requires { (at ≤ length line.now) × (length given.old ≡ most_numbers) × (left ≤ most_numbers) }
-    ensures { (read result given.new ≡ Script.numbers left line.now at given.old) × (result ≤ wrong_numbers) }
-{
-    let mut next = at;
-    let mut room = left;
-    while 0 < room {
-        if ended(line, next) {
-            return sizes::MOST_NUMBERS - room;
-        }
-        let figures = number(line, next);
-        if sizes::LARGEST_NUMBER < figures.value {
-            return sizes::WRONG_NUMBERS;
-        }
-        keep(given, sizes::MOST_NUMBERS - room, figures.value as u16);
-        next = figures.next;
-        room -= 1;
-    }
-    all_given(line, next)
-}
-
-// Whether the first `count` characters of a word stand at a place.
-fn same(line: &[u8], at: usize, word: &[u8], count: usize) -> bool
-    requires { (at + count ≤ length line.now) × (count ≤ length word.now) }
-    ensures { result ≡ Script.same count line.now at word.now }
-{
-    let mut left = count;
-    while 0 < left {
-        left -= 1;
-        if line[at + left] == word[left] {
-            continue;
-        }
-        return false;
-    }
-    true
-}
-
-// Whether a word stands between two places.
-pub fn is_word(line: &[u8], at: usize, end: usize, word: &[u8]) -> bool
-    requires { (at ≤ end) × (end ≤ length line.now) }
-    ensures { result ≡ Script.is_word line.now at end word.now }
-{
-    if end - at == word.len() {
-        return same(line, at, word, word.len());
-    }
-    false
+    ended(left).then_some(sizes::MOST_NUMBERS)
 }

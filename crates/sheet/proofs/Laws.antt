@@ -27,10 +27,8 @@ use Rattle.model.specs.Layout.{entry_bytes, label_place, label_bytes, version_of
 use Rattle.model.specs.Settings as Settings
 use Rattle.model.specs.Settings.{new_length, worse, of_used, heeds_both, write_settings}
 use Rattle.laws.specs.Fits.{head_range}
-use Rattle.files.proofs.Laws.{reading}
 use Rattle.script.specs.Sizes.{largest_number}
-use Rattle.script.specs.Script.{digits}
-use Rattle.script.specs.declared.reading.Figures.{Figures}
+use Rattle.script.specs.Script.{whole_number}
 use Rattle.sheet.specs.declared.building.Due.{Due}
 use Rattle.sheet.specs.declared.building.Due.TheVariants.{Version, Byte, Label, Address}
 use Rattle.sheet.specs.Words as Words
@@ -40,21 +38,13 @@ use Rattle.sheet.specs.Words.{Built}
 use Rattle.sheet.specs.Words.Built.{wrong, built}
 
 -- ---- a word as a number
-pub number_empty : (w : List ℕ) → length w ≡ 0 → largest_number < number_of w
+pub number_some : (w : List ℕ) (x : ℕ) → Some x ≡ whole_number w → x ≡ number_of w
 unfolding Words.number_of
-number_empty w h = rw (eq-eqb (length w) 0 h) (omega arith)
+number_some w x e = rw (← e)
 
-module _ (w : List ℕ) (d : Figures) (h : length w ≡ 0 → ⊥) (e : d ≡ digits (length w) w 0 0) where
-  pub number_whole : d.next ≡ length w → d.value ≡ number_of w
-  unfolding Words.number_of
-  number_whole z = rw (ne_eqb (length w) 0 h, ← e, eq-eqb d.next (length w) z)
-
-  pub number_large : d.next ≡ length w → largest_number < d.value → largest_number < number_of w
-  number_large z l = rw (← number_whole z) l
-
-  pub number_part : (d.next ≡ length w → ⊥) → largest_number < number_of w
-  unfolding Words.number_of
-  number_part z = rw (ne_eqb (length w) 0 h, ← e, ne_eqb d.next (length w) z) (omega arith)
+pub number_none : (w : List ℕ) → None ≡ whole_number w → largest_number < number_of w
+unfolding Words.number_of
+number_none w e = rw (← e) (omega arith)
 
 -- ---- what the next word is
 pub head_none : (v : ℕ) → v ≡ 0 → 4 ≡ head_of v
@@ -78,7 +68,7 @@ module _ (v n h : ℕ) (z : n ≡ 0 → ⊥) (e : h ≡ head_of v) where
   unfolding Words.due_at
   due_groups d l ed = rw (ne_eqb n 0 z, ← e, le-ltb n h l) ed
 
-pub ruleset numbering = (number_empty, number_whole, number_large, number_part, head_none, head_some, due_first, due_head, due_groups)
+pub ruleset numbering = (number_some, number_none, head_none, head_some, due_first, due_head, due_groups)
 
 -- ---- what a word w adds to the bytes b: x is its number
 module _ (b w : List ℕ) where
@@ -178,11 +168,14 @@ written_fits l l₁ b u n r e z long = go (ltb (length l) u) (worse (of_used (ta
         let m : n ≡ new_length u b = cc in
         omega (arith, ltb-false (length l) (new_length u b) ey)
 
+pub counts_is : (l : List ℕ) (n : ℕ) → n ≤ length l → n ≡ length (take n l)
+counts_is l n h = sym (length-take-le n l h)
+
 pub file_good : (f : List ℕ) (o : Fit) → o ≡ of_file f → o ≡ Good → is_good (of_file f) ≡ true
 unfolding Layout.is_good
 file_good f o e h = rw (← e, h)
 
-pub ruleset files = (reading, written_fits, file_good)
+pub ruleset files = (written_fits, counts_is, file_good)
 
 -- ---- the next word: v is the block's first byte, n how many it has, d what the word is
 head_of_most : (v : ℕ) → head_of v ≤ 17

@@ -57,7 +57,7 @@ pub blocks : block_of (w3 ∷ w16 ∷ w5 ∷ w7 ∷ poznan ∷ w2 ∷ w3 ∷ w0 
     ∷ built (1 ∷ 2 ∷ 16 ∷ 5 ∷ 2 ∷ 3 ∷ 0 ∷ 11 ∷ 184 ∷ 3 ∷ 2 ∷ 0 ∷ 1 ∷ 0 ∷ []) ∷ built (0 ∷ 0 ∷ 16 ∷ 5 ∷ [])
     ∷ built (4 ∷ 0 ∷ 16 ∷ 5 ∷ 7 ∷ 0 ∷ 0 ∷ 0 ∷ 0 ∷ 0 ∷ 0 ∷ 0 ∷ 0 ∷ 0 ∷ 0 ∷ 0 ∷ 0 ∷ []) ∷ []
 unfolding Words.behind Words.number_of Words.head_of Words.due_behind Words.due_in_head Words.due_at Words.byte_taken Words.version_taken Words.address_taken
-    Words.letters Words.labelled Words.label_taken Words.counted Words.ended Script.digits Script.is_digit Script.more Layout.head_bytes
+    Words.letters Words.labelled Words.label_taken Words.counted Words.ended Script.decimal Script.more Layout.head_bytes
 blocks = refl
 
 -- ---- none: a word too few, in the head and in a group; no site; a label of thirteen; 256, 65536, a word that is no number, an empty one
@@ -66,5 +66,5 @@ pub none : block_of [] ∷ block_of (w1 ∷ w16 ∷ []) ∷ block_of (w1 ∷ w16
     ∷ block_of (w1 ∷ poznan ∷ w5 ∷ []) ∷ block_of (w1 ∷ [] ∷ w5 ∷ []) ∷ []
     ≡ wrong ∷ wrong ∷ wrong ∷ wrong ∷ wrong ∷ wrong ∷ wrong ∷ wrong ∷ wrong ∷ []
 unfolding Words.behind Words.number_of Words.head_of Words.due_behind Words.due_in_head Words.due_at Words.byte_taken Words.version_taken Words.address_taken
-    Words.letters Words.labelled Words.label_taken Words.counted Words.ended Script.digits Script.is_digit Script.more Layout.head_bytes
+    Words.letters Words.labelled Words.label_taken Words.counted Words.ended Script.decimal Script.more Layout.head_bytes
 none = refl

@@ -4,8 +4,7 @@ use Rattle.std.specs.Prelude.{ℕ, ◌-◌, ◌/◌, ◌%◌, cond, List, [], �
 use Rattle.model.specs.Map.{a_word, word_values}
 use Rattle.model.specs.Layout.{entry_bytes, label_place, label_bytes, version_of, head_bytes}
 use Rattle.script.specs.Sizes.{largest_number, no_number}
-use Rattle.script.specs.Script.{digits}
-use Rattle.script.specs.declared.reading.Figures.{Figures}
+use Rattle.script.specs.Script.{whole_number}
 use Rattle.sheet.specs.declared.building.Due.{Due}
 use Rattle.sheet.specs.declared.building.Due.TheVariants.{Version, Byte, Label, Address}
 
@@ -20,11 +19,12 @@ abbrev pub block_room : ℕ
 block_room = 1292
 
 -- ---- "Numbers are digits": a word as a number; no_number where it has none, another character, or is over 65535
+abbrev pub or_no_number : Option ℕ → ℕ
+or_no_number None = no_number
+or_no_number (Some x) = x
+
 unfoldable pub number_of : List ℕ → ℕ
-number_of w = cond (eqb (length w) 0) no_number (whole (digits (length w) w 0 0))
-  where
-    whole : Figures → ℕ
-    whole d = cond (eqb d.next (length w)) d.value no_number
+number_of w = or_no_number (whole_number w)
 
 -- ---- what the next word is, if there is room for one: v is the version, n the number of bytes that are there
 -- "SITE is there from version 2 on, LABEL from version 3 on (a version over 3 has both, 0 none ..)"

@@ -13,7 +13,7 @@ use crate::sizes;
 use crate::sizes::BLOCK_ROOM;
 use arrayvec::ArrayVec;
 use model::layout;
-use script::reading::digits;
+use script::reading::whole_number;
 use settings::block::head_bytes;
 
 // The bytes of a block.
@@ -38,14 +38,7 @@ fn number_of(word: &[u8]) -> Result<u16, NoBlock>
     ensures ok { IfOk result (λ r. r ≡ Words.number_of word.now) }
     ensures err { OnErr result (largest_number < Words.number_of word.now) }
 {
-    if word.is_empty() {
-        return Err(NoBlock);
-    }
-    let figures = digits(word, 0, word.len(), 0);
-    if figures.next != word.len() {
-        return Err(NoBlock);
-    }
-    u16::try_from(figures.value).map_err(|_| NoBlock)
+    whole_number(word).ok_or(NoBlock)
 }
 
 fn byte_of(word: &[u8]) -> Result<u8, NoBlock>

@@ -10,7 +10,7 @@ ghost use Rattle.files.specs.Files.{name_room};
 
 use building::{Block, NoBlock, finish, take_word};
 use files::saying::fail_missing;
-use files::{Got, name_of, read_file, replace, word_count};
+use files::{Unread, name_of, read_file, replace, word_count};
 use model::{Answer, Fit, Writing, refusals};
 use rows::tell_rows;
 use screen::kept::Kept;
@@ -52,13 +52,13 @@ fn show<P: Print>(rt: &P, file: &[u8]) -> io::Result<()> {
 fn show_file<R: Files + Print, E: Print>(rt: &R, errors: &E, name: &[u8]) -> io::Result<()> {
     let mut file = [0u8; sizes::FILE_ROOM];
     match read_file(rt, errors, name, &mut file) {
-        Got::Has(end) => show(rt, &file[..end]),
-        Got::TooLong => tell_answer(rt, Answer::Refused(refusals::NO_ROOM)),
-        Got::Missing => {
+        Ok(end) => show(rt, &file[..end]),
+        Err(Unread::TooLong) => tell_answer(rt, Answer::Refused(refusals::NO_ROOM)),
+        Err(Unread::Missing) => {
             fail_missing(errors, name);
             Ok(())
         }
-        Got::Failed => Ok(()),
+        Err(Unread::Told) => Ok(()),
     }
 }
 
@@ -76,7 +76,7 @@ fn write_behind<R: Files + Print, E: Print>(
 {
     match write_settings(file, used, block) {
         Writing::Written(end) => {
-            if replace(rt, errors, name, &file[..end]) {
+            if replace(rt, errors, name, &file[..end]).is_ok() {
                 return tell_writing(rt, Writing::Written(end));
             }
             Ok(())
@@ -100,10 +100,10 @@ fn write_file<R: Files + Print, E: Print>(
 {
     let mut file = [0u8; sizes::FILE_ROOM];
     match read_file(rt, errors, name, &mut file) {
-        Got::Has(used) => write_behind(rt, errors, name, &mut file, used, block),
-        Got::TooLong => tell_writing(rt, Writing::Refused(refusals::NO_ROOM)),
-        Got::Missing => write_behind(rt, errors, name, &mut file, 0, block),
-        Got::Failed => Ok(()),
+        Ok(used) => write_behind(rt, errors, name, &mut file, used, block),
+        Err(Unread::TooLong) => tell_writing(rt, Writing::Refused(refusals::NO_ROOM)),
+        Err(Unread::Missing) => write_behind(rt, errors, name, &mut file, 0, block),
+        Err(Unread::Told) => Ok(()),
     }
 }
 
