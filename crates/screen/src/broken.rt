@@ -1,18 +1,17 @@
 // What is said of a broken memory, for a technician: its class in words, what stands at the address, and where to read on.
 use crate::rows::interrupt_at;
-use model::{map, refusals, wide};
+use model::{Broken, Class, map, wide};
 use std::io;
 
 // "30 a control page used twice or not at all, 31 a wait queue or semaphore, 32 a processor or message record, 33 the code or error table, 34
 // counters and the running entry".
-fn class_text(refusal: u8) -> &'static str {
-    match refusal {
-        refusals::BROKEN_PAGES => "a control page is used twice or not at all",
-        refusals::BROKEN_WAITS => "a wait queue or a semaphore does not fit",
-        refusals::BROKEN_RECORDS => "the record of a processor or of a message does not fit",
-        refusals::BROKEN_TABLES => "the table of codes or of errors does not fit",
-        refusals::BROKEN_COUNTERS => "a counter or the entry of who runs does not fit",
-        _ => "unknown",
+fn class_text(class: Class) -> &'static str {
+    match class {
+        Class::Pages => "a control page is used twice or not at all",
+        Class::Waits => "a wait queue or a semaphore does not fit",
+        Class::Records => "the record of a processor or of a message does not fit",
+        Class::Tables => "the table of codes or of errors does not fit",
+        Class::Counters => "a counter or the entry of who runs does not fit",
     }
 }
 
@@ -98,8 +97,10 @@ fn place_text<P: Print>(rt: &P, place: u16) -> io::Result<()> {
 }
 
 // The class as the answer of a call says it too; the place, and what stands there.
-pub fn broken<P: Print>(rt: &P, refusal: u8, place: u16) -> io::Result<()> {
-    let class = class_text(refusal);
+pub fn broken<P: Print>(rt: &P, found: Broken) -> io::Result<()> {
+    let class = class_text(found.class);
+    let refusal = u8::from(found.class);
+    let place = found.address;
     let page = place / map::PAGE_SIZE;
     let word = place % map::PAGE_SIZE;
     println!(rt; "the memory is broken: {class} (refused {refusal} at {place})")?;

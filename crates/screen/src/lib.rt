@@ -8,18 +8,14 @@ mod lines;
 mod rows;
 mod tables;
 
-ghost use Rattle.std.specs.Prelude.{◌≡◌, length};
-
-use model::{Registers, map};
+use model::{Memory, Registers, map};
 use processors::{name, running};
 use rows::all_processors;
 use std::io;
 use tables::{all_codes, all_errors, all_grants, clock, free_pages};
 use words::at;
 
-fn runner<P: Print>(rt: &P, m: &[u8]) -> io::Result<()>
-    requires { length m.now ≡ 8192 }
-{
+fn runner<P: Print>(rt: &P, m: &Memory) -> io::Result<()> {
     let page = running(m);
     if page.0 == 0 {
         return println!(rt; "nobody runs: no processor is ready");
@@ -30,9 +26,7 @@ fn runner<P: Print>(rt: &P, m: &[u8]) -> io::Result<()>
 }
 
 // The state of a well-formed memory.
-pub fn state<P: Print>(rt: &P, m: &[u8]) -> io::Result<()>
-    requires { length m.now ≡ 8192 }
-{
+pub fn state<P: Print>(rt: &P, m: &Memory) -> io::Result<()> {
     runner(rt, m)?;
     println!(rt; "\n  name  priority  state             LR    A  waits for")?;
     all_processors(rt, m)?;

@@ -4,49 +4,57 @@ ghost use Rattle.std.specs.Prelude.{◌≤◌, ◌+◌, ◌*◌, length};
 ghost use Rattle.screen.specs.Sizes.{number_room, line_room, kept_room};
 
 use crate::kept::Kept;
-use model::{Answer, Held, Registers, Verdict, Writing};
+use model::{Answer, Fault, Name, Refusal, Registers};
 
 impl Kept {
-    pub fn answer(&mut self, given: Answer)
+    pub fn answer(&mut self, given: Result<Answer, Refusal>)
         requires { length self.old + line_room ≤ kept_room }
     {
         match given {
-            Answer::Done => self.text("done\n"),
-            Answer::Waits => self.text("waits\n"),
-            Answer::HandedOut(program, arguments) => self.handed_out(program, arguments),
-            Answer::Fault(n, name) => self.faulted(n, name),
-            Answer::Refused(n) => self.refused(n),
-            Answer::RefusedAt(n, place) => self.refused_at(n, place),
+            Ok(Answer::Done) => self.text("done\n"),
+            Ok(Answer::Waits) => self.text("waits\n"),
+            Ok(Answer::HandedOut(program, arguments)) => self.handed_out(program, arguments),
+            Ok(Answer::Fault(fault, name)) => self.faulted(fault, name),
+            Err(refusal) => self.refused(refusal),
         }
     }
 
-    pub fn held(&mut self, given: Held)
+    pub fn held(&mut self, given: Result<Registers, Refusal>)
         requires { length self.old + line_room ≤ kept_room }
     {
         match given {
-            Held::Has(held) => self.registers(held),
-            Held::Refused(n) => self.refused(n),
-            Held::RefusedAt(n, place) => self.refused_at(n, place),
+            Ok(held) => self.registers(held),
+            Err(refusal) => self.refused(refusal),
         }
     }
 
-    pub fn verdict(&mut self, given: Verdict)
+    pub fn verdict(&mut self, given: Result<(), Refusal>)
         requires { length self.old + line_room ≤ kept_room }
     {
         match given {
-            Verdict::WellFormed => self.text("well-formed\n"),
-            Verdict::Refused(n) => self.refused(n),
-            Verdict::RefusedAt(n, place) => self.refused_at(n, place),
+            Ok(()) => self.text("well-formed\n"),
+            Err(refusal) => self.refused(refusal),
         }
     }
 
-    pub fn writing(&mut self, given: Writing)
+    pub fn writing(&mut self, given: Result<usize, Refusal>)
         requires { length self.old + line_room ≤ kept_room }
     {
         match given {
-            Writing::Written(long) => self.written(long),
-            Writing::Refused(n) => self.refused(n),
-            Writing::RefusedAt(n, version) => self.refused_at(n, version),
+            Ok(long) => self.written(long),
+            Err(refusal) => self.refused(refusal),
+        }
+    }
+
+    // The number of a refusal, and what is told beside it.
+    pub fn refused(&mut self, refusal: Refusal)
+        requires { length self.old + line_room ≤ kept_room }
+    {
+        self.text("refused ");
+        self.number(u8::from(refusal));
+        match refusal.place() {
+            Some(place) => self.at_place(place),
+            None => self.text("\n"),
         }
     }
 
@@ -64,19 +72,9 @@ impl Kept {
         self.text(": not understood\n");
     }
 
-    fn refused(&mut self, refusal: u8)
-        requires { length self.old + line_room ≤ kept_room }
+    fn at_place(&mut self, place: u16)
+        requires { length self.old + 32 ≤ kept_room }
     {
-        self.text("refused ");
-        self.number(refusal);
-        self.text("\n");
-    }
-
-    fn refused_at(&mut self, refusal: u8, place: u16)
-        requires { length self.old + line_room ≤ kept_room }
-    {
-        self.text("refused ");
-        self.number(refusal);
         self.text(" at ");
         self.number(place);
         self.text("\n");
@@ -92,13 +90,13 @@ impl Kept {
         self.text("\n");
     }
 
-    fn faulted(&mut self, fault: u8, name: u8)
+    fn faulted(&mut self, fault: Fault, name: Name)
         requires { length self.old + line_room ≤ kept_room }
     {
         self.text("fault ");
-        self.number(fault);
+        self.number(u8::from(fault));
         self.text(" by ");
-        self.number(name);
+        self.number(name.0);
         self.text("\n");
     }
 

@@ -1,53 +1,10 @@
 // The processors of a well-formed memory: a row for each, with what it waits for, and below it its mail.
-ghost use Rattle.std.specs.Prelude.{◌≡◌, ◌<◌, length};
-ghost use Rattle.std.specs.Iterator.{at_most};
+ghost use Rattle.std.specs.Prelude.{◌<◌};
 
-use model::{ControlPage, Registers, map};
+use model::{ControlPage, Memory, Registers, map};
 use processors::{name, priority, running, seat};
+use queues::{Queue, page_at};
 use std::io;
-use words::at;
-
-// The pages of a list from one on, by the word of each that has the next; no walk has more than `left`.
-#[derive(Drop)]
-struct Walk<'a> {
-    m: &'a [u8],
-    page: ControlPage,
-    link: u16,
-    left: u8,
-    ghost whole: { length m.now ≡ 8192 },
-    ghost inside: { link < 32 },
-}
-
-impl<'a> Iterator for Walk<'a> {
-    type Item = ControlPage;
-
-    ghost remaining = { λ s. at_most s.left };
-
-    fn next(&mut self) -> Option<ControlPage> {
-        if self.left == 0 {
-            return None;
-        }
-        let page = self.page;
-        if page.0 == 0 {
-            return None;
-        }
-        self.page = ControlPage(page.word(self.m, self.link));
-        self.left -= 1;
-        Some(page)
-    }
-}
-
-fn pages_from(m: &[u8], page: ControlPage, link: u16) -> Walk<'_>
-    requires { (length m.now ≡ 8192) × (link < 32) }
-{
-    let left = map::CONTROL_PAGES;
-    Walk {
-        m,
-        page,
-        link,
-        left,
-    }
-}
 
 // How much text a message has.
 fn message_text<P: Print>(rt: &P, size: u8) -> io::Result<()> {
@@ -59,9 +16,7 @@ fn message_text<P: Print>(rt: &P, size: u8) -> io::Result<()> {
 }
 
 // The message of a page; marked, it is mail whose sender is gone.
-fn message<P: Print>(rt: &P, m: &[u8], page: ControlPage) -> io::Result<()>
-    requires { length m.now ≡ 8192 }
-{
+fn message<P: Print>(rt: &P, m: &Memory, page: ControlPage) -> io::Result<()> {
     let note = page.word(m, map::NOTE);
     let size = page.word(m, map::SIZE);
     let from = note / map::FIELD;
@@ -77,19 +32,15 @@ fn message<P: Print>(rt: &P, m: &[u8], page: ControlPage) -> io::Result<()>
     println!(rt; "")
 }
 
-// The queue whose header is a word of a processor's page, if there is a message in it; each message has a line of its own.
-fn mail<P: Print>(rt: &P, m: &[u8], page: ControlPage, header: u16, label: &str) -> io::Result<()>
-    requires { (length m.now ≡ 8192) × (header < 32) }
+// The queue whose header is a word of a processor's page: each message in a line of its own, the first behind the label.
+fn mail<P: Print>(rt: &P, m: &Memory, page: ControlPage, header: u16, label: &str) -> io::Result<()>
+    requires { header < 32 }
 {
-    let first = ControlPage(page.word(m, header));
-    if first.0 == 0 {
-        return Ok(());
-    }
-    print!(rt; "{label}")?;
-    message(rt, m, first)?;
-    for page in pages_from(m, ControlPage(first.word(m, map::LINK)), map::LINK) {
-        print!(rt; "            ")?;
+    let mut label = label;
+    for page in Queue::at(page.place(header)).pages(m) {
+        print!(rt; "{label:<12}")?;
         message(rt, m, page)?;
+        label = "";
     }
     Ok(())
 }
@@ -114,9 +65,7 @@ pub fn interrupt_at(place: u16) -> u16 {
 
 // What the processor of a page waits for, by the address of its queue's semaphore: those of the interrupts lie before that of the free
 // list, a processor's own behind it.
-fn awaited<P: Print>(rt: &P, m: &[u8], page: ControlPage, semaphore: u16) -> io::Result<()>
-    requires { length m.now ≡ 8192 }
-{
+fn awaited<P: Print>(rt: &P, m: &Memory, page: ControlPage, semaphore: u16) -> io::Result<()> {
     let reason = page.word(m, map::REASON);
     if semaphore == map::FREE_SEMAPHORE {
         return print!(rt; "a free page");
@@ -128,15 +77,11 @@ fn awaited<P: Print>(rt: &P, m: &[u8], page: ControlPage, semaphore: u16) -> io:
     wanted(rt, reason / map::FIELD, reason % map::FIELD)
 }
 
-fn stopped(m: &[u8], page: ControlPage) -> bool
-    requires { length m.now ≡ 8192 }
-{
+fn stopped(m: &Memory, page: ControlPage) -> bool {
     map::STOP_BIT <= page.word(m, map::STATE)
 }
 
-fn waits(m: &[u8], page: ControlPage) -> bool
-    requires { length m.now ≡ 8192 }
-{
+fn waits(m: &Memory, page: ControlPage) -> bool {
     page.word(m, map::STATE) % map::STOP_BIT / map::WAIT_BIT == 1
 }
 
@@ -150,9 +95,7 @@ fn state_text(stopped: bool, waits: bool, runs: bool) -> &'static str {
     }
 }
 
-fn row<P: Print>(rt: &P, m: &[u8], page: ControlPage) -> io::Result<()>
-    requires { length m.now ≡ 8192 }
-{
+fn row<P: Print>(rt: &P, m: &Memory, page: ControlPage) -> io::Result<()> {
     let name = name(m, page).0;
     let priority = priority(m, page);
     let state = state_text(stopped(m, page), waits(m, page), running(m).0 == page.0);
@@ -162,27 +105,22 @@ fn row<P: Print>(rt: &P, m: &[u8], page: ControlPage) -> io::Result<()>
     print!(rt; "  {name:>4}        {priority:>2}  {state:<16}{lr:>4}  {a:>3}")
 }
 
-fn processor<P: Print>(rt: &P, m: &[u8], page: ControlPage) -> io::Result<()>
-    requires { length m.now ≡ 8192 }
-{
+fn processor<P: Print>(rt: &P, m: &Memory, page: ControlPage) -> io::Result<()> {
     row(rt, m, page)?;
     if waits(m, page) {
         print!(rt; "  ")?;
-        awaited(rt, m, page, seat(m, page, map::INTERRUPTS))?;
+        awaited(rt, m, page, seat(m, page, map::INTERRUPTS).semaphore)?;
     }
     println!(rt; "")?;
-    mail(rt, m, page, map::Q1, "        Q1  ")?;
-    mail(rt, m, page, map::Q2, "        Q2  ")
+    mail(rt, m, page, map::Q1, "        Q1")?;
+    mail(rt, m, page, map::Q2, "        Q2")
 }
 
-pub fn all_processors<P: Print>(rt: &P, m: &[u8]) -> io::Result<()>
-    requires { length m.now ≡ 8192 }
-{
-    let first = ControlPage(at(m, map::PROCESSOR_LIST));
-    if first.0 == 0 {
+pub fn all_processors<P: Print>(rt: &P, m: &Memory) -> io::Result<()> {
+    if page_at(m, map::PROCESSOR_LIST).is_none() {
         return println!(rt; "  none");
     }
-    for page in pages_from(m, first, map::LIST_LINK) {
+    for page in Queue::processors().pages(m) {
         processor(rt, m, page)?;
     }
     Ok(())

@@ -1,7 +1,5 @@
 // The tables of a well-formed memory: free pages, grants, clock, codes and errors.
-ghost use Rattle.std.specs.Prelude.{◌≡◌, length};
-
-use model::{faults, instructions, map, wide};
+use model::{Fault, Memory, instructions, map, wide};
 use std::io;
 use words::{address_at, at};
 
@@ -21,9 +19,7 @@ pub fn free_pages<P: Print>(rt: &P, semaphore: u8) -> io::Result<()> {
 }
 
 // The first grant has the label.
-pub fn all_grants<P: Print>(rt: &P, m: &[u8]) -> io::Result<()>
-    requires { length m.now ≡ 8192 }
-{
+pub fn all_grants<P: Print>(rt: &P, m: &Memory) -> io::Result<()> {
     let mut label = "grants";
     for name in 1..=map::LAST_NAME {
         let page = at(m, map::GRANTS + wide(name));
@@ -38,9 +34,7 @@ pub fn all_grants<P: Print>(rt: &P, m: &[u8]) -> io::Result<()>
     println!(rt; "{label:<12}none")
 }
 
-pub fn clock<P: Print>(rt: &P, m: &[u8]) -> io::Result<()>
-    requires { length m.now ≡ 8192 }
-{
+pub fn clock<P: Print>(rt: &P, m: &Memory) -> io::Result<()> {
     let line = at(m, map::CLOCK_LINE);
     let divider = at(m, map::DIVIDER);
     let c0 = at(m, map::C0);
@@ -51,9 +45,7 @@ pub fn clock<P: Print>(rt: &P, m: &[u8]) -> io::Result<()>
 }
 
 // An own code and its program. The last code is never built in, so it is no exception.
-fn own_code<P: Print>(rt: &P, m: &[u8], code: u8) -> io::Result<()>
-    requires { length m.now ≡ 8192 }
-{
+fn own_code<P: Print>(rt: &P, m: &Memory, code: u8) -> io::Result<()> {
     let joined = if code < map::BUILT_IN_CODES {
         "but"
     } else {
@@ -72,9 +64,7 @@ fn absent_code<P: Print>(rt: &P, code: u8) -> io::Result<()> {
 }
 
 // A code, if it is not built in.
-fn exception<P: Print>(rt: &P, m: &[u8], code: u8) -> io::Result<()>
-    requires { length m.now ≡ 8192 }
-{
+fn exception<P: Print>(rt: &P, m: &Memory, code: u8) -> io::Result<()> {
     match at(m, map::CODE_WORDS + 2 * wide(code)) / map::HIGHS {
         instructions::BUILT_IN => Ok(()),
         instructions::OWN => own_code(rt, m, code),
@@ -82,9 +72,7 @@ fn exception<P: Print>(rt: &P, m: &[u8], code: u8) -> io::Result<()>
     }
 }
 
-pub fn all_codes<P: Print>(rt: &P, m: &[u8]) -> io::Result<()>
-    requires { length m.now ≡ 8192 }
-{
+pub fn all_codes<P: Print>(rt: &P, m: &Memory) -> io::Result<()> {
     println!(rt; "codes       0 to 14 are built in")?;
     for code in 0..map::ALL_CODES {
         exception(rt, m, code)?;
@@ -92,22 +80,42 @@ pub fn all_codes<P: Print>(rt: &P, m: &[u8]) -> io::Result<()>
     Ok(())
 }
 
-fn fault_text(fault: u8) -> &'static str {
+const FAULTS: [Fault; 13] = [
+    Fault::AbsentCode,
+    Fault::ExiOfExi,
+    Fault::CodeExists,
+    Fault::KeptCode,
+    Fault::BadWait,
+    Fault::NoMatch,
+    Fault::NoName,
+    Fault::NotStartable,
+    Fault::NameExists,
+    Fault::NotStopped,
+    Fault::Protected,
+    Fault::BadArgument,
+    Fault::AboveItself,
+];
+
+// The fault with a number, if there is one.
+fn fault_of(number: u8) -> Option<Fault> {
+    FAULTS.into_iter().find(|fault| u8::from(*fault) == number)
+}
+
+fn fault_text(fault: Fault) -> &'static str {
     match fault {
-        faults::ABSENT_CODE => "absent code",
-        faults::EXI_OF_EXI => "EXI of EXI",
-        faults::CODE_EXISTS => "the code exists",
-        faults::KEPT_CODE => "deleting code 0 or 1",
-        faults::BAD_WAIT => "no such interrupt to wait for, or count 0",
-        faults::NO_MATCH => "no such message in Q2",
-        faults::NO_NAME => "no such processor",
-        faults::NOT_STARTABLE => "the processor to start is not stopped, or also waits",
-        faults::NAME_EXISTS => "the name is taken",
-        faults::NOT_STOPPED => "the processor to delete is not stopped",
-        faults::PROTECTED => "protected word",
-        faults::BAD_ARGUMENT => "bad argument",
-        faults::ABOVE_ITSELF => "priority above its own",
-        _ => "unknown",
+        Fault::AbsentCode => "absent code",
+        Fault::ExiOfExi => "EXI of EXI",
+        Fault::CodeExists => "the code exists",
+        Fault::KeptCode => "deleting code 0 or 1",
+        Fault::BadWait => "no such interrupt to wait for, or count 0",
+        Fault::NoMatch => "no such message in Q2",
+        Fault::NoName => "no such processor",
+        Fault::NotStartable => "the processor to start is not stopped, or also waits",
+        Fault::NameExists => "the name is taken",
+        Fault::NotStopped => "the processor to delete is not stopped",
+        Fault::Protected => "protected word",
+        Fault::BadArgument => "bad argument",
+        Fault::AboveItself => "priority above its own",
     }
 }
 
@@ -115,14 +123,12 @@ fn fault_text(fault: u8) -> &'static str {
 fn error<P: Print>(rt: &P, label: &str, entered: u8) -> io::Result<()> {
     let fault = entered % map::FIELD;
     let name = entered / map::FIELD;
-    let text = fault_text(fault);
+    let text = fault_of(fault).map_or("unknown", fault_text);
     println!(rt; "{label:<12}fault {fault} by {name}: {text}")
 }
 
 // The first error has the label.
-pub fn all_errors<P: Print>(rt: &P, m: &[u8]) -> io::Result<()>
-    requires { length m.now ≡ 8192 }
-{
+pub fn all_errors<P: Print>(rt: &P, m: &Memory) -> io::Result<()> {
     let unused = at(m, map::FIRST_UNUSED);
     if unused < 2 {
         return println!(rt; "errors      none");
