@@ -6,9 +6,9 @@ use mathlib.Core.List.{List, [], ◌∷◌, ◌++◌}
 use native.Mathlib.Omega.{arith}
 use Rattle.std.specs.List.{list_all, range_with_len}
 use Rattle.std.specs.Prelude.{◌&&◌, take, drop, length, set, replicate}
-use Rattle.std.proofs.Common.{append_assoc, length-set}
+use Rattle.std.proofs.Common.{length-set}
 use Rattle.std.proofs.Math.Nat.{mod-eq_of_lt}
-use Rattle.std.proofs.lemmas.List.{take-set-le, drop-set, drop-drop, take-append-drop, replicate_more}
+use Rattle.std.proofs.lemmas.List.{take-set-le, drop-set, drop-drop, take-append-drop}
 use Rattle.std.proofs.lemmas.List.Folds.{list_all-append}
 use borrow.Rule.Slice.PartMut.{put_mid}
 use Rattle.model.specs.Address as Address

@@ -1,4 +1,4 @@
-use Rattle.std.proofs.Common.{rules, ◌+◌, ◌-◌, arith, sym, ◌∙◌}
+use Rattle.std.proofs.Common.{◌+◌, ◌-◌, arith, sym, ◌∙◌}
 use Rattle.mail.proofs.Laws.{tests_none, tests_end, tests_here, tests_on}
 use Rattle.mail.proofs.test_q1.Goals as goal
 

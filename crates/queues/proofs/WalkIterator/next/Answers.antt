@@ -1,5 +1,4 @@
-use Rattle.std.proofs.Common.{rules, ◌≡◌, ◌<◌, ◌+◌, ℕ, List, ◌-◌, ◌*◌, length, [], ◌∷◌, sym, ◌∙◌, refl}
-use Rattle.model.specs.Bytes as Model
+use Rattle.std.proofs.Common.{sym, ◌∙◌}
 use Rattle.queues.proofs.Laws.{walk_none, walk_stops, walk_goes, fewer}
 use Rattle.queues.proofs.WalkIterator.next.Goals as goal
 
