@@ -35,7 +35,8 @@ fn post(m: &mut Memory, page: ControlPage, note: Note, address: u16, size: u8)
     }
 }
 
-// A page is taken and posted; with none, the runner waits for one.
+// A page is taken and posted; with none, the runner waits for one. CRP has the same `match`: a function that both share would take a closure over the
+// memory, and its clauses be no plainer.
 #[tactic(auto, using(pages::proofs::Laws::page_none), unfolding(model::specs::Operate::sent))]
 fn send(m: &mut Memory, note: Note, address: u16, size: u8, length: u16) -> Answer
     requires { (address < 8192) × (length < 8192) }
