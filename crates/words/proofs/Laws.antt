@@ -52,7 +52,8 @@ copy_none zero m a b e = refl
 copy_none (suc n) m a b e = absurd (omega arith)
 
 -- a turn of the loop that copies, and its end: k words are copied
-pub copy_on : (n k : ℕ) (m m₁ r : Memory) (a b v a₁ b₁ : ℕ) → copy (n - k) m a b ≡ r → k < n → v ≡ at m a → m₁ ≡ write m b v → a₁ ≡ wrapped a 1 → b₁ ≡ wrapped b 1
+pub copy_on : (n k : ℕ) (m m₁ r : Memory) (a b v a₁ b₁ : ℕ) → copy (n - k) m a b ≡ r → k < n → v ≡ at m a → m₁ ≡ write m b v → a₁ ≡ wrapped a 1
+    → b₁ ≡ wrapped b 1
     → copy (n - (k + 1)) m₁ a₁ b₁ ≡ r
 copy_on n k m m₁ r a b v a₁ b₁ e l ev e₁ ea eb = rw (e₁, ev, ea, eb) (sym (copy_more (n - k) (n - (k + 1)) m a b (omega arith)) ∙ e)
 

@@ -9,11 +9,13 @@ returns-in_default c =
 
 pub returns-then-clear : goal.returns-then-clear
 returns-then-clear c =
-    rme_done c.args.m.now _ c.args.asked.name.0 c.args.asked.flag c.args.address c.args.length c.in-Some.message c.word-size.result c.clear.result c.in-Some.ensures
+    rme_done c.args.m.now _ c.args.asked.name.0 c.args.asked.flag c.args.address c.args.length c.in-Some.message c.word-size.result c.clear.result
+        c.in-Some.ensures
     c.word-size.ensures c.clear.ensures c.receive.new.m c.if-clear.true c.receive.ensures c.done.ensures
 
 pub returns : goal.returns
 unfolding Coded.fault_number
 returns c =
-    rme_guarded c.args.m.now _ c.args.asked.name.0 c.args.asked.flag c.args.address c.args.length c.in-Some.message c.word-size.result c.clear.result c.in-Some.ensures
+    rme_guarded c.args.m.now _ c.args.asked.name.0 c.args.asked.flag c.args.address c.args.length c.in-Some.message c.word-size.result c.clear.result
+        c.in-Some.ensures
     c.word-size.ensures c.clear.ensures c.if-clear.false c.fault-2.ensures

@@ -8,5 +8,6 @@ returns-in-Some c =
 
 pub returns-in-None : goal.returns-in-None
 returns-in-None c =
-    wnm_waits c.args.m.now _ c.args.asked.name.0 c.args.asked.flag 0 c.args.length c.running-runner.result.0 c.running-runner.ensures c.own.result.semaphore c.word.result
+    wnm_waits c.args.m.now _ c.args.asked.name.0 c.args.asked.flag 0 c.args.length c.running-runner.result.0 c.running-runner.ensures c.own.result.semaphore
+        c.word.result
     c.in-None.ensures c.own.ensures c.word.ensures c.wait.ensures

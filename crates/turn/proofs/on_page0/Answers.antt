@@ -1,4 +1,4 @@
-use Rattle.std.proofs.Common.{rules, ℕ}
+use Rattle.std.proofs.Common.{rules}
 use Rattle.model.specs.Map as Map
 use Rattle.model.specs.Turn as Turn
 use Rattle.model.specs.Bytes as Model
