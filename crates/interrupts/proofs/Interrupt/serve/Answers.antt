@@ -1,4 +1,4 @@
-use Rattle.std.proofs.Common.{◌+◌, ◌-◌, ◌≡◌, arith}
+use Rattle.std.proofs.Common.{◌+◌, ◌-◌, arith}
 use Rattle.model.specs.Map as Map
 use Rattle.interrupts.proofs.Laws.{serves_first, serves_end, serves_none, serves_on}
 use Rattle.interrupts.proofs.Interrupt.serve.Goals as goal
