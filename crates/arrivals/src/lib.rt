@@ -51,7 +51,11 @@ fn arrive(m: &mut Memory, number: u16, class: u16)
     requires { (Call.is_outer number ≡ true) × (Call.is_class number class ≡ true) }
     ensures { m.new ≡ Model.who_runs (Model.delivered m.old number class) }
 {
-    Interrupt { number: in_byte(number), class: low(class) }.deliver(m);
+    Interrupt {
+        number: in_byte(number),
+        class: low(class),
+    }
+    .deliver(m);
     who_runs(m);
 }
 

@@ -74,7 +74,11 @@ pub fn gin(m: &mut Memory, length: u16) -> Answer
 {
     let p = running(m);
     let n = name(m, p);
-    Interrupt { number: n.0, class: 0 }.serve(m);
+    Interrupt {
+        number: n.0,
+        class: 0,
+    }
+    .serve(m);
     done(m, length)
 }
 

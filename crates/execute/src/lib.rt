@@ -75,7 +75,10 @@ pub fn execute(m: &mut Memory, code: u8, given: Arguments, length: u16, depth: u
     requires { (given.field < 16) × (given.second < 16) × (given.w < 16) × (given.address < 8192) × (length < 8192) }
     ensures { gives (answered result) m.new ≡ Model.execute depth m.old code given length }
 {
-    let note = Note { name: Name(given.field), flag: given.second };
+    let note = Note {
+        name: Name(given.field),
+        flag: given.second,
+    };
     match code {
         instructions::CVI => cvi(m, given.field, given.address, length),
         instructions::DVI => dvi(m, given.field, length),

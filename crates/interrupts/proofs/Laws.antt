@@ -97,8 +97,6 @@ pub counter_last : (m m₁ : Memory) (c e k : ℕ) (b : Bool) → b ≡ ends m c
     → m₁ ≡ cond (ends m c e) (turns m c k) (counts m c)
 counter_last m m₁ c e k b eb e₁ = rw (← eb) e₁
 
-pub ruleset clock = (counter_ends, counter_counts, counter_last)
-
 module _ (m m₁ : Memory) (k c l : ℕ) (el : l ≡ at m clock_line) where
   pub delivered_clock : (m₂ : Memory) → k ≡ l → m₁ ≡ serve m k c → m₂ ≡ c0_counts m₁ → m₂ ≡ delivered m k c
   unfolding Interrupt.delivered

@@ -90,7 +90,6 @@ fn tick(m: &mut Memory, counter: u16, end: u8, interrupt: u8) -> bool
 }
 
 // The counters C0 to C3: each counts where the one before came to its end, C0's being the divider.
-#[tactic(auto, using(crate::proofs::Laws::clock), unfolding(model::specs::Interrupt::c0_counts, model::specs::Interrupt::c1_counts, model::specs::Interrupt::c2_counts, model::specs::Interrupt::c3_counts))]
 fn count(m: &mut Memory)
     ensures { m.new ≡ Model.c0_counts m.old }
 {

@@ -120,7 +120,7 @@ unfolding Queue.walk
 no_zero zero m k a = tt
 no_zero (suc n) m k a =
     no_zero_if (eqb (at m a) 0) (at m a) (walk n m k (place (at m a) k)) (λ e z. let h : eqb (at m a) 0 ≡ true = eq-eqb (at m a) 0 z in cc)
-        (no_zero n m k (place (at m a) k))
+    (no_zero n m k (place (at m a) k))
 
 -- what was found has its number, and is none where the number is 0
 none_found : (r : Option ControlPage) → option_map (λ (p : ControlPage). p.0) r ≡ None → r ≡ None

@@ -20,7 +20,13 @@ fn make(m: &mut Memory, e: Entry)
 {
     let runner = running(m);
     let page = take_page(m, runner).unwrap_or(ControlPage(0));
-    Newcomer { name: Name(e.name), priority: e.priority, w: e.w, address: e.address }.create(m, page);
+    Newcomer {
+        name: Name(e.name),
+        priority: e.priority,
+        w: e.w,
+        address: e.address,
+    }
+    .create(m, page);
 }
 
 // So many entries of a block from the cursor on, in order.

@@ -181,7 +181,7 @@ same_is None (Some q) e = cc
 same_is (Some p) None e = cc
 same_is (Some p) (Some q) e =
     ⊎_elim (λ (h : p.0 ≡ q.0). ap (λ (k : ℕ). Some (record { 0 = k })) h) (λ (z : p.0 ≡ q.0 → ⊥). let h : eqb p.0 q.0 ≡ false = ne_eqb p.0 q.0 z in cc)
-        (cases_eq p.0 q.0)
+    (cases_eq p.0 q.0)
 
 same_self : (o : Option ControlPage) → same o o ≡ true
 same_self None = refl

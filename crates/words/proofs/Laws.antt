@@ -34,9 +34,9 @@ unfolding Address.clear
 clear_list zero a = refl
 clear_list (suc n) a =
     ap (list_all (free a)) (more_numbers 0 n n (omega arith))
-        ∙ list_all-append (free a) (range_with_len 0 n) (n ∷ [])
-        ∙ ap (λ c. c && (not (guarded (wrapped a n)) && true)) (clear_list n a)
-        ∙ both_ways (guarded (wrapped a n)) (clear n a)
+    ∙ list_all-append (free a) (range_with_len 0 n) (n ∷ [])
+    ∙ ap (λ c. c && (not (guarded (wrapped a n)) && true)) (clear_list n a)
+    ∙ both_ways (guarded (wrapped a n)) (clear n a)
 
 pub clear_all : (n a : ℕ) (r : Bool) → r ≡ list_all (free a) (range_with_len 0 n) → r ≡ clear n a
 clear_all n a r e = e ∙ clear_list n a
@@ -75,9 +75,9 @@ filled (suc n) m a l e =
     let h : a + n < length m = omega arith in
     let front : take a (set m (a + n) 0) ≡ take a m = take-set-le a m (a + n) 0 (omega arith) in
     let next : drop (a + n + 1) m ≡ drop (suc n) (drop a m) =
-        let k : a + n + 1 ≡ a + suc n = omega arith in ap (λ i. drop i m) k ∙ sym (drop-drop (suc n) a m) in
+    let k : a + n + 1 ≡ a + suc n = omega arith in ap (λ i. drop i m) k ∙ sym (drop-drop (suc n) a m) in
     let back : drop n (drop a (set m (a + n) 0)) ≡ 0 ∷ drop (suc n) (drop a m) =
-        drop-drop n a (set m (a + n) 0) ∙ drop-set m (a + n) 0 h ∙ ap (λ xs. 0 ∷ xs) next in
+    drop-drop n a (set m (a + n) 0) ∙ drop-set m (a + n) 0 h ∙ ap (λ xs. 0 ∷ xs) next in
     let left : put_mid a n (set m (a + n) 0) (replicate n 0) ≡ put_mid a (suc n) m (replicate (suc n) 0) =
-        rw (front, back) (ap (λ xs. take a m ++ xs) (zeros_on n (drop (suc n) (drop a m)))) in
+    rw (front, back) (ap (λ xs. take a m ++ xs) (zeros_on n (drop (suc n) (drop a m)))) in
     sym left ∙ filled n (set m (a + n) 0) a (rw length-set (omega arith)) (rw length-set e) ∙ rw w

@@ -8,7 +8,7 @@ loop-page-init c = leads_first c.args.m.now c.stays-leader.result c.into_iter-pa
 pub loop-page-preserved-then-above : goal.loop-page-preserved-then-above
 loop-page-preserved-then-above c =
     leads_taken c.args.m.now c.loop-page.leader c.loop-page.page-iterator c.next.new.self c.in-Some.page c.loop-page.invariant c.in-Some.ensures.steps
-        c.if-ready.ensures
+    c.if-ready.ensures
     c.if-above.ensures
 
 pub loop-page-preserved : goal.loop-page-preserved

@@ -8,4 +8,4 @@ pub returns : goal.returns
 returns c =
     clear_all c.args.count c.args.address c.all.result
     (all_from_yields_List (free c.args.address) _ _ _ c.all.ensures.ran (YieldsList-from_range 0 c.args.count c.args.count refl (omega arith))
-        (λ x b q k. search (rules, tests)))
+    (λ x b q k. search (rules, tests)))

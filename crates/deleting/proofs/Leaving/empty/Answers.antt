@@ -11,7 +11,7 @@ pub loop-preserved : goal.loop-preserved
 loop-preserved c =
     sym
     (walk_on empties (Map.control_pages - c.loop.counter) (Map.control_pages - (c.loop.counter + 1)) c.loop.m c.return_message.new.m c.args.self.name.0
-        c.args.header
+    c.args.header
     c.args.header c.in-Some.message (omega arith) c.in-Some.ensures (cc) refl)
     ∙ c.loop.invariant
 

@@ -16,7 +16,7 @@ pub loop-preserved : goal.loop-preserved
 loop-preserved c =
     serves_on (Map.control_pages - c.loop.counter) c.loop.m c.args.self.number c.args.self.class c.loop.next _ c.loop.invariant
     (Map.control_pages - (c.loop.counter + 1)) c.strike.new.m c.in-Some.page c.place.result c.page_at-next-in-loop.result (omega arith) c.in-Some.is
-        c.place.ensures.0
+    c.place.ensures.0
     c.page_at-next-in-loop.ensures c.strike.ensures
 
 pub returns : goal.returns
