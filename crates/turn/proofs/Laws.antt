@@ -116,9 +116,9 @@ from_fn_at g h f ys i (suc n) calls e (suc k) l =
     let more : IsFromFnResultFrom g f ys (i + 1) n = subst (λ q. IsFromFnResultFrom g q ys (i + 1) n) (calls i e.1 e.0 e.3).0 e.4 in
     rw s (from_fn_at g h f ys (i + 1) n calls more k (omega arith))
 
-pub words_made : {F : Type 0} (g : Mut F (ℕ × Unit {0}) ℕ) (h : ℕ → ℕ) (f : F) (ys : List ℕ) → IsFromFnResult g f ys 19
+pub words_made : {F : Type 0} {g : Mut F (ℕ × Unit {0}) ℕ} {f : F} (h : ℕ → ℕ) (ys : List ℕ) → IsFromFnResult g f ys 19
     → ((x y : ℕ) (q : F) → Called g f (x, tt) y q → (q ≡ f) × (y ≡ h x)) → ys ≡ nineteen h
-words_made g h f ys e calls =
+words_made {F} {g} {f} h ys e calls =
     fill_by_all h ys 19 0 e.long (λ k l. let z : 0 + k ≡ k = omega arith in rw z at (from_fn_at g h f ys 0 19 calls e.each k l))
 
 -- a turn of the loop that keeps, of the one that restores, and their ends: n words are left
