@@ -15,7 +15,8 @@ use model::{Answer, ControlPage, Fault, Memory, Registers, map, wide};
 use processors::{WaitQueue, accumulate, advance, lr, name, running};
 use words::{address_at, at, clear, guarded, high, low, raised, wrapped, write};
 
-// The kind of a code, whether it is of that one, and its program's address.
+// The kind of a code, whether it is of that one, and its program's address. A code is a number here, and no `Code`: 15, which is never built in, may be an
+// own one.
 pub fn kind(m: &Memory, code: u8) -> Result<Kind, NoKind>
     ensures { result ≡ kind_of (Model.kind m.now code) }
 {

@@ -12,7 +12,7 @@ use Rattle.model.specs.Rule.{same, holds}
 use Rattle.model.specs.Lists as Lists
 use Rattle.model.specs.Lists.{is_grant, link_of, reach}
 use Rattle.model.specs.Bytes.{Memory, at, lists}
-use Rattle.queues.proofs.Laws.{found_is, found_none, walk_end, walk_on}
+use Rattle.queues.proofs.Laws.{walk_end, walk_on}
 use Rattle.lists.proofs.Folds.{lists_is}
 
 reach_some : (a : ℕ) → 0 < reach a
@@ -25,11 +25,11 @@ reach_some a = go (is_grant a)
 
 module _ (m : Memory) (a w : ℕ) (ew : w ≡ at m a) where
   pub head_none : w ≡ 0 → lists m a ≡ []
-  head_none z = lists_is m a ∙ walk_end (reach a) m (link_of a) a (sym (found_none (at m a) (sym ew ∙ z)))
+  head_none z = lists_is m a ∙ walk_end (reach a) m (link_of a) a w ew z
 
   pub head_some : (w ≡ 0 → ⊥) → length (lists m a) ≡ 0 → ⊥
   head_some n e =
-      let q = lists_is m a ∙ walk_on (reach a) m (link_of a) a (place (at m a) (link_of a)) (record { 0 = at m a }) (λ z. omega (arith, reach_some a, z)) (sym (found_is (at m a) (λ z. n (ew ∙ z)))) refl in
+      let q = lists_is m a ∙ walk_on (reach a) m (link_of a) a w (place w (link_of a)) (λ z. omega (arith, reach_some a, z)) ew n refl in
       let h = rw q at e in
       omega (arith, h)
 

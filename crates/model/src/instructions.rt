@@ -29,11 +29,6 @@ pub enum Code {
     Exi = 14,
 }
 
-// ST1 and STP by their numbers.
-pub const ST1: u8 = Code::St1 as u8;
-
-pub const STP: u8 = Code::Stp as u8;
-
 // "4 deleting code 0 or 1": the first that may go.
 pub const FIRST_GOING: u8 = 2;
 
