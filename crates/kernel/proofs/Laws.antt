@@ -1,18 +1,19 @@
 -- The head of a call, what a call comes to behind its refusals, and that a call allows one outcome only.
-use Rattle.std.proofs.Common.{◌≡◌, ◌≢◌, ◌≤◌, ℕ, List, length, refl, sym, ap, ◌∙◌}
-use Rattle.std.specs.Prelude.{Bool, true, false, cond, eqb, Result, Ok, Err}
+use Rattle.std.proofs.Common.{◌≡◌, ◌≢◌, ℕ, List, length, refl, sym, ap, ◌∙◌}
+use Rattle.std.specs.Prelude.{Bool, true, false, Result, Ok, Err}
 use Rattle.std.specs.Array.{IsWholeChunk}
 use Rattle.std.specs.Result.{IsErrAnd}
 use borrow.Author.Tests.{eq-eqb, ne_eqb}
 use native.Mathlib.Omega.{arith}
 use Rattle.model.specs.declared.Answer.{Answer as Answered}
+use Rattle.model.specs.declared.Answer.TheVariants.{Done}
+use Rattle.model.specs.declared.ControlPage.{ControlPage}
 use Rattle.model.specs.declared.Registers.{Registers}
 use Rattle.model.specs.declared.refusal.Broken.{Broken as BrokenAt}
 use Rattle.model.specs.declared.refusal.Refusal.{Refusal}
-use Rattle.model.specs.declared.refusal.Refusal.TheVariants as Refusal
-use Rattle.model.specs.Told.{Answer, Held, Verdict, Fit, Finding, Writing}
+use Rattle.model.specs.Told.{Answer, Held, Verdict, Fit}
 use Rattle.model.specs.Map.{memory_size, low}
-use Rattle.model.specs.Answer.{Outcome, wrong_length, numbers, held_numbers, verdict_numbers, writing_numbers}
+use Rattle.model.specs.Answer.{Outcome}
 use Rattle.model.specs.Answer.Outcome.{gives}
 use Rattle.model.specs.Coded as Coded
 use Rattle.model.specs.Coded.{told, held_told, verdict_told, fit_told, broken_told}
@@ -22,37 +23,52 @@ use Rattle.model.specs.Layout as Layout
 use Rattle.model.specs.Layout.{is_good, newest, of_block, of_file}
 use Rattle.model.specs.Settings as Settings
 use Rattle.laws.specs.Calls.{args_of}
-use Rattle.laws.specs.Fits.{block_of, ends_of, laid_least}
+use Rattle.laws.specs.Fits.{ends_of}
 use Rattle.kernel.specs.Spoken as Spoken
 use Rattle.kernel.specs.Spoken.{spoken, idle_or}
-use Rattle.model.specs.Bytes.{Memory, Step, told_of, head, running, lr, registers_of, set_registers_of, fetched, started, settled, from_settings}
+use Rattle.model.specs.Processor.{in_range}
+use Rattle.model.specs.Bytes as Model
+use Rattle.model.specs.Bytes.{Memory, Step, told_of, head, running, lr, registers_of, set_registers_of, fetched, started, settled, from_settings, heeds_file}
 
--- ---- the head of a call but fresh: the length, then what is found. The answer's type is A, which the code has as a Result of X, told by t
-module _ {A X : Type 0} (refuses : ℕ → A) (tells : ℕ → ℕ → A) (t : Result X Refusal → A) (et : (e : Refusal) → t (Err e) ≡ Coded.refusal refuses tells e)
-    (goes : Memory → Outcome A Memory) where
-  head_short : (m : Memory) → length m ≢ memory_size → gives (t (Err Refusal.WrongLength)) m ≡ head m refuses tells (goes m)
+-- ---- the head of a call but fresh: the length, then what is found. What the code has as a Result of X, the paper has as an A
+pub record Way (A X : Type 0) : Type 0 where
+  pub refuses : ℕ → A
+  pub tells : ℕ → ℕ → A
+  pub says : Result X Refusal → A
+  pub err : (e : Refusal) → says (Err e) ≡ Coded.refusal refuses tells e
+
+module _ {A X : Type 0} (w : Way A X) (goes : Memory → Outcome A Memory) where
+  pub head_short : (m : Memory) → length m ≢ memory_size → gives (w.says (Err Refusal.WrongLength)) m ≡ head m w.refuses w.tells (goes m)
   unfolding Call.head Call.finding Coded.refusal
-  head_short m d = rw (et Refusal.WrongLength, ne_eqb (length m) memory_size d)
+  head_short m d = rw (w.err Refusal.WrongLength, ne_eqb (length m) memory_size d)
 
   -- n is m, as an array
-  module _ (m n : Memory) (w : IsWholeChunk m n memory_size) where
-    head_broken : (b : BrokenAt) (r : Result X Refusal) → broken_told (Err b) ≡ told_of n → IsErrAnd r (λ e. e ≡ Refusal.Broken b)
-        → gives (t r) n ≡ head m refuses tells (goes m)
+  module _ (m n : Memory) (h : IsWholeChunk m n memory_size) where
+    pub head_broken : (b : BrokenAt) (r : Result X Refusal) → broken_told (Err b) ≡ told_of n → IsErrAnd r (λ e. e ≡ Refusal.Broken b)
+        → gives (w.says r) n ≡ head m w.refuses w.tells (goes m)
     unfolding Call.head Call.finding Coded.refusal Coded.broken_told
     head_broken b (Ok a) x y = absurd y
     head_broken b (Err e) x y =
-        let l = eq-eqb (length m) memory_size w.long in
-        let z : broken_told (Err b) ≡ told_of m = rw w.same at x in
-        rw (y, et (Refusal.Broken b), w.same, l, ← z)
+        let l = eq-eqb (length m) memory_size h.long in
+        let z : broken_told (Err b) ≡ told_of m = rw h.same at x in
+        rw (y, w.err (Refusal.Broken b), h.same, l, ← z)
 
-    head_goes : (r : Result X Refusal) (k : Memory) → broken_told (Ok tt) ≡ told_of n → gives (t r) k ≡ goes n → gives (t r) k ≡ head m refuses tells (goes m)
+    pub head_goes : (r : Result X Refusal) (k : Memory) → broken_told (Ok tt) ≡ told_of n → gives (w.says r) k ≡ goes n → gives (w.says r) k ≡ head m w.refuses w.tells (goes m)
     unfolding Call.head Call.finding Coded.broken_told
     head_goes r k x y =
-        let l = eq-eqb (length m) memory_size w.long in
-        let z : broken_told (Ok tt) ≡ told_of m = rw w.same at x in
-        rw (l, ← z) (rw w.same at y)
+        let l = eq-eqb (length m) memory_size h.long in
+        let z : broken_told (Ok tt) ≡ told_of m = rw h.same at x in
+        rw (l, ← z) (rw h.same at y)
 
--- told is the one way to say a refusal
+    -- the same of a call that is only lent the memory to look at
+    pub look_broken : (b : BrokenAt) (r : Result X Refusal) → broken_told (Err b) ≡ told_of n → IsErrAnd r (λ e. e ≡ Refusal.Broken b)
+        → gives (w.says r) m ≡ head m w.refuses w.tells (goes m)
+    look_broken b r x y = let e = head_broken b r x y in rw h.same at e
+
+    pub look_goes : (r : Result X Refusal) → broken_told (Ok tt) ≡ told_of n → gives (w.says r) n ≡ goes n → gives (w.says r) m ≡ head m w.refuses w.tells (goes m)
+    look_goes r x y = let e = head_goes r n x y in rw h.same at e
+
+-- the same of the calls that answer as an instruction does, of reading registers and of judging
 pub told_err : (e : Refusal) → told (Err e) ≡ Coded.refusal Answer.Refused Answer.RefusedAt e
 unfolding Coded.told
 told_err e = refl
@@ -65,31 +81,114 @@ pub verdict_err : (e : Refusal) → verdict_told (Err e) ≡ Coded.refusal Verdi
 unfolding Coded.verdict_told
 verdict_err e = refl
 
--- ---- what stands behind the refusals
-module _ (m : Memory) where
+abbrev pub step : Way Answer Answered
+step = record { refuses = Answer.Refused; tells = Answer.RefusedAt; says = told; err = told_err }
+
+abbrev pub held : Way Held Registers
+held = record { refuses = Held.Refused; tells = Held.RefusedAt; says = held_told; err = held_err }
+
+abbrev pub verdict : Way Verdict (Unit {0})
+verdict = record { refuses = Verdict.Refused; tells = Verdict.RefusedAt; says = verdict_told; err = verdict_err }
+
+-- ---- the fresh start; n is m, as an array
+pub fresh_short : (m : Memory) (l d : ℕ) → length m ≢ memory_size → gives (told (Err Refusal.WrongLength)) m ≡ Model.fresh m l d
+unfolding Call.fresh Coded.told Coded.refusal
+fresh_short m l d h = rw (ne_eqb (length m) memory_size h)
+
+module _ (m n : Memory) (h : IsWholeChunk m n memory_size) (l d : ℕ) (b : Bool) (eb : b ≡ startable l d) where
+  pub fresh_wrong : b ≡ false → gives (told (Err Refusal.OutOfRange)) n ≡ Model.fresh m l d
+  unfolding Call.fresh Coded.told Coded.refusal
+  fresh_wrong f = rw (eq-eqb (length m) memory_size h.long, ← eb, f, h.same)
+
   -- v and w are line and divider as bytes
-  pub started_is : (m₁ : Memory) (l d v w : ℕ) (b : Bool) → b ≡ startable l d → b ≡ true → m₁ ≡ started m v w → v ≡ low l → w ≡ low d
-      → gives Answer.Done m₁ ≡ gives Answer.Done (started m l d)
-  started_is m₁ l d v w b eb h e₁ ev ew =
-      let r = args_of l d (sym eb ∙ h) in
+  pub fresh_done : (m₁ : Memory) (v w : ℕ) → b ≡ true → m₁ ≡ started n v w → v ≡ low l → w ≡ low d → gives (told (Ok Done)) m₁ ≡ Model.fresh m l d
+  unfolding Call.fresh Coded.told Coded.answered
+  fresh_done m₁ v w t e ev ew =
+      let r = args_of l d (sym eb ∙ t) in
       let x : v ≡ l = omega (arith, r) in
       let y : w ≡ d = omega (arith, r) in
-      rw (← x, ← y, ← e₁)
+      rw (eq-eqb (length m) memory_size h.long, ← eb, t, e, x, y, h.same)
 
--- ---- a fresh start from settings: o is the verdict of the file f
-module _ (f : List ℕ) (eo : Fit.Good ≡ of_file f) where
-  pub file_good : is_good (of_file f) ≡ true
-  unfolding Layout.is_good
-  file_good = rw (← eo)
+-- ---- 22, where nobody runs
+module _ (m : Memory) (e : Refusal) (h : idle_or (running m) (Err e)) where
+  pub idle_instruction : (r : Result Answered Refusal) → IsErrAnd r (λ x. x ≡ e) → gives (told r) m ≡ Model.instruction_judged m
+  unfolding Call.instruction_judged Coded.told Coded.refusal
+  idle_instruction (Ok a) y = absurd y
+  idle_instruction (Err x) y = rw (y, h.0, eq-eqb (running m) 0 h.1)
 
-  -- b is its newest block
-  module _ (b : List ℕ) (eb : b ≡ newest f) where
-    pub newest_good : is_good (of_block b) ≡ true
-    unfolding Layout.is_good
-    newest_good = rw (eb, (ends_of f (sym eo)).block)
+  pub idle_read : (r : Result Registers Refusal) → IsErrAnd r (λ x. x ≡ e) → gives (held_told r) m ≡ Model.read_judged m
+  unfolding Call.read_judged Coded.held_told Coded.refusal
+  idle_read (Ok a) y = absurd y
+  idle_read (Err x) y = rw (y, h.0, eq-eqb (running m) 0 h.1)
 
-    pub newest_least : 4 ≤ length b
-    newest_least = laid_least b (block_of b (rw eb (ends_of f (sym eo)).block)).laid
+  pub idle_set : (r : Result Answered Refusal) (x : Registers) → IsErrAnd r (λ x. x ≡ e) → gives (told r) m ≡ Model.set_judged m x
+  unfolding Call.set_judged Coded.told Coded.refusal
+  idle_set (Ok a) x y = absurd y
+  idle_set (Err z) x y = rw (y, h.0, eq-eqb (running m) 0 h.1)
+
+-- what stands behind 22: p is the page of the one that runs
+module _ (m : Memory) (p : ControlPage) (h : idle_or (running m) (Ok p)) where
+  pub instruction_fetched : (r : Result Answered Refusal) (m₁ : Memory) (a : ℕ) → a ≡ lr m → gives (told r) m₁ ≡ fetched m a → gives (told r) m₁ ≡ Model.instruction_judged m
+  unfolding Call.instruction_judged
+  instruction_fetched r m₁ a ea e = rw (ne_eqb (running m) 0 h.1, ← ea) e
+
+  pub registers_read : (r : Registers) → r ≡ registers_of m p.0 → gives (held_told (Ok r)) m ≡ Model.read_judged m
+  unfolding Call.read_judged Coded.held_told
+  registers_read r e = rw (ne_eqb (running m) 0 h.1, e, h.0)
+
+  module _ (x : Registers) (b : Bool) (eb : b ≡ in_range x) where
+    pub registers_wide : b ≡ false → gives (told (Err Refusal.OutOfRange)) m ≡ Model.set_judged m x
+    unfolding Call.set_judged Coded.told Coded.refusal
+    registers_wide f = rw (ne_eqb (running m) 0 h.1, ← eb, f)
+
+    pub registers_set : (m₁ : Memory) → b ≡ true → m₁ ≡ set_registers_of m p.0 x → gives (told (Ok Done)) m₁ ≡ Model.set_judged m x
+    unfolding Call.set_judged Coded.told Coded.answered
+    registers_set m₁ t e = rw (ne_eqb (running m) 0 h.1, ← eb, t, e, h.0)
+
+pub ruleset running_one = (idle_instruction, idle_read, idle_set, instruction_fetched, registers_read, registers_wide, registers_set)
+
+-- ---- the fresh start from settings in the file f
+pub settings_short : (m : Memory) (f : List ℕ) → length m ≢ memory_size → gives (told (Err Refusal.WrongLength)) m ≡ from_settings m f
+unfolding Settings.from_settings Coded.told Coded.refusal
+settings_short m f h = rw (ne_eqb (length m) memory_size h)
+
+-- a refusal of the file is one of the call
+file_heeded : (m : Memory) (f : List ℕ) (e : Refusal)
+    → heeds_file (Coded.refusal Fit.Refused Fit.RefusedAt e) m f ≡ gives (Coded.refusal Answer.Refused Answer.RefusedAt e) m
+unfolding Coded.refusal
+file_heeded m f Refusal.WrongLength = refl
+file_heeded m f Refusal.Idle = refl
+file_heeded m f Refusal.NoInstruction = refl
+file_heeded m f Refusal.NoInterrupt = refl
+file_heeded m f (Refusal.NoInterruptAt i) = refl
+file_heeded m f Refusal.WrongClass = refl
+file_heeded m f (Refusal.WrongClassAt i) = refl
+file_heeded m f Refusal.OutOfRange = refl
+file_heeded m f Refusal.WrongList = refl
+file_heeded m f Refusal.BrokenLayout = refl
+file_heeded m f (Refusal.TooNew v) = refl
+file_heeded m f (Refusal.Broken b) = refl
+file_heeded m f Refusal.NoRoom = refl
+
+module _ (f : List ℕ) where
+  pub file_good : fit_told (Ok tt) ≡ of_file f → is_good (of_file f) ≡ true
+  unfolding Layout.is_good Coded.fit_told
+  file_good e = rw (← e)
+
+  pub newest_good : (b : List ℕ) → fit_told (Ok tt) ≡ of_file f → b ≡ newest f → is_good (of_block b) ≡ true
+  unfolding Layout.is_good Coded.fit_told
+  newest_good b e eb = rw (eb, (ends_of f (sym e)).block)
+
+  -- n is m, as an array
+  module _ (m n : Memory) (h : IsWholeChunk m n memory_size) where
+    pub settings_refused : (e : Refusal) (r : Result Answered Refusal) → fit_told (Err e) ≡ of_file f → IsErrAnd r (λ x. x ≡ e) → gives (told r) n ≡ from_settings m f
+    unfolding Settings.from_settings Coded.told Coded.fit_told
+    settings_refused e (Ok a) x y = absurd y
+    settings_refused e (Err z) x y = rw (y, eq-eqb (length m) memory_size h.long, ← x, h.same) (sym (file_heeded m f e))
+
+    pub settings_done : (b : List ℕ) (k : Memory) → fit_told (Ok tt) ≡ of_file f → b ≡ newest f → k ≡ settled n b → gives (told (Ok Done)) k ≡ from_settings m f
+    unfolding Settings.from_settings Coded.told Coded.answered Coded.fit_told
+    settings_done b k e eb ek = rw (eq-eqb (length m) memory_size h.long, ← e, ek, eb, h.same)
 
 -- ---- two outcomes that one statement allows are equal, in answer and in memory: of each call, f being its outcome
 pub one_outcome : {A : Type 0} (a b : A) (m n : Memory) (f : Outcome A Memory) → gives a m ≡ f → gives b n ≡ f → (a ≡ b) × (m ≡ n)

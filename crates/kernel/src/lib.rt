@@ -68,6 +68,7 @@ fn runner(m: &Memory) -> Result<ControlPage, Refusal>
     Ok(page)
 }
 
+#[tactic(auto, using(crate::proofs::Laws::running_one))]
 fn instruction_judged(m: &mut Memory) -> Result<Answer, Refusal>
     ensures { gives (told result) m.new ≡ Model.instruction_judged m.old }
 {
@@ -113,6 +114,7 @@ pub fn burst(m: &mut [u8], list: &[u8]) -> Result<Answer, Refusal>
     burst_judged(m, list)
 }
 
+#[tactic(auto, using(crate::proofs::Laws::running_one))]
 fn read_judged(m: &Memory) -> Result<Registers, Refusal>
     ensures { gives (held_told result) m.now ≡ Model.read_judged m.now }
 {
@@ -131,6 +133,7 @@ pub fn read_registers(m: &[u8]) -> Result<Registers, Refusal>
     read_judged(m)
 }
 
+#[tactic(auto, using(crate::proofs::Laws::running_one))]
 fn set_judged(m: &mut Memory, registers: Registers) -> Result<Answer, Refusal>
     ensures { gives (told result) m.new ≡ Model.set_judged m.old registers }
 {

@@ -1,0 +1,28 @@
+use Rattle.model.specs.Call as Call
+use Rattle.model.specs.Answer.{numbers}
+use Rattle.model.specs.Bytes as Model
+use Rattle.kernel.proofs.Laws.{by_numbers, head_broken, head_goes, head_short, step}
+use Rattle.kernel.proofs.set_registers.Goals as goal
+
+pub returns-in_default-clause-outcome : goal.returns-in_default-clause-outcome
+unfolding Call.set_registers
+returns-in_default-clause-outcome c = head_short step (λ m. Model.set_judged m c.args.registers) c.args.m.now c.in_default.ensures.cases
+
+pub returns-in_default-clause-numbers : goal.returns-in_default-clause-numbers
+returns-in_default-clause-numbers c = by_numbers numbers _ _ _ (returns-in_default-clause-outcome c)
+
+pub returns-in_err-finding-clause-outcome : goal.returns-in_err-finding-clause-outcome
+unfolding Call.set_registers
+returns-in_err-finding-clause-outcome c =
+    head_broken step (λ m. Model.set_judged m c.args.registers) _ _ c.in-Some.ensures.cases c.in_err-finding.field-0.0 c.from_residual.result c.in_err-finding.ensures c.from_residual.ensures.1
+
+pub returns-in_err-finding-clause-numbers : goal.returns-in_err-finding-clause-numbers
+returns-in_err-finding-clause-numbers c = by_numbers numbers _ _ _ (returns-in_err-finding-clause-outcome c)
+
+pub returns-clause-outcome : goal.returns-clause-outcome
+unfolding Call.set_registers
+returns-clause-outcome c =
+    head_goes step (λ m. Model.set_judged m c.args.registers) _ _ c.in-Some.ensures.cases c.set_judged.result c.set_judged.new.m c.in_ok-finding.ensures c.set_judged.ensures
+
+pub returns-clause-numbers : goal.returns-clause-numbers
+returns-clause-numbers c = by_numbers numbers _ _ _ (returns-clause-outcome c)
