@@ -4,15 +4,15 @@
 
 pub mod sizes;
 
-ghost use Rattle.std.specs.Prelude.{◌≡◌, ◌++◌, ◌<◌, ◌≤◌, ◌+◌, length, drop, set};
+ghost use Rattle.std.specs.Prelude.{◌≡◌, ◌++◌, ◌≤◌, ◌+◌, length, drop};
 ghost use Rattle.model.specs.Answer.Outcome.{gives};
-ghost use Rattle.model.specs.Settings.{write_settings};
+ghost use Rattle.model.specs.Coded.{told, writing_told};
 ghost use Rattle.lending.specs.Sizes.{buffer_words};
 ghost use Rattle.lending.specs.Parts as Parts;
 ghost use Rattle.lending.specs.Lists as Lists;
 
 use files::laying::lay;
-use model::{Answer, Writing, map};
+use model::{Answer, Refusal, map};
 
 // So many words from a place on become the first of the copy.
 #[tactic(auto, using(crate::proofs::Parts::parts))]
@@ -26,9 +26,9 @@ fn copy_out(copied: &mut [u8], m: &[u8], at: usize, count: usize)
 
 // The fresh start from the file in so many words from a place on.
 #[tactic(auto, using(crate::proofs::Parts::parts))]
-pub fn fresh_from(m: &mut [u8], lent: usize, at: usize, count: usize) -> Answer
+pub fn fresh_from(m: &mut [u8], lent: usize, at: usize, count: usize) -> Result<Answer, Refusal>
     requires { (length m.old ≡ buffer_words) × (lent ≤ length m.old) × (at + count ≤ length m.old) }
-    ensures { gives result m.new ≡ Parts.fresh_from m.old lent at count }
+    ensures { gives (told result) m.new ≡ Parts.fresh_from m.old lent at count }
 {
     let mut file = [0u8; sizes::BUFFER_WORDS];
     copy_out(&mut file, m, at, count);
@@ -43,9 +43,9 @@ pub fn write_in(
     used: usize,
     block: usize,
     long: usize,
-) -> Writing
+) -> Result<usize, Refusal>
     requires { (length m.old ≡ buffer_words) × (file + room ≤ length m.old) × (block + long ≤ length m.old) }
-    ensures { gives result m.new ≡ Parts.written_in m.old file room used block long }
+    ensures { gives (writing_told result) m.new ≡ Parts.written_in m.old file room used block long }
 {
     let mut copied = [0u8; sizes::BUFFER_WORDS];
     copy_out(&mut copied, m, file, room);
@@ -62,13 +62,6 @@ fn in_byte(given: u16) -> u8
     ensures { result ≡ Lists.in_byte given }
 {
     u8::try_from(given).unwrap_or(map::A_WORD)
-}
-
-pub fn store_word(m: &mut [u8], at: usize, value: u8)
-    requires { at < length m.old }
-    ensures { m.new ≡ set m.old at value }
-{
-    m[at] = value;
 }
 
 // The first `count` numbers given become the first bytes of the list.

@@ -6,6 +6,7 @@ use Rattle.model.specs.declared.Answer.{Answer as Answered}
 use Rattle.model.specs.declared.Answer.TheVariants as Coded
 use Rattle.model.specs.declared.fault.Fault.{Fault as Faulted}
 use Rattle.model.specs.declared.fault.Fault.TheVariants as Fault
+use Rattle.model.specs.declared.fault.NoFault.{NoFault}
 use Rattle.model.specs.declared.refusal.Class.{Class}
 use Rattle.model.specs.declared.refusal.Class.TheVariants.{Pages, Waits, Records, Tables, Counters}
 use Rattle.model.specs.declared.refusal.Broken.{Broken as BrokenAt}
@@ -47,6 +48,15 @@ fault_number Fault.NotStopped = not_stopped
 fault_number Fault.Protected = protected
 fault_number Fault.BadArgument = bad_argument
 fault_number Fault.AboveItself = above_itself
+
+-- the fault with a number, if there is one
+unfoldable pub fault_of : ℕ → Result Faulted NoFault
+fault_of n =
+    get_or
+    (Err (record { 0 = n }) ∷ Ok Fault.AbsentCode ∷ Ok Fault.ExiOfExi ∷ Ok Fault.CodeExists ∷ Ok Fault.KeptCode ∷ Ok Fault.BadWait ∷ Ok Fault.NoMatch ∷ Ok Fault.NoName
+    ∷ Ok Fault.NotStartable ∷ Ok Fault.NameExists ∷ Ok Fault.NotStopped ∷ Ok Fault.Protected ∷ Ok Fault.BadArgument ∷ Ok Fault.AboveItself ∷ [])
+    n
+    (Err (record { 0 = n }))
 
 -- the fault that may be there, as a number; 0: none
 unfoldable pub fault_or_none : Option Faulted → ℕ

@@ -80,27 +80,6 @@ pub fn all_codes<P: Print>(rt: &P, m: &Memory) -> io::Result<()> {
     Ok(())
 }
 
-const FAULTS: [Fault; 13] = [
-    Fault::AbsentCode,
-    Fault::ExiOfExi,
-    Fault::CodeExists,
-    Fault::KeptCode,
-    Fault::BadWait,
-    Fault::NoMatch,
-    Fault::NoName,
-    Fault::NotStartable,
-    Fault::NameExists,
-    Fault::NotStopped,
-    Fault::Protected,
-    Fault::BadArgument,
-    Fault::AboveItself,
-];
-
-// The fault with a number, if there is one.
-fn fault_of(number: u8) -> Option<Fault> {
-    FAULTS.into_iter().find(|fault| u8::from(*fault) == number)
-}
-
 fn fault_text(fault: Fault) -> &'static str {
     match fault {
         Fault::AbsentCode => "absent code",
@@ -123,7 +102,7 @@ fn fault_text(fault: Fault) -> &'static str {
 fn error<P: Print>(rt: &P, label: &str, entered: u8) -> io::Result<()> {
     let fault = entered % map::FIELD;
     let name = entered / map::FIELD;
-    let text = fault_of(fault).map_or("unknown", fault_text);
+    let text = Fault::try_from(fault).map_or("unknown", fault_text);
     println!(rt; "{label:<12}fault {fault} by {name}: {text}")
 }
 

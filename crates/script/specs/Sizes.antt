@@ -5,12 +5,9 @@ use Rattle.std.specs.Prelude.{ℕ}
 abbrev pub longest_line : ℕ
 longest_line = 255
 
--- "numbers are digits only, 0 to 65535": the largest, and what stands for all above it and for none
+-- "numbers are digits only, 0 to 65535"
 abbrev pub largest_number : ℕ
 largest_number = 65535
-
-abbrev pub no_number : ℕ
-no_number = 65536
 
 -- "1 to 32 values", behind an address
 abbrev pub most_values : ℕ

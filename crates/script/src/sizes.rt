@@ -3,11 +3,6 @@
 // "A line of over 255 characters is not understood."
 pub const LONGEST_LINE: usize = 255;
 
-// "Numbers are digits only, 0 to 65535": the largest, and what stands for all above it and for none.
-pub const LARGEST_NUMBER: u32 = 65535;
-
-pub const NO_NUMBER: u32 = 65536;
-
 // "1 to 32 values", behind an address.
 pub const MOST_VALUES: usize = 32;
 

@@ -9,13 +9,16 @@ use lib.Seq.{length-take-le, take-length}
 use borrow.Author.Tests.{eqb-true, eq-eqb, ne_eqb, ltb-true, ltb-false, lt-ltb, le-ltb, leb-false, le-leb, lt-leb}
 use native.Mathlib.Numerals.{unary_clauses}
 use native.Mathlib.Omega.{arith}
-use Rattle.std.specs.Prelude.{Option, None, Some}
+use Rattle.std.specs.Prelude.{Option, None, Some, Result, Ok}
 use Rattle.std.specs.Int.{w16, to_be_bytes}
 use Rattle.std.specs.List.{refill}
 use Rattle.std.proofs.lemmas.List.{take-append-le}
 use Rattle.std.proofs.lemmas.Slice.Eq.{slice_eq-Decides}
 use Rattle.std.proofs.lemmas.Bool.Decides.{Decides-eqb}
 use lib.Pointwise.{pointwise}
+use Rattle.model.specs.declared.refusal.Refusal.{Refusal}
+use Rattle.model.specs.Coded as Coded
+use Rattle.model.specs.Coded.{fit_told, writing_told}
 use Rattle.model.specs.Told.{Fit}
 use Rattle.model.specs.Told.Fit.{Good, Refused, RefusedAt}
 use Rattle.model.specs.Told.{Writing}
@@ -153,7 +156,7 @@ letters_some (x ∷ y ∷ w) h = rw (ne_eqb (length (x ∷ y ∷ w)) 1 (λ z. om
 pub ruleset laying = (label_wrong, label_more, label_laid, twelve, letters_none, letters_some)
 
 -- ---- what was written stands in the buffer
-pub written_fits : (l l₁ b : List ℕ) (u n : ℕ) (r : Writing) → gives r l₁ ≡ write_settings l u b → r ≡ Writing.Written n → length l₁ ≡ length l → n ≤ length l₁
+written_fits : (l l₁ b : List ℕ) (u n : ℕ) (r : Writing) → gives r l₁ ≡ write_settings l u b → r ≡ Writing.Written n → length l₁ ≡ length l → n ≤ length l₁
 unfolding Settings.write_settings Settings.writes
 written_fits l l₁ b u n r e z long = go (ltb (length l) u) (worse (of_used (take u l)) (of_block b)) (ltb (length l) (new_length u b)) refl (rw z at e)
   where
@@ -168,14 +171,18 @@ written_fits l l₁ b u n r e z long = go (ltb (length l) u) (worse (of_used (ta
         let m : n ≡ new_length u b = cc in
         omega (arith, ltb-false (length l) (new_length u b) ey)
 
+pub written_ok : (l l₁ b : List ℕ) (u n : ℕ) (r : Result ℕ Refusal) → gives (writing_told r) l₁ ≡ write_settings l u b → r ≡ Ok n → length l₁ ≡ length l → n ≤ length l₁
+unfolding Coded.writing_told
+written_ok l l₁ b u n r e z long = written_fits l l₁ b u n (writing_told r) e (rw z refl) long
+
 pub counts_is : (l : List ℕ) (n : ℕ) → n ≤ length l → n ≡ length (take n l)
 counts_is l n h = sym (length-take-le n l h)
 
-pub file_good : (f : List ℕ) (o : Fit) → o ≡ of_file f → o ≡ Good → is_good (of_file f) ≡ true
-unfolding Layout.is_good
-file_good f o e h = rw (← e, h)
+pub file_good : (f : List ℕ) (u : Unit {0}) → fit_told (Ok u) ≡ of_file f → is_good (of_file f) ≡ true
+unfolding Layout.is_good Coded.fit_told
+file_good f u e = rw (← e) refl
 
-pub ruleset files = (written_fits, counts_is, file_good)
+pub ruleset files = (written_ok, counts_is, file_good)
 
 -- ---- the next word: v is the block's first byte, n how many it has, d what the word is
 head_of_most : (v : ℕ) → head_of v ≤ 17

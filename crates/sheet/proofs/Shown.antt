@@ -1,22 +1,20 @@
 -- Laws of the rows that are shown of a block b, a law for each way through the code.
-use Prim.Native.Nat.{ℕ, ◌+◌, ◌-◌, ◌*◌, ◌≤◌, ◌<◌}
+use Prim.Native.Nat.{ℕ, zero, suc, ◌+◌, ◌-◌, ◌*◌, ◌≤◌, ◌<◌}
 use mathlib.Core.Path.{◌≡◌, refl, sym, ap, ◌∙◌}
 use mathlib.Core.Bool.{Bool, true, false, cond}
 use mathlib.Core.List.{List}
-use lib.Dec.{eqb}
+use lib.Dec.{eqb, leb}
 use lib.ListN.{length, get_or}
-use borrow.Author.Tests.{eqb-true, ne_eqb, lt-ltb, le-ltb, le-leb, lt-leb}
+use borrow.Author.Tests.{eqb-true, ne_eqb, lt-ltb, le-ltb, leb-true, leb-false}
 use native.Mathlib.Omega.{arith}
-use Rattle.std.specs.Prelude.{Option, None, Some}
+use Rattle.std.specs.Prelude.{Option, None, Some, option_map, MatchOption, IsSomeAnd}
+use Rattle.std.specs.List.{slice_get}
+use Rattle.std.proofs.lemmas.Iterator.Adapters.{option_map_id}
 use Rattle.model.specs.declared.Entry.{Entry}
 use Rattle.model.specs.Told.{Fit}
 use Rattle.model.specs.Told.Fit.{Good}
 use Rattle.model.specs.Layout as Layout
-use Rattle.model.specs.Layout.{head_bytes, of_block, of_file, is_good, newest}
-use Rattle.settings.specs.declared.entries.Cursor.{Cursor}
-use Rattle.settings.specs.declared.entries.Read.{Read}
-use Rattle.settings.specs.Cursors.{read}
-use Rattle.settings.proofs.Laws.{had_entry, not_short}
+use Rattle.model.specs.Layout.{head_bytes, block_bytes, version_of, count_of, entry_at, entries_from, entries_of, of_block, of_file, is_good, newest}
 use Rattle.laws.specs.Fits.{Laid, good_is, laid_least, block_of, ends_of}
 use Rattle.sheet.specs.declared.rows.Row.{Row}
 use Rattle.sheet.specs.declared.rows.Row.TheVariants.{Version, Line, Divider, Site, Label, Processor}
@@ -83,23 +81,45 @@ module _ (b : List ℕ) (n x : ℕ) where
 
 pub ruleset heads = (good_version, good_line, good_divider, site_room, row_version, row_line, row_divider, row_site, row_label)
 
--- ---- the rows of the entries: k is their number, v the version, h how long its head is, r what the reader answered
-module _ (b : List ℕ) (n k : ℕ) (ek : k ≡ get_or b 1 0) where
-  pub entry_none : k ≤ n → None ≡ entry_row b n
-  unfolding Rows.entry_row
-  entry_none l = rw (← ek, le-leb k n l)
+-- ---- the rows of the entries
+entry_past : (k n i : ℕ) (b : List ℕ) → k ≤ n → slice_get (entries_from k b i) n ≡ None
+unfolding Layout.entries_from
+entry_past zero n i b h = refl
+entry_past (suc k) zero i b h = absurd (omega arith)
+entry_past (suc k) (suc n) i b h = entry_past k n (i + 5) b (omega arith)
 
-  module _ (v h : ℕ) (r : Read) (c d : Cursor) (e : Entry) (l : n < k) (ev : v ≡ get_or b 0 0) (eh : h ≡ head_bytes v) (ec : c.at ≡ h + n * 5)
-      (er : r ≡ read b c) where
-    pub entry_row_lem : r ≡ Read.Has e d → Some (Processor e) ≡ entry_row b n
-    unfolding Rows.entry_row
-    entry_row_lem z = let t = had_entry b c d r e er z in rw (← ek, lt-leb k n l, ← ev, ← eh, ← ec, t.0)
+entry_within : (k n i : ℕ) (b : List ℕ) → n < k → slice_get (entries_from k b i) n ≡ Some (entry_at b (i + n * 5))
+unfolding Layout.entries_from
+entry_within zero n i b h = absurd (omega arith)
+entry_within (suc k) zero i b h = let z : i + 0 * 5 ≡ i = omega arith in rw z refl
+entry_within (suc k) (suc n) i b h = let z : i + suc n * 5 ≡ i + 5 + n * 5 = omega arith in rw z (entry_within k n (i + 5) b (omega arith))
 
-    pub entry_short : (q : ℕ) → is_good (of_block b) ≡ true → r ≡ Read.Refused q → None ≡ entry_row b n
-    entry_short q g z =
-        let t = good_laid b g in
-        let f : head_bytes (get_or b 0 0) ≡ h = ap head_bytes (sym ev) ∙ sym eh in
-        absurd (not_short b c r q 1 er z (λ o. omega arith) (omega (arith, t.long)))
+-- r is the entry n, if there are so many
+entry_is : (b : List ℕ) (n : ℕ) (r : Option Entry) → r ≡ slice_get (entries_of b) n → option_map Processor r ≡ entry_row b n
+unfolding Rows.entry_row
+entry_is b n r e = go (leb (count_of b) n) refl
+  where
+    at : ℕ
+    at = head_bytes (version_of b)
+
+    go : (x : Bool) → leb (count_of b) n ≡ x → option_map Processor r ≡ cond x None (Some (Processor (entry_at b (at + n * 5))))
+    go true t = rw (e, entry_past (count_of b) n at b (leb-true (count_of b) n t)) refl
+    go false t = rw (e, entry_within (count_of b) n at b (leb-false (count_of b) n t)) refl
+
+-- s is its row: es are the block's entries, k the number of one
+module _ (b : List ℕ) (n : ℕ) (es : List Entry) (k : ℕ) (ez : es ≡ entries_of b) (ek : k ≡ n) where
+  asked : (r : Option Entry) → option_map (λ e. e) r ≡ slice_get es k → option_map Processor r ≡ entry_row b n
+  asked r e = entry_is b n r (sym (option_map_id r) ∙ e ∙ ap (λ l. slice_get l k) ez ∙ ap (slice_get (entries_of b)) ek)
+
+  pub row_entry : (r : Option Entry) (s : Option Row) → option_map (λ e. e) r ≡ slice_get es k
+      → MatchOption r (s ≡ None) (λ e. IsSomeAnd s (λ y. y ≡ Processor e)) → s ≡ entry_row b n
+  row_entry None s e h = h ∙ asked None e
+  row_entry (Some x) (Some y) e h = ap Some h ∙ asked (Some x) e
+  row_entry (Some x) None e h = absurd h
+
+-- its entries have room
+pub good_long : (b : List ℕ) → is_good (of_block b) ≡ true → block_bytes (version_of b) (count_of b) ≤ length b
+good_long b h = omega (arith, (good_laid b h).long)
 
 -- ---- a row by its number
 module _ (b : List ℕ) (v h n : ℕ) (ev : v ≡ get_or b 0 0) (eh : h ≡ head_rows v) where
@@ -126,4 +146,4 @@ module _ (f b : List ℕ) (e : b ≡ newest f) where
   pub row_newest : (r : Option Row) (n : ℕ) → r ≡ row_at b n → r ≡ row_at (newest f) n
   row_newest r n er = rw (← e) er
 
-pub ruleset showing = (good_version, good_count, entry_none, entry_row_lem, entry_short, row_asked, row_head, row_behind, newest_good, row_newest)
+pub ruleset showing = (good_version, good_count, good_long, row_asked, row_head, row_behind, newest_good, row_newest)

@@ -3,7 +3,7 @@
 use Rattle.std.specs.Prelude.{ℕ, ◌-◌, ◌/◌, ◌%◌, cond, List, [], ◌∷◌, ◌++◌, eqb, ltb, leb, length, get_or, set, take, replicate, Option, None, Some, Result, Ok, Err}
 use Rattle.model.specs.Map.{a_word, word_values}
 use Rattle.model.specs.Layout.{entry_bytes, label_place, label_bytes, version_of, head_bytes}
-use Rattle.script.specs.Sizes.{largest_number, no_number}
+use Rattle.script.specs.Sizes.{largest_number}
 use Rattle.script.specs.Script.{whole_number}
 use Rattle.sheet.specs.declared.building.Due.{Due}
 use Rattle.sheet.specs.declared.building.Due.TheVariants.{Version, Byte, Label, Address}
@@ -19,6 +19,9 @@ abbrev pub block_room : ℕ
 block_room = 1292
 
 -- ---- "Numbers are digits": a word as a number; no_number where it has none, another character, or is over 65535
+abbrev pub no_number : ℕ
+no_number = 65536
+
 abbrev pub or_no_number : Option ℕ → ℕ
 or_no_number None = no_number
 or_no_number (Some x) = x

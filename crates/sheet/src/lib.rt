@@ -11,7 +11,7 @@ ghost use Rattle.files.specs.Files.{name_room};
 use building::{Block, NoBlock, finish, take_word};
 use files::saying::fail_missing;
 use files::{Unread, name_of, read_file, replace, word_count};
-use model::{Answer, Fit, Writing, refusals};
+use model::Refusal;
 use rows::tell_rows;
 use screen::kept::Kept;
 use settings::file::of_file;
@@ -27,24 +27,23 @@ fn usage<E: Print>(errors: &E) {
 }
 
 // The line of a refusal.
-fn tell_answer<P: Print>(rt: &P, given: Answer) -> io::Result<()> {
+fn tell_refusal<P: Print>(rt: &P, refusal: Refusal) -> io::Result<()> {
     let mut kept = Kept::new();
-    kept.answer(given);
+    kept.refused(refusal);
     kept.write(rt)
 }
 
-fn tell_writing<P: Print>(rt: &P, given: Writing) -> io::Result<()> {
+fn tell_writing<P: Print>(rt: &P, long: usize) -> io::Result<()> {
     let mut kept = Kept::new();
-    kept.writing(given);
+    kept.writing(Ok(long));
     kept.write(rt)
 }
 
 #[tactic(auto, using(crate::proofs::Laws::files))]
 fn show<P: Print>(rt: &P, file: &[u8]) -> io::Result<()> {
     match of_file(file) {
-        Fit::Good => tell_rows(rt, file),
-        Fit::Refused(refusal) => tell_answer(rt, Answer::Refused(refusal)),
-        Fit::RefusedAt(refusal, version) => tell_answer(rt, Answer::RefusedAt(refusal, version)),
+        Ok(()) => tell_rows(rt, file),
+        Err(refusal) => tell_refusal(rt, refusal),
     }
 }
 
@@ -53,7 +52,7 @@ fn show_file<R: Files + Print, E: Print>(rt: &R, errors: &E, name: &[u8]) -> io:
     let mut file = [0u8; sizes::FILE_ROOM];
     match read_file(rt, errors, name, &mut file) {
         Ok(end) => show(rt, &file[..end]),
-        Err(Unread::TooLong) => tell_answer(rt, Answer::Refused(refusals::NO_ROOM)),
+        Err(Unread::TooLong) => tell_refusal(rt, Refusal::NoRoom),
         Err(Unread::Missing) => {
             fail_missing(errors, name);
             Ok(())
@@ -75,17 +74,13 @@ fn write_behind<R: Files + Print, E: Print>(
     requires { length name.now ≤ name_room }
 {
     match write_settings(file, used, block) {
-        Writing::Written(end) => {
+        Ok(end) => {
             if replace(rt, errors, name, &file[..end]).is_ok() {
-                return tell_writing(rt, Writing::Written(end));
+                return tell_writing(rt, end);
             }
             Ok(())
         }
-        Writing::Refused(refusal) => tell_writing(rt, Writing::Refused(refusal)),
-        Writing::RefusedAt(refusal, version) => tell_writing(
-            rt,
-            Writing::RefusedAt(refusal, version),
-        ),
+        Err(refusal) => tell_refusal(rt, refusal),
     }
 }
 
@@ -101,7 +96,7 @@ fn write_file<R: Files + Print, E: Print>(
     let mut file = [0u8; sizes::FILE_ROOM];
     match read_file(rt, errors, name, &mut file) {
         Ok(used) => write_behind(rt, errors, name, &mut file, used, block),
-        Err(Unread::TooLong) => tell_writing(rt, Writing::Refused(refusals::NO_ROOM)),
+        Err(Unread::TooLong) => tell_refusal(rt, Refusal::NoRoom),
         Err(Unread::Missing) => write_behind(rt, errors, name, &mut file, 0, block),
         Err(Unread::Told) => Ok(()),
     }

@@ -4,8 +4,7 @@ ghost use Rattle.model.specs.Layout as Layout;
 ghost use Rattle.sheet.specs.Rows as Rows;
 
 use model::{Entry, layout};
-use settings::block::head_bytes;
-use settings::entries::{Cursor, Read, entry_at};
+use settings::entries::Entries;
 use settings::file::newest;
 use std::io;
 
@@ -61,14 +60,9 @@ fn entry_row(block: &[u8], number: u8) -> Option<Row>
     requires { Layout.is_good (Layout.of_block block.now) ≡ true }
     ensures { result ≡ Rows.entry_row block.now number }
 {
-    if block[layout::COUNT] <= number {
-        return None;
-    }
-    let at = head_bytes(block[layout::VERSION]) + (number as usize) * layout::ENTRY_BYTES;
-    match entry_at(block, Cursor { at }) {
-        Read::Has(e, _) => Some(Row::Processor(e)),
-        Read::Refused(_) => None,
-    }
+    Entries::of(block)
+        .nth(usize::from(number))
+        .map(Row::Processor)
 }
 
 // A row of a good block, by its number from 0 on, if there are so many.
