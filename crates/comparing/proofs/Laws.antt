@@ -30,7 +30,7 @@ use Rattle.model.specs.Bytes.{queue_of, state_of, differences, said, is_whole}
 use Rattle.comparing.specs.Telling.{next_speaks, next_silent, whole_gives, cut_gives}
 use Rattle.comparing.specs.Cursors as Cursors
 use Rattle.comparing.specs.Cursors.{Step, Told, step_told, names_end, next_differing, speaks, ended, names_step, second_step, first_step, judged_step}
-use Rattle.comparing.specs.Cursors.{word_step, words_step, against_step, whole_step, cut_step, lines_from, gives}
+use Rattle.comparing.specs.Cursors.{word_step, words_step, against_step, whole_step, size_step, sizes_step, cut_step, lines_from, gives}
 use Rattle.comparing.specs.declared.Cursor.{Cursor}
 use Rattle.comparing.specs.declared.Cursor.TheVariants.{Words, Names, Over}
 
@@ -352,10 +352,6 @@ pub fewer : {A : Type 0} {s t : List A} {x : A} → s ≡ x ∷ t → length t <
 fewer e = rw e (omega arith)
 
 -- ---- what the step tells: the memories as arrays are those that were lent
-both_whole : (m k : Memory) → length m ≡ 8192 → length k ≡ 8192 → (is_whole m ≡ true) × (is_whole k ≡ true)
-unfolding Differ.is_whole
-both_whole m k em ek = (eq-eqb (length m) 8192 em, eq-eqb (length k) 8192 ek)
-
 not_whole : (m : Memory) → (length m ≡ 8192 → ⊥) → is_whole m ≡ false
 unfolding Differ.is_whole
 not_whole m h = ne_eqb (length m) 8192 h
@@ -375,3 +371,24 @@ module _ (m k : Memory) (c : Cursor) (r : Told) where
       and_false false b z = refl
 
 pub ruleset telling = (next_whole, next_cut, next_cut_second)
+
+-- ---- where one has another length
+module _ (k : Memory) where
+  pub size_long : length k ≡ 8192 → step_told None ≡ size_step k
+  unfolding Cursors.size_step Differ.is_whole step_told
+  size_long h = rw (eq-eqb (length k) 8192 h)
+
+  pub size_short : (length k ≡ 8192 → ⊥) → step_told (Some (CodedLine.Refused Second Refusal.WrongLength, Over)) ≡ size_step k
+  unfolding Cursors.size_step Differ.is_whole step_told line_told refusal
+  size_short h = rw (ne_eqb (length k) 8192 h)
+
+module _ (m k : Memory) where
+  pub sizes_long : (r : Told) → length m ≡ 8192 → step_told r ≡ size_step k → step_told r ≡ sizes_step m k
+  unfolding Cursors.sizes_step Differ.is_whole
+  sizes_long r h e = rw (eq-eqb (length m) 8192 h) e
+
+  pub sizes_short : (length m ≡ 8192 → ⊥) → step_told (Some (CodedLine.Refused First Refusal.WrongLength, Cursor.Second)) ≡ sizes_step m k
+  unfolding Cursors.sizes_step Differ.is_whole step_told line_told refusal
+  sizes_short h = rw (ne_eqb (length m) 8192 h)
+
+pub ruleset lengths = (size_long, size_short, sizes_long, sizes_short)

@@ -185,7 +185,7 @@ fn whole_step(first: &Memory, second: &Memory, cursor: Cursor) -> Option<(Line, 
 }
 
 // Where one has another length: that of the second, that of both.
-#[tactic(auto, using(model::proofs::Tests::tests), unfolding(crate::specs::Cursors::size_step, crate::specs::Cursors::step_told, model::specs::Coded::line_told, model::specs::Coded::refusal, model::specs::Differ::is_whole))]
+#[tactic(auto, using(crate::proofs::Laws::lengths))]
 fn size_step(second: &[u8]) -> Option<(Line, Cursor)>
     ensures { step_told result ≡ Cursors.size_step second.now }
 {
@@ -198,7 +198,7 @@ fn size_step(second: &[u8]) -> Option<(Line, Cursor)>
     ))
 }
 
-#[tactic(auto, using(model::proofs::Tests::tests), unfolding(crate::specs::Cursors::sizes_step, crate::specs::Cursors::step_told, model::specs::Coded::line_told, model::specs::Coded::refusal, model::specs::Differ::is_whole))]
+#[tactic(auto, using(crate::proofs::Laws::lengths))]
 fn sizes_step(first: &[u8], second: &[u8]) -> Option<(Line, Cursor)>
     ensures { step_told result ≡ Cursors.sizes_step first.now second.now }
 {
