@@ -339,12 +339,12 @@ pub ruleset steps = (
 
 -- ---- what the next line leaves: l is told, and d is the cursor behind it
 module _ (m k : Memory) (c : Cursor) where
-  pub none_left : gives None m k ≡ lines_from c m k → lines_from c m k ≡ []
-  unfolding Cursors.gives Cursors.leaves step_told
+  pub none_left : gives (step_told None) m k ≡ lines_from c m k → lines_from c m k ≡ []
+  unfolding Cursors.gives step_told
   none_left e = sym e
 
-  pub first_left : (l : CodedLine) (d : Cursor) → gives (Some (l, d)) m k ≡ lines_from c m k → lines_from c m k ≡ line_told l ∷ lines_from d m k
-  unfolding Cursors.gives Cursors.leaves step_told
+  pub first_left : (l : CodedLine) (d : Cursor) → gives (step_told (Some (l, d))) m k ≡ lines_from c m k → lines_from c m k ≡ line_told l ∷ lines_from d m k
+  unfolding Cursors.gives step_told
   first_left l d e = sym e
 
 -- a list that has given one has fewer left
@@ -357,14 +357,14 @@ unfolding Differ.is_whole
 not_whole m h = ne_eqb (length m) 8192 h
 
 module _ (m k : Memory) (c : Cursor) (r : Told) where
-  pub next_whole : (x y : Memory) → x ≡ m → y ≡ k → length x ≡ 8192 → length y ≡ 8192 → step_told r ≡ whole_step c x y → gives r m k ≡ lines_from c m k
-  next_whole x y ex ey lx ly e = rw (ex, ey) at (whole_gives x y lx ly c r e)
+  pub next_whole : (x y : Memory) → x ≡ m → y ≡ k → length x ≡ 8192 → length y ≡ 8192 → step_told r ≡ whole_step c x y → gives (step_told r) m k ≡ lines_from c m k
+  next_whole x y ex ey lx ly e = rw (ex, ey) at (whole_gives x y lx ly c (step_told r) e)
 
-  pub next_cut : (length m ≡ 8192 → ⊥) → step_told r ≡ cut_step c m k → gives r m k ≡ lines_from c m k
-  next_cut h e = cut_gives m k (rw (not_whole m h)) c r e
+  pub next_cut : (length m ≡ 8192 → ⊥) → step_told r ≡ cut_step c m k → gives (step_told r) m k ≡ lines_from c m k
+  next_cut h e = cut_gives m k (rw (not_whole m h)) c (step_told r) e
 
-  pub next_cut_second : (length k ≡ 8192 → ⊥) → step_told r ≡ cut_step c m k → gives r m k ≡ lines_from c m k
-  next_cut_second h e = cut_gives m k (and_false (is_whole m) (is_whole k) (not_whole k h)) c r e
+  pub next_cut_second : (length k ≡ 8192 → ⊥) → step_told r ≡ cut_step c m k → gives (step_told r) m k ≡ lines_from c m k
+  next_cut_second h e = cut_gives m k (and_false (is_whole m) (is_whole k) (not_whole k h)) c (step_told r) e
     where
       and_false : (a b : Bool) → b ≡ false → a && b ≡ false
       and_false true b z = z

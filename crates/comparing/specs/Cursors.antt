@@ -54,12 +54,9 @@ step_told None = None
 step_told (Some s) = Some (line_told s.0, s.1)
 
 -- what a step tells, and then what is left
-unfoldable pub leaves : Step → Memory → Memory → List Line
-leaves None m k = []
-leaves (Some s) m k = s.0 ∷ lines_from s.1 m k
-
-unfoldable pub gives : Told → Memory → Memory → List Line
-gives r m k = leaves (step_told r) m k
+unfoldable pub gives : Step → Memory → Memory → List Line
+gives (Some s) m k = s.0 ∷ lines_from s.1 m k
+gives None m k = []
 
 -- ---- the steps, as the code goes: the first of n addresses from a on at which the two differ; the first of n names of which something is said
 unfoldable pub next_differing : ℕ → Memory → Memory → ℕ → ℕ

@@ -225,7 +225,7 @@ fn cut_step(first: &[u8], second: &[u8], cursor: Cursor) -> Option<(Line, Cursor
 // The next line from a cursor on, and the cursor behind it. What it tells and what is left then are the lines that were left before.
 #[tactic(auto, using(crate::proofs::Laws::telling))]
 pub fn next(first: &[u8], second: &[u8], cursor: Cursor) -> Option<(Line, Cursor)>
-    ensures { Cursors.gives result first.now second.now ≡ Cursors.lines_from cursor first.now second.now }
+    ensures { Cursors.gives (step_told result) first.now second.now ≡ Cursors.lines_from cursor first.now second.now }
 {
     let Some(whole) = first.as_array() else {
         return cut_step(first, second, cursor);
