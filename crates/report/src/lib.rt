@@ -5,7 +5,7 @@ mod lines;
 
 ghost use Rattle.std.specs.Prelude.{◌≤◌, IfSome, length};
 
-use comparing::{Cursor, Step, next};
+use comparing::Lines;
 use files::saying::fail_missing;
 use files::{Unread, name_of, read_file, word_count};
 use lines::tell_line;
@@ -28,14 +28,11 @@ const WORDS: usize = 3;
 const NAME_ROOM: usize = 4096;
 
 // All that is printed of two memories, line by line to the last, many by one write.
-#[tactic(auto, using(crate::proofs::Laws::fewer_left))]
 fn tell<P: Print>(rt: &P, first: &[u8], second: &[u8]) -> io::Result<()> {
     let mut kept = Kept::new();
-    let mut cursor = Cursor::Start;
-    while let Step::Tells(line, then) = next(first, second, cursor) {
+    for line in Lines::new(first, second) {
         kept.make_room(rt)?;
         tell_line(rt, &mut kept, line)?;
-        cursor = then;
     }
     kept.write(rt)
 }

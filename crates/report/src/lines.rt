@@ -3,7 +3,7 @@ ghost use Rattle.std.specs.Prelude.{◌≤◌, ◌+◌, length};
 ghost use Rattle.screen.specs.Sizes.{line_room, kept_room};
 ghost use Rattle.report.specs.Sizes.{side_room, name_room, parts_room};
 
-use model::{Answer, Line, Parts, Said, Side};
+use model::{Line, Parts, Refusal, Said, Side};
 use screen::kept::Kept;
 use std::io;
 
@@ -30,13 +30,13 @@ fn word_line(kept: &mut Kept, at: u16, first: u8, second: u8)
 }
 
 // The refusal of one of the two, as that of a call.
-fn refusal<P: Print>(rt: &P, kept: &mut Kept, of: Side, given: Answer) -> io::Result<()>
+fn refusal<P: Print>(rt: &P, kept: &mut Kept, of: Side, given: Refusal) -> io::Result<()>
     requires { length kept.old + line_room ≤ kept_room }
 {
     kept.text(side(of));
     kept.text(": ");
     kept.make_room(rt)?;
-    kept.answer(given);
+    kept.refused(given);
     Ok(())
 }
 
@@ -89,12 +89,11 @@ fn differs_in(kept: &mut Kept, name: u8, given: Parts)
     kept.text("\n");
 }
 
-// What is said of a name; no line where that is nothing.
+// What is said of a name.
 fn processor_line(kept: &mut Kept, name: u8, said: Said)
     requires { length kept.old + line_room ≤ kept_room }
 {
     match said {
-        Said::Nothing => {}
         Said::OnlyIn(given) => only_in(kept, name, given),
         Said::DiffersIn(given) => differs_in(kept, name, given),
     }
@@ -105,8 +104,7 @@ pub fn tell_line<P: Print>(rt: &P, kept: &mut Kept, line: Line) -> io::Result<()
 {
     match line {
         Line::Word(at, first, second) => word_line(kept, at, first, second),
-        Line::Refused(of, n) => refusal(rt, kept, of, Answer::Refused(n))?,
-        Line::RefusedAt(of, n, place) => refusal(rt, kept, of, Answer::RefusedAt(n, place))?,
+        Line::Refused(of, given) => refusal(rt, kept, of, given)?,
         Line::Processor(name, said) => processor_line(kept, name, said),
         Line::Same => kept.text("same\n"),
     }
