@@ -11,8 +11,8 @@ CASES = {'crates/table/specs/Script.antt': 'same_words writes looks', 'crates/hi
 FILES = [line.split()[-1] for line in open(SPECS + 'Lib.antt') if line.startswith('pub mod')]
 TYPES = {
     'Registers': 'declared.Registers', 'Arguments': 'declared.Arguments', 'Held': 'Told', 'Verdict': 'Told', 'Finding': 'Told',
-    'Checked': 'Told', 'Entry': 'declared.Entry', 'Fit': 'Told', 'State': 'declared.State', 'Parts': 'declared.Parts', 'Said': 'declared.Said',
-    'Line': 'declared.Line', 'Side': 'declared.Side', 'Context': 'declared.Context', 'Taken': 'Page', 'Tested': 'Mail', 'Lists': 'Lists', 'Outcome': 'Answer', 'Rule': 'Rule',
+    'Checked': 'Told', 'Entry': 'declared.Entry', 'Fit': 'Told', 'State': 'declared.State', 'Parts': 'declared.Parts', 'Said': 'Told',
+    'Line': 'Told', 'Side': 'declared.Side', 'Context': 'declared.Context', 'Taken': 'Page', 'Tested': 'Mail', 'Lists': 'Lists', 'Outcome': 'Answer', 'Rule': 'Rule',
 }
 
 

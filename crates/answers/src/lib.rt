@@ -1,4 +1,5 @@
-// Refusals and faults, and page 9: how an instruction ends, done, by a jump, put to wait or with a fault; then who runs.
+// Refusals and faults, and page 9: how an instruction ends, done, by a jump, put to wait or with a fault; then who runs. A length stays a number below
+// 8,192: it comes from a table and is added to LR in one line, which a type round it would only open again.
 #![tactic(auto)]
 
 ghost use Rattle.std.specs.Prelude.{◌≡◌, ◌<◌};

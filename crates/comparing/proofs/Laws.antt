@@ -6,37 +6,33 @@ use mathlib.Core.List.{List, [], ◌∷◌, map}
 use lib.Dec.{eqb}
 use lib.ListN.{length, get_or}
 use borrow.Author.Tests.{eqb-true, eqb-false, eq-eqb, ne_eqb, lt-ltb, le-ltb, le-leb, lt-leb}
-use native.Mathlib.Numerals.{sub-one}
 use native.Mathlib.Omega.{arith}
-use Rattle.std.specs.Prelude.{Option, Some, None, find, unwrap_or, is_some}
+use Rattle.std.specs.Prelude.{Option, Some, None, Result, Ok, Err, find, unwrap_or, is_some}
 use Rattle.std.specs.List.{range_with_len, list_all}
 use Rattle.std.specs.Map.Iter.{TakesFirst}
 use Rattle.model.specs.declared.ControlPage.{ControlPage}
-use Rattle.model.specs.Coded.{found}
+use Rattle.model.specs.Coded.{found, said_told, line_told, broken_told, refusal}
 use Rattle.model.specs.Told.{Finding}
-use Rattle.model.specs.Told.Finding.{WrongLength, Broken}
+use Rattle.model.specs.declared.refusal.Broken.{Broken as BrokenAt}
+use Rattle.model.specs.declared.refusal.Refusal.TheVariants as Refusal
+use Rattle.model.specs.declared.Line.{Line as CodedLine}
+use Rattle.model.specs.declared.Said.{Said as CodedSaid}
 use Rattle.model.specs.declared.Side.TheVariants.{First, Second}
-use Rattle.model.specs.declared.Line.TheVariants.{Word, Refused, RefusedAt, Processor}
-use Rattle.model.specs.declared.Said.{Said}
-use Rattle.model.specs.declared.Said.TheVariants.{Nothing, OnlyIn}
 use Rattle.model.specs.declared.State.{State}
 use Rattle.model.specs.declared.Parts.{Parts}
 use Rattle.model.specs.Map.{place, link, text, size, note, state, reason, q1, q2, memory_size, control_pages, interrupts}
 use Rattle.model.specs.Address.{wrapped}
 use Rattle.model.specs.Lists.{hit}
 use Rattle.model.specs.Differ as Differ
-use Rattle.model.specs.Answer.{wrong_length}
 use Rattle.model.specs.Differ.{same_words, same_messages, same_state, queue_at, differs_in}
 use Rattle.model.specs.Bytes.{Memory, at, word, walk, running, priority, page_of, seat, queued, told_of, words_from, content_of, message_of, same_mail}
 use Rattle.model.specs.Bytes.{queue_of, state_of, differences, said, is_whole}
-use Rattle.comparing.specs.Telling.{whole_gives, cut_gives}
+use Rattle.comparing.specs.Telling.{next_speaks, next_silent, whole_gives, cut_gives}
 use Rattle.comparing.specs.Cursors as Cursors
-use Rattle.comparing.specs.Cursors.{names_end, next_differing, next_named, speaks, ended, name_step, names_step, second_step, first_step, judged_step, word_step}
-use Rattle.comparing.specs.Cursors.{lines_from, gives, words_step, against_step, whole_step, size_step, sizes_step, cut_step}
+use Rattle.comparing.specs.Cursors.{Step, Told, step_told, names_end, next_differing, speaks, ended, names_step, second_step, first_step, judged_step}
+use Rattle.comparing.specs.Cursors.{word_step, words_step, against_step, whole_step, size_step, sizes_step, cut_step, lines_from, gives}
 use Rattle.comparing.specs.declared.Cursor.{Cursor}
-use Rattle.comparing.specs.declared.Cursor.TheVariants.{Start, Words, Names, Over}
-use Rattle.comparing.specs.declared.Step.{Step}
-use Rattle.comparing.specs.declared.Step.TheVariants.{Tells, End}
+use Rattle.comparing.specs.declared.Cursor.TheVariants.{Words, Names, Over}
 
 -- ---- the search for an address: of n from a on
 module _ (m k : Memory) where
@@ -224,199 +220,175 @@ some_found n p e = go (eqb n 0) refl e
     go false h f = (eqb-false n 0 h, ap (λ (o : Option ControlPage). (unwrap_or o p).0) f)
 
 module _ (m k : Memory) (n : ℕ) (o u : Option ControlPage) (eo : o ≡ found (page_of m n)) (eu : u ≡ found (page_of k n)) where
-  pub said_neither : o ≡ None → u ≡ None → Nothing ≡ said m k n
-  unfolding Differ.said Differ.said_of
+  pub said_neither : o ≡ None → u ≡ None → said_told None ≡ said m k n
+  unfolding Differ.said Differ.said_of said_told
   said_neither zo zu = rw (none_found _ (sym zo ∙ eo), none_found _ (sym zu ∙ eu))
 
   module _ (q : ControlPage) (zu : u ≡ Some q) where
-    pub said_second : o ≡ None → OnlyIn Second ≡ said m k n
-    unfolding Differ.said Differ.said_of
+    pub said_second : o ≡ None → said_told (Some (CodedSaid.OnlyIn Second)) ≡ said m k n
+    unfolding Differ.said Differ.said_of said_told
     said_second zo = let f = some_found _ q (sym zu ∙ eu) in rw (none_found _ (sym zo ∙ eo), ne_eqb (page_of k n) 0 f.0)
 
-    pub said_both : (p : ControlPage) (d : Parts) (r : Said) → o ≡ Some p → d ≡ differences m p.0 k q.0 → r ≡ differs_in d → r ≡ said m k n
+    pub said_both : (p : ControlPage) (d : Parts) (r : Option CodedSaid) → o ≡ Some p → d ≡ differences m p.0 k q.0 → said_told r ≡ differs_in d → said_told r ≡ said m k n
     unfolding Differ.said Differ.said_of
     said_both p d r zo ed er =
         let f = some_found _ q (sym zu ∙ eu) in
         let g = some_found _ p (sym zo ∙ eo) in
         rw (ne_eqb (page_of m n) 0 g.0, ne_eqb (page_of k n) 0 f.0, ← g.1, ← f.1, ← ed) er
 
-  pub said_first : (p : ControlPage) → o ≡ Some p → u ≡ None → OnlyIn First ≡ said m k n
-  unfolding Differ.said Differ.said_of
+  pub said_first : (p : ControlPage) → o ≡ Some p → u ≡ None → said_told (Some (CodedSaid.OnlyIn First)) ≡ said m k n
+  unfolding Differ.said Differ.said_of said_told
   said_first p zo zu = let g = some_found _ p (sym zo ∙ eo) in rw (ne_eqb (page_of m n) 0 g.0, none_found _ (sym zu ∙ eu))
 
 pub ruleset sayings = (said_neither, said_second, said_both, said_first)
 
--- ---- the search for a name: what is left decides; z is what the whole comes to
-module _ (m k : Memory) where
-  pub name_none : (n a z : ℕ) → next_named n m k a ≡ z → n ≤ 0 → a ≡ z
-  unfolding Cursors.next_named
-  name_none zero a z i e = i
-  name_none (suc n) a z i e = absurd (omega arith)
+-- ---- the steps: r is what the code tells
+something : (s : CodedSaid) → speaks (said_told (Some s)) ≡ true
+unfolding said_told Cursors.speaks
+something (CodedSaid.OnlyIn w) = refl
+something (CodedSaid.DiffersIn d) = refl
 
-  module _ (s : Said) (c : Bool) where
-    pub name_here : (n a z : ℕ) → next_named n m k a ≡ z → s ≡ said m k a → c ≡ speaks s → c ≡ true → a ≡ z
-    unfolding Cursors.next_named
-    name_here zero a z i es ec h = i
-    name_here (suc n) a z i es ec h = rw (← es, ← ec, h, Cursors.next_named) at i
+nothing : speaks (said_told None) ≡ false
+unfolding said_told Cursors.speaks
+nothing = refl
 
-    pub name_on : (n a z : ℕ) → next_named n m k a ≡ z → 0 < n → s ≡ said m k a → c ≡ speaks s → c ≡ false → next_named (n - 1) m k (a + 1) ≡ z
-    unfolding Cursors.next_named
-    name_on zero a z i o es ec h = absurd (omega arith)
-    name_on (suc n) a z i o es ec h = simp sub-one (rw (← es, ← ec, h, Cursors.next_named) at i)
+names_more : (a : ℕ) → a < 16 → names_end - a ≡ suc (names_end - (a + 1))
+names_more a h = omega arith
 
-pub ruleset searches = (name_none, name_here, name_on)
-
--- ---- the steps
 module _ (m k : Memory) (t : Bool) where
-  pub name_told : (b : ℕ) (s : Said) → b < names_end → s ≡ said m k b → Tells (Processor b s) (Names (b + 1) true) ≡ name_step m k b t
-  unfolding Cursors.name_step
-  name_told b s h es = rw (lt-ltb b names_end h, ← es)
+  -- the name a is the next; z is what the whole comes to
+  module _ (a : ℕ) (z : Step) (i : names_step m k a t ≡ z) where
+    pub name_told : (s : CodedSaid) → a < 16 → said_told (Some s) ≡ said m k a → step_told (Some (CodedLine.Processor a s, Names (a + 1) true)) ≡ z
+    unfolding Cursors.names_step Cursors.name_step step_told line_told
+    name_told s h e =
+        let w : speaks (said m k a) ≡ true = rw (← e) (something s) in
+        rw (names_more a h, next_speaks (names_end - (a + 1)) m k a w, lt-ltb a names_end h, ← e) at i
 
-  pub name_over : (b : ℕ) (r : Step) → names_end ≤ b → r ≡ ended t → r ≡ name_step m k b t
-  unfolding Cursors.name_step
-  name_over b r h e = rw (le-ltb b names_end h) e
+    pub name_on : a < 16 → said_told None ≡ said m k a → names_step m k (a + 1) t ≡ z
+    unfolding Cursors.names_step
+    name_on h e =
+        let w : speaks (said m k a) ≡ false = rw (← e) nothing in
+        rw (names_more a h, next_silent (names_end - (a + 1)) m k a w) at i
 
-  pub names_on : (a n b : ℕ) (r : Step) → n ≡ 16 - a → b ≡ next_named n m k a → r ≡ name_step m k b t → r ≡ names_step m k a t
-  unfolding Cursors.names_step
-  names_on a n b r en eb er = rw (← en, ← eb) er
+    pub name_over : (r : Told) → 16 ≤ a → step_told r ≡ ended t → step_told r ≡ z
+    unfolding Cursors.names_step Cursors.next_named Cursors.name_step
+    name_over r h e =
+        let n : names_end - a ≡ 0 = omega arith in
+        let j : ended t ≡ z = rw (n, le-ltb a names_end h) at i in
+        e ∙ j
 
-  pub word_told : (b x y : ℕ) → b < 8192 → x ≡ get_or m b 0 → y ≡ get_or k b 0 → Tells (Word b x y) (Words (b + 1) true) ≡ word_step m k b t
-  unfolding Cursors.word_step
+  pub word_told : (b x y : ℕ) → b < 8192 → x ≡ get_or m b 0 → y ≡ get_or k b 0
+      → step_told (Some (CodedLine.Word b x y, Words (b + 1) true)) ≡ word_step m k b t
+  unfolding Cursors.word_step step_told line_told
   word_told b x y h ex ey = rw (lt-ltb b memory_size h, ← ex, ← ey)
 
-  pub word_over : (b : ℕ) (r : Step) → 8192 ≤ b → r ≡ judged_step m k t → r ≡ word_step m k b t
+  pub word_over : (b : ℕ) (r : Told) → 8192 ≤ b → step_told r ≡ judged_step m k t → step_told r ≡ word_step m k b t
   unfolding Cursors.word_step
   word_over b r h e = rw (le-ltb b memory_size h) e
 
-  pub words_step_lem : (a b : ℕ) (r : Step) → b ≡ next_differing (8192 - a) m k a → r ≡ word_step m k b t → r ≡ words_step m k a t
+  pub words_step_lem : (a b : ℕ) (r : Told) → b ≡ next_differing (8192 - a) m k a → step_told r ≡ word_step m k b t → step_told r ≡ words_step m k a t
   unfolding Cursors.words_step
   words_step_lem a b r eb er = rw (← eb) er
 
-  pub words_over : (a : ℕ) (r : Step) → 8192 ≤ a → r ≡ word_step m k a t → r ≡ words_step m k a t
+  pub words_over : (a : ℕ) (r : Told) → 8192 ≤ a → step_told r ≡ word_step m k a t → step_told r ≡ words_step m k a t
   unfolding Cursors.words_step Cursors.next_differing
   words_over a r h er = let z : memory_size - a ≡ 0 = omega arith in rw z er
 
 -- what was found, f, is what is told, g
-module _ (f g : Finding) (e : f ≡ g) where
-  pub against_none : f ≡ Finding.Nothing → End ≡ against_step g
-  unfolding Cursors.against_step
-  against_none z = rw (← e, z)
+module _ (f : Result (Unit {0}) BrokenAt) (g : Finding) (e : broken_told f ≡ g) where
+  pub against_none : (u : Unit {0}) → f ≡ Ok u → step_told None ≡ against_step g
+  unfolding Cursors.against_step step_told broken_told
+  against_none u z = rw (← e, z)
 
-  pub against_length : (r : Step) → f ≡ WrongLength → r ≡ Tells (Refused Second wrong_length) Over → r ≡ against_step g
-  unfolding Cursors.against_step
-  against_length r z er = rw (← e, z) er
+  pub against_broken : (b : BrokenAt) → f ≡ Err b → step_told (Some (CodedLine.Refused Second (Refusal.Broken b), Over)) ≡ against_step g
+  unfolding Cursors.against_step step_told broken_told line_told refusal
+  against_broken b z = rw (← e, z)
 
-  pub against_broken : (n a : ℕ) (r : Step) → f ≡ Broken n a → r ≡ Tells (RefusedAt Second n a) Over → r ≡ against_step g
-  unfolding Cursors.against_step
-  against_broken n a r z er = rw (← e, z) er
+  module _ (m k : Memory) (t : Bool) where
+    pub second_none : (u : Unit {0}) (r : Told) → f ≡ Ok u → step_told r ≡ names_step m k 1 t → step_told r ≡ second_step g m k t
+    unfolding Cursors.second_step broken_told
+    second_none u r z er = rw (← e, z) er
 
-  module _ (m k : Memory) (t : Bool) (r : Step) where
-    pub second_none : f ≡ Finding.Nothing → r ≡ names_step m k 1 t → r ≡ second_step g m k t
-    unfolding Cursors.second_step
-    second_none z er = rw (← e, z) er
+    pub second_broken : (b : BrokenAt) → f ≡ Err b → step_told (Some (CodedLine.Refused Second (Refusal.Broken b), Over)) ≡ second_step g m k t
+    unfolding Cursors.second_step step_told broken_told line_told refusal
+    second_broken b z = rw (← e, z)
 
-    pub second_length : f ≡ WrongLength → r ≡ Tells (Refused Second wrong_length) Over → r ≡ second_step g m k t
-    unfolding Cursors.second_step
-    second_length z er = rw (← e, z) er
+    pub first_none : (u : Unit {0}) (r : Told) → f ≡ Ok u → step_told r ≡ second_step (told_of k) m k t → step_told r ≡ first_step g m k t
+    unfolding Cursors.first_step broken_told
+    first_none u r z er = rw (← e, z) er
 
-    pub second_broken : (n a : ℕ) → f ≡ Broken n a → r ≡ Tells (RefusedAt Second n a) Over → r ≡ second_step g m k t
-    unfolding Cursors.second_step
-    second_broken n a z er = rw (← e, z) er
-
-    pub first_none : f ≡ Finding.Nothing → r ≡ second_step (told_of k) m k t → r ≡ first_step g m k t
-    unfolding Cursors.first_step
-    first_none z er = rw (← e, z) er
-
-    pub first_length : f ≡ WrongLength → r ≡ Tells (Refused First wrong_length) Cursor.Second → r ≡ first_step g m k t
-    unfolding Cursors.first_step
-    first_length z er = rw (← e, z) er
-
-    pub first_broken : (n a : ℕ) → f ≡ Broken n a → r ≡ Tells (RefusedAt First n a) Cursor.Second → r ≡ first_step g m k t
-    unfolding Cursors.first_step
-    first_broken n a z er = rw (← e, z) er
+    pub first_broken : (b : BrokenAt) → f ≡ Err b → step_told (Some (CodedLine.Refused First (Refusal.Broken b), Cursor.Second)) ≡ first_step g m k t
+    unfolding Cursors.first_step step_told broken_told line_told refusal
+    first_broken b z = rw (← e, z)
 
 pub ruleset steps = (
   name_told,
+  name_on,
   name_over,
-  names_on,
   word_told,
   word_over,
   words_step_lem,
   words_over,
   against_none,
-  against_length,
   against_broken,
   second_none,
-  second_length,
   second_broken,
   first_none,
-  first_length,
   first_broken,
 )
 
--- ---- by the cursor
-module _ (m k : Memory) (c : Cursor) (r : Step) where
-  pub whole_start : c ≡ Start → r ≡ words_step m k 0 false → r ≡ whole_step c m k
-  unfolding Cursors.whole_step
-  whole_start z e = rw z e
-
-  pub whole_words : (a : ℕ) (t : Bool) → c ≡ Words a t → r ≡ words_step m k a t → r ≡ whole_step c m k
-  unfolding Cursors.whole_step
-  whole_words a t z e = rw z e
-
-  pub whole_second : c ≡ Cursor.Second → r ≡ against_step (told_of k) → r ≡ whole_step c m k
-  unfolding Cursors.whole_step
-  whole_second z e = rw z e
-
-  pub whole_names : (n : ℕ) (t : Bool) → c ≡ Names n t → r ≡ names_step m k n t → r ≡ whole_step c m k
-  unfolding Cursors.whole_step
-  whole_names n t z e = rw z e
-
-  pub cut_start : c ≡ Start → r ≡ sizes_step m k → r ≡ cut_step c m k
-  unfolding Cursors.cut_step
-  cut_start z e = rw z e
-
-  pub cut_second : c ≡ Cursor.Second → r ≡ size_step k → r ≡ cut_step c m k
-  unfolding Cursors.cut_step
-  cut_second z e = rw z e
-
+-- ---- what the next line leaves: l is told, and d is the cursor behind it
 module _ (m k : Memory) (c : Cursor) where
-  pub whole_over : c ≡ Over → End ≡ whole_step c m k
-  unfolding Cursors.whole_step
-  whole_over z = rw z
+  pub none_left : gives (step_told None) m k ≡ lines_from c m k → lines_from c m k ≡ []
+  unfolding Cursors.gives step_told
+  none_left e = sym e
 
-  pub cut_words : (a : ℕ) (t : Bool) → c ≡ Words a t → End ≡ cut_step c m k
-  unfolding Cursors.cut_step
-  cut_words a t z = rw z
+  pub first_left : (l : CodedLine) (d : Cursor) → gives (step_told (Some (l, d))) m k ≡ lines_from c m k → lines_from c m k ≡ line_told l ∷ lines_from d m k
+  unfolding Cursors.gives step_told
+  first_left l d e = sym e
 
-  pub cut_names : (n : ℕ) (t : Bool) → c ≡ Names n t → End ≡ cut_step c m k
-  unfolding Cursors.cut_step
-  cut_names n t z = rw z
+-- a list that has given one has fewer left
+pub fewer : {A : Type 0} {s t : List A} {x : A} → s ≡ x ∷ t → length t < length s
+fewer e = rw e (omega arith)
 
-  pub cut_over : c ≡ Over → End ≡ cut_step c m k
-  unfolding Cursors.cut_step
-  cut_over z = rw z
-
-pub ruleset cursors = (whole_start, whole_words, whole_second, whole_names, whole_over, cut_start, cut_words, cut_second, cut_names, cut_over)
-
--- ---- what the step tells
-whole_long : (m : Memory) → is_whole m ≡ true → length m ≡ 8192
+-- ---- what the step tells: the memories as arrays are those that were lent
+not_whole : (m : Memory) → (length m ≡ 8192 → ⊥) → is_whole m ≡ false
 unfolding Differ.is_whole
-whole_long m h = eqb-true (length m) 8192 h
+not_whole m h = ne_eqb (length m) 8192 h
 
-module _ (m k : Memory) (c : Cursor) (r : Step) (x y : Bool) (ex : x ≡ is_whole m) (ey : y ≡ is_whole k) where
-  pub next_whole : x ≡ true → y ≡ true → r ≡ whole_step c m k → gives r m k ≡ lines_from c m k
-  next_whole hx hy e = whole_gives m k (whole_long m (sym ex ∙ hx)) (whole_long k (sym ey ∙ hy)) c r e
+module _ (m k : Memory) (c : Cursor) (r : Told) where
+  pub next_whole : (x y : Memory) → x ≡ m → y ≡ k → length x ≡ 8192 → length y ≡ 8192 → step_told r ≡ whole_step c x y → gives (step_told r) m k ≡ lines_from c m k
+  next_whole x y ex ey lx ly e = rw (ex, ey) at (whole_gives x y lx ly c (step_told r) e)
 
-  pub next_cut_second : x ≡ true → y ≡ false → r ≡ cut_step c m k → gives r m k ≡ lines_from c m k
-  next_cut_second hx hy e = cut_gives m k (rw (← ex, ← ey, hx, hy)) c r e
+  pub next_cut : (length m ≡ 8192 → ⊥) → step_told r ≡ cut_step c m k → gives (step_told r) m k ≡ lines_from c m k
+  next_cut h e = cut_gives m k (rw (not_whole m h)) c (step_told r) e
 
-module _ (m k : Memory) (c : Cursor) (r : Step) (x : Bool) (ex : x ≡ is_whole m) where
-  pub next_cut_first : x ≡ false → r ≡ cut_step c m k → gives r m k ≡ lines_from c m k
-  next_cut_first hx e = cut_gives m k (rw (← ex, hx)) c r e
+  pub next_cut_second : (length k ≡ 8192 → ⊥) → step_told r ≡ cut_step c m k → gives (step_told r) m k ≡ lines_from c m k
+  next_cut_second h e = cut_gives m k (and_false (is_whole m) (is_whole k) (not_whole k h)) c (step_told r) e
+    where
+      and_false : (a b : Bool) → b ≡ false → a && b ≡ false
+      and_false true b z = z
+      and_false false b z = refl
 
--- a whole memory may be compared
-pub whole_asked : (m : Memory) (x : Bool) → x ≡ is_whole m → x ≡ true → length m ≡ 8192
-whole_asked m x ex h = whole_long m (sym ex ∙ h)
+pub ruleset telling = (next_whole, next_cut, next_cut_second)
 
-pub ruleset telling = (next_whole, next_cut_second, next_cut_first, whole_asked)
+-- ---- where one has another length
+module _ (k : Memory) where
+  pub size_long : length k ≡ 8192 → step_told None ≡ size_step k
+  unfolding Cursors.size_step Differ.is_whole step_told
+  size_long h = rw (eq-eqb (length k) 8192 h)
+
+  pub size_short : (length k ≡ 8192 → ⊥) → step_told (Some (CodedLine.Refused Second Refusal.WrongLength, Over)) ≡ size_step k
+  unfolding Cursors.size_step Differ.is_whole step_told line_told refusal
+  size_short h = rw (ne_eqb (length k) 8192 h)
+
+module _ (m k : Memory) where
+  pub sizes_long : (r : Told) → length m ≡ 8192 → step_told r ≡ size_step k → step_told r ≡ sizes_step m k
+  unfolding Cursors.sizes_step Differ.is_whole
+  sizes_long r h e = rw (eq-eqb (length m) 8192 h) e
+
+  pub sizes_short : (length m ≡ 8192 → ⊥) → step_told (Some (CodedLine.Refused First Refusal.WrongLength, Cursor.Second)) ≡ sizes_step m k
+  unfolding Cursors.sizes_step Differ.is_whole step_told line_told refusal
+  sizes_short h = rw (ne_eqb (length m) 8192 h)
+
+pub ruleset lengths = (size_long, size_short, sizes_long, sizes_short)

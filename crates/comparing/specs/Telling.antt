@@ -2,20 +2,18 @@
 -- and no others.
 use Prim.Native.Nat.{ℕ, zero, suc, ◌+◌, ◌-◌, ◌≤◌}
 use Rattle.std.proofs.Common.{arith, ◌∙◌}
-use Rattle.std.specs.Prelude.{◌≡◌, Bool, ◌&&◌, get_or}
+use Rattle.std.specs.Prelude.{◌≡◌, Bool, ◌&&◌, Some, None, get_or}
 use Rattle.std.proofs.Math.Path.{refl, sym, ap}
 use Rattle.std.proofs.Math.Bool.{true, false, cond}
-use mathlib.Core.List.{List, [], ◌∷◌, ◌++◌, map}
+use mathlib.Core.List.{List, [], ◌∷◌, ◌++◌}
 use Rattle.std.proofs.Math.Dec.{eqb}
 use Rattle.std.proofs.Math.ListN.{length}
 use borrow.Author.Tests.{eq-eqb, lt-ltb, le-ltb}
-use Rattle.model.specs.Told.{Finding}
+use Rattle.model.specs.Told.{Finding, Said, Line}
 use Rattle.model.specs.Told.Finding.{WrongLength, Broken}
 use Rattle.model.specs.declared.Side.TheVariants as Side
-use Rattle.model.specs.declared.Said.{Said}
-use Rattle.model.specs.declared.Said.TheVariants.{Nothing, OnlyIn, DiffersIn}
-use Rattle.model.specs.declared.Line.{Line}
-use Rattle.model.specs.declared.Line.TheVariants.{Refused, Processor}
+use Rattle.model.specs.Told.Said.{Nothing, OnlyIn, DiffersIn}
+use Rattle.model.specs.Told.Line.{Refused, Processor}
 use Rattle.model.specs.Map.{memory_size, first_name}
 use Rattle.model.specs.Differ as Differ
 use Rattle.model.specs.Differ.{finding_lines, name_lines, or_same, broken_or}
@@ -23,11 +21,9 @@ use Rattle.model.specs.Answer.{wrong_length}
 use Rattle.model.specs.Bytes.{Memory, told_of, said, word_line, word_lines, names_lines, judged_lines, is_whole, size_lines, lines}
 use Rattle.comparing.specs.declared.Cursor.{Cursor}
 use Rattle.comparing.specs.declared.Cursor.TheVariants.{Start, Words, Second, Names, Over}
-use Rattle.comparing.specs.declared.Step.{Step}
-use Rattle.comparing.specs.declared.Step.TheVariants.{Tells, End}
 use Rattle.comparing.specs.Cursors as Cursors
-use Rattle.comparing.specs.Cursors.{names_end, told_or, whole_from, sizes_from, lines_from, gives, speaks, next_differing, next_named, word_step}
-use Rattle.comparing.specs.Cursors.{first_step, second_step, name_step, ended, against_step, whole_step, cut_step, size_step, sizes_step}
+use Rattle.comparing.specs.Cursors.{names_end, told_or, whole_from, sizes_from, lines_from, Step, gives, speaks, next_differing, next_named}
+use Rattle.comparing.specs.Cursors.{word_step, first_step, second_step, name_step, ended, against_step, whole_step, cut_step, size_step, sizes_step}
 
 told_line : (t : Bool) (x : Line) (xs : List Line) → told_or t (x ∷ xs) ≡ x ∷ xs
 unfolding Cursors.told_or Differ.or_same
@@ -67,7 +63,7 @@ module _ (n : ℕ) (m k : Memory) (a : ℕ) where
     words_differ = rw (e, Differ.differing)
 
   module _ (e : speaks (said m k a) ≡ false) where
-    next_silent : next_named (suc n) m k a ≡ next_named n m k (a + 1)
+    pub next_silent : next_named (suc n) m k a ≡ next_named n m k (a + 1)
     unfolding Cursors.next_named
     next_silent = rw (e, next_named)
 
@@ -76,7 +72,7 @@ module _ (n : ℕ) (m k : Memory) (a : ℕ) where
     names_silent = rw (no_line a (said m k a) e)
 
   module _ (e : speaks (said m k a) ≡ true) where
-    next_speaks : next_named (suc n) m k a ≡ a
+    pub next_speaks : next_named (suc n) m k a ≡ a
     unfolding Cursors.next_named
     next_speaks = rw (e, next_named)
 
@@ -95,7 +91,7 @@ module _ (m k : Memory) (em : length m ≡ memory_size) (ek : length k ≡ memor
   whole_from_lem c = rw whole
 
   -- a line, and what is left behind it
-  tells : (x : Line) (c : Cursor) (xs : List Line) (t : Bool) → whole_from c m k ≡ xs → gives (Tells x c) m k ≡ told_or t (x ∷ xs)
+  tells : (x : Line) (c : Cursor) (xs : List Line) (t : Bool) → whole_from c m k ≡ xs → gives (Some (x, c)) m k ≡ told_or t (x ∷ xs)
   unfolding Cursors.gives
   tells x c xs t e = rw (whole_from_lem c, e, told_line t x xs)
 
@@ -180,7 +176,7 @@ module _ (m k : Memory) (z : is_whole m && is_whole k ≡ false) where
   unfolding Cursors.size_step Differ.size_lines Cursors.gives Cursors.sizes_from
   size_lines_lem = go (is_whole k)
     where
-      go : (b : Bool) → gives (cond b End (Tells (Refused Side.Second wrong_length) Over)) m k ≡ cond b [] (Refused Side.Second wrong_length ∷ [])
+      go : (b : Bool) → gives (cond b None (Some (Refused Side.Second wrong_length, Over))) m k ≡ cond b [] (Refused Side.Second wrong_length ∷ [])
       go true = refl
       go false = rw (cut_from Over)
 
@@ -189,7 +185,7 @@ module _ (m k : Memory) (z : is_whole m && is_whole k ≡ false) where
   both_lines = go (is_whole m) size_lines_lem
     where
       go : (b : Bool) → gives (size_step k) m k ≡ size_lines Side.Second k
-          → gives (cond b (size_step k) (Tells (Refused Side.First wrong_length) Second)) m k
+          → gives (cond b (size_step k) (Some (Refused Side.First wrong_length, Second))) m k
           ≡ cond b [] (Refused Side.First wrong_length ∷ []) ++ size_lines Side.Second k
       go true h = h
       go false h = rw (cut_from Second)
@@ -207,8 +203,8 @@ module _ (m k : Memory) (z : is_whole m && is_whole k ≡ false) where
 
 -- ---- the step repeated, at most n times, from a cursor on
 abbrev on : (Cursor → List Line) → Step → List Line
-on g End = []
-on g (Tells x d) = x ∷ g d
+on g None = []
+on g (Some s) = s.0 ∷ g s.1
 
 unfoldable pub repeated : ℕ → (Cursor → Step) → Cursor → List Line
 repeated zero f c = []
@@ -225,13 +221,18 @@ module _ (m k : Memory) (f : Cursor → Step) (h : (c : Cursor) → gives (f c) 
       empty (x ∷ xs) i = absurd (omega arith)
   repeated_tells (suc n) c l = go (f c) (h c) (λ d. repeated_tells n d)
     where
-      go : (r : Step) → gives r m k ≡ lines_from c m k → ((d : Cursor) → length (lines_from d m k) ≤ n → repeated n f d ≡ lines_from d m k)
-          → on (repeated n f) r ≡ lines_from c m k
-      go End e i = e
-      go (Tells x d) e i =
-          let s : suc (length (lines_from d m k)) ≡ length (lines_from c m k) = ap length e in
-          ap (λ (xs : List Line). x ∷ xs) (i d (omega arith)) ∙ e
+      go : (r : Step) → gives r m k ≡ lines_from c m k
+          → ((d : Cursor) → length (lines_from d m k) ≤ n → repeated n f d ≡ lines_from d m k) → on (repeated n f) r ≡ lines_from c m k
+      go None e i = e
+      go (Some s) e i =
+          let z : suc (length (lines_from s.1 m k)) ≡ length (lines_from c m k) = ap length e in
+          ap (λ (xs : List Line). s.0 ∷ xs) (i s.1 (omega arith)) ∙ e
 
   pub all_told : (n : ℕ) → length (lines m k) ≤ n → repeated n f Start ≡ lines m k
   unfolding Cursors.lines_from Cursors.sizes_from Cursors.whole_from Differ.lines
   all_told n l = repeated_tells n Start l
+
+-- what is left from the start on is all that is printed
+pub from_start : (m k : Memory) → lines_from Start m k ≡ lines m k
+unfolding Cursors.lines_from Cursors.sizes_from Cursors.whole_from Differ.lines
+from_start m k = refl

@@ -1,6 +1,7 @@
 // What is said of a name: "processors present in only one, and for names in both whether state, priority or any queue's content differs".
 ghost use Rattle.std.specs.Prelude.{◌≡◌, eqb};
 ghost use Rattle.model.specs.Lists.{hit};
+ghost use Rattle.model.specs.Coded.{said_told};
 ghost use Rattle.model.specs.Differ as Differ;
 ghost use Rattle.model.specs.Bytes as Model;
 
@@ -85,24 +86,24 @@ fn differences(first: &Memory, p: ControlPage, second: &Memory, q: ControlPage) 
 }
 
 // What is said of two processors of one name that differ so.
-#[tactic(auto, unfolding(model::specs::Differ::differs_in))]
-fn differs_in(parts: Parts) -> Said
-    ensures { result ≡ Differ.differs_in parts }
+#[tactic(auto, unfolding(model::specs::Differ::differs_in, model::specs::Coded::said_told))]
+fn differs_in(parts: Parts) -> Option<Said>
+    ensures { said_told result ≡ Differ.differs_in parts }
 {
     if parts.state || parts.priority || parts.q1 || parts.q2 {
-        return Said::DiffersIn(parts);
+        return Some(Said::DiffersIn(parts));
     }
-    Said::Nothing
+    None
 }
 
 #[tactic(auto, using(crate::proofs::Laws::sayings))]
-pub fn said(first: &Memory, second: &Memory, name: Name) -> Said
-    ensures { result ≡ Model.said first.now second.now name.0 }
+pub fn said(first: &Memory, second: &Memory, name: Name) -> Option<Said>
+    ensures { said_told result ≡ Model.said first.now second.now name.0 }
 {
     match (page_of(first, name), page_of(second, name)) {
-        (None, None) => Said::Nothing,
-        (None, Some(_)) => Said::OnlyIn(Side::Second),
-        (Some(_), None) => Said::OnlyIn(Side::First),
+        (None, None) => None,
+        (None, Some(_)) => Some(Said::OnlyIn(Side::Second)),
+        (Some(_), None) => Some(Said::OnlyIn(Side::First)),
         (Some(p), Some(q)) => differs_in(differences(first, p, second, q)),
     }
 }

@@ -56,6 +56,8 @@ module _ (m : Memory) (o : Step) (n len : ℕ) (e : n ≡ 0) (h : o ≡ fault m 
   unfolding Operate.st2
   st2_nobody a = rw (eq-eqb n 0 e) h
 
+pub ruleset by_name = (named_nobody, named_none, named_some, st2_nobody, st2_none, st2_some)
+
 -- ---- CRP, in the order of its faults
 module _ (m : Memory) (o : Step) (n b w a len : ℕ) where
   pub crp_nobody : n ≡ 0 → o ≡ fault m bad_argument → o ≡ crp m n b w a len

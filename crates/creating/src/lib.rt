@@ -69,6 +69,7 @@ fn on_page(m: &mut Memory, order: Order, page: ControlPage, length: u16) -> Answ
 }
 
 // The same of the processor of that name.
+#[tactic(auto, using(crate::proofs::Laws::by_name), unfolding(model::specs::Coded::fault_number))]
 pub fn named(m: &mut Memory, order: Order, name: Name, length: u16) -> Answer
     requires { length < 8192 }
     ensures { gives (answered result) m.new ≡ Model.named m.old (code_of order) name.0 length }
@@ -99,6 +100,7 @@ fn st2_found(m: &mut Memory, page: ControlPage, address: u16, length: u16) -> An
     fault(m, Fault::NotStartable)
 }
 
+#[tactic(auto, using(crate::proofs::Laws::by_name), unfolding(model::specs::Coded::fault_number))]
 pub fn st2(m: &mut Memory, name: Name, address: u16, length: u16) -> Answer
     requires { length < 8192 }
     ensures { gives (answered result) m.new ≡ Model.st2 m.old name.0 address length }

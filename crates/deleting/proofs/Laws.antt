@@ -19,7 +19,8 @@ pub unlisted_is : (m m₁ m₂ : Memory) (p : ℕ) → m₁ ≡ leave_wait m p �
 unfolding Delete.unlisted
 unlisted_is m m₁ m₂ p e₁ e₂ = rw (← e₁) e₂
 
-pub delete_is : (m m₁ m₂ m₃ m₄ : Memory) (p n : ℕ) → n ≡ name m p → m₁ ≡ unlisted m p → m₂ ≡ mail_settled m₁ n p → m₃ ≡ grant_returned m₂ n → m₄ ≡ give_back m₃ p
+pub delete_is : (m m₁ m₂ m₃ m₄ : Memory) (p n : ℕ) → n ≡ name m p → m₁ ≡ unlisted m p → m₂ ≡ mail_settled m₁ n p → m₃ ≡ grant_returned m₂ n
+    → m₄ ≡ give_back m₃ p
     → m₄ ≡ delete m p
 unfolding Delete.delete
 delete_is m m₁ m₂ m₃ m₄ p n en e₁ e₂ e₃ e₄ = rw (← en, ← e₁, ← e₂, ← e₃) e₄

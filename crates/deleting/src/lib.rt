@@ -75,7 +75,7 @@ impl Leaving {
         self.mark_from(m, page.place(map::Q2));
     }
 
-    // Of every processor on the list.
+    // Of every processor on the list. This stays beside `mark_from`: a walk that both share would take a closure over the memory, and its contract the steps.
     fn mark_all(self, m: &mut Memory)
         ensures { m.new ≡ Model.all_marked Map.control_pages m.old self.name.0 Map.processor_list }
     {

@@ -44,7 +44,8 @@ pub record Serves (left : ℕ) (m : Memory) (k c : ℕ) (next : Option ControlPa
   pub is : next ≡ found number
   pub comes : served_from left m k c number ≡ r
 
-pub serves_first : (m : Memory) (k c a : ℕ) (next : Option ControlPage) → a ≡ header_of k → next ≡ found (at m a) → Serves control_pages m k c next (serve m k c)
+pub serves_first : (m : Memory) (k c a : ℕ) (next : Option ControlPage) → a ≡ header_of k → next ≡ found (at m a)
+    → Serves control_pages m k c next (serve m k c)
 unfolding Interrupt.serve
 serves_first m k c a next ea e = record { number = at m a; is = e; comes = rw ea }
 
@@ -55,7 +56,8 @@ module _ (left : ℕ) (m : Memory) (k c : ℕ) (next : Option ControlPage) (r : 
   pub serves_none : left ≡ 0 → m ≡ r
   serves_none z = served_none left m k c d.number z ∙ d.comes
 
-  pub serves_on : (j : ℕ) (m₁ : Memory) (p : ControlPage) (a : ℕ) (then : Option ControlPage) → left ≡ j + 1 → next ≡ Some p → a ≡ place p.0 link → then ≡ found (at m a)
+  pub serves_on : (j : ℕ) (m₁ : Memory) (p : ControlPage) (a : ℕ) (then : Option ControlPage) → left ≡ j + 1 → next ≡ Some p → a ≡ place p.0 link
+      → then ≡ found (at m a)
       → m₁ ≡ struck m k c p.0
       → Serves j m₁ k c then r
   serves_on j m₁ p a then ej e ea et e₁ =

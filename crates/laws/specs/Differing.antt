@@ -8,9 +8,9 @@ use borrow.Author.Tests.{eqb-true, eq-eqb, ne_eqb}
 use Rattle.model.specs.declared.Side.TheVariants.{First, Second}
 use Rattle.model.specs.declared.State.{State}
 use Rattle.model.specs.declared.Parts.{Parts}
-use Rattle.model.specs.declared.Said.{Said}
-use Rattle.model.specs.declared.Said.TheVariants.{Nothing, OnlyIn, DiffersIn}
-use Rattle.model.specs.declared.Line.TheVariants.{Word}
+use Rattle.model.specs.Told.{Said}
+use Rattle.model.specs.Told.Said.{Nothing, OnlyIn, DiffersIn}
+use Rattle.model.specs.Told.Line.{Word}
 use Rattle.model.specs.Map.{place}
 use Rattle.model.specs.Map.{q1, q2}
 use Rattle.model.specs.Address.{unless}

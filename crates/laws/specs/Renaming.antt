@@ -8,7 +8,7 @@ use mathlib.Core.List.{List, [], ◌∷◌, map, append-nil}
 use native.Mathlib.Omega.{arith}
 use Rattle.std.proofs.Math.Dec.{eqb}
 use Rattle.std.proofs.lemmas.Bool.{lt-leb}
-use Rattle.model.specs.declared.Said.TheVariants.{Nothing}
+use Rattle.model.specs.Told.Said.{Nothing}
 use Rattle.model.specs.Map as Map
 use Rattle.model.specs.Map.{memory_size, place, first_name, last_name, processor_list, running_page, page_queue, interrupts, header_after, semaphore_after}
 use Rattle.model.specs.Map.{free_semaphore, control_pages, first_control, last_control, link, own_semaphore, own_queue, q1, q2, note}

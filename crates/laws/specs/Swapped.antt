@@ -4,13 +4,11 @@ use Rattle.std.proofs.Math.Path.{refl}
 use Rattle.std.proofs.Common.{sym, ap, ◌∙◌, inl, inr, arith, ext_get_or, eq-eqb, ne_eqb}
 use Rattle.std.proofs.Math.Bool.{true, false}
 use mathlib.Core.List.{List, [], ◌∷◌, ◌++◌, map, map-append, append-nil}
-use Rattle.model.specs.Told.{Finding}
+use Rattle.model.specs.Told.{Finding, Said, Line}
 use Rattle.model.specs.declared.Side.{Side}
 use Rattle.model.specs.declared.Side.TheVariants.{First, Second}
-use Rattle.model.specs.declared.Said.{Said}
-use Rattle.model.specs.declared.Said.TheVariants.{Nothing, OnlyIn, DiffersIn}
-use Rattle.model.specs.declared.Line.{Line}
-use Rattle.model.specs.declared.Line.TheVariants.{Word, Refused, RefusedAt, Processor, Same}
+use Rattle.model.specs.Told.Said.{Nothing, OnlyIn, DiffersIn}
+use Rattle.model.specs.Told.Line.{Word, Refused, RefusedAt, Processor, Same}
 use Rattle.model.specs.Map.{memory_size, place, first_name, last_name}
 use Rattle.model.specs.Map.{q1, q2}
 use Rattle.model.specs.Answer.{wrong_length}

@@ -55,14 +55,16 @@ module _ (p n f : ℕ) where
   tests_end zero m e = refl
   tests_end (suc i) m e = rw (eq-eqb (word m p q1) 0 (none_is _ e), Mail.test_q1)
 
-  pub tests_here : (i : ℕ) (m m₁ : Memory) (q : ControlPage) (b : Bool) → (i ≡ 0 → ⊥) → Some q ≡ found (word m p q1) → b ≡ matches m n f q.0 → b ≡ true → m₁ ≡ move m p q.0
+  pub tests_here : (i : ℕ) (m m₁ : Memory) (q : ControlPage) (b : Bool) → (i ≡ 0 → ⊥) → Some q ≡ found (word m p q1) → b ≡ matches m n f q.0 → b ≡ true
+      → m₁ ≡ move m p q.0
       → tested true m₁ ≡ test_q1 i m p n f
   unfolding Mail.test_q1
   tests_here zero m m₁ q b y eq eb h e₁ = absurd (y refl)
   tests_here (suc i) m m₁ q b y eq eb h e₁ =
       rw (ne_eqb (word m p q1) 0 (some_not _ q eq), Mail.test_q1, ← (some_is _ q eq), ← eb, h, Mail.test_q1, ← (some_is _ q eq), ← e₁)
 
-  pub tests_on : (i j : ℕ) (m m₁ : Memory) (q : ControlPage) (b : Bool) → i ≡ j + 1 → Some q ≡ found (word m p q1) → b ≡ matches m n f q.0 → b ≡ false → m₁ ≡ move m p q.0
+  pub tests_on : (i j : ℕ) (m m₁ : Memory) (q : ControlPage) (b : Bool) → i ≡ j + 1 → Some q ≡ found (word m p q1) → b ≡ matches m n f q.0 → b ≡ false
+      → m₁ ≡ move m p q.0
       → test_q1 i m p n f ≡ test_q1 j m₁ p n f
   unfolding Mail.test_q1
   tests_on zero j m m₁ q b y eq eb h e₁ = absurd (omega arith)

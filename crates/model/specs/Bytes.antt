@@ -10,8 +10,8 @@ use Rattle.model.specs.declared.Entry.{Entry}
 use Rattle.model.specs.Told.{Fit}
 use Rattle.model.specs.declared.State.{State}
 use Rattle.model.specs.declared.Parts.{Parts}
-use Rattle.model.specs.declared.Said.{Said}
-use Rattle.model.specs.declared.Line.{Line}
+use Rattle.model.specs.Told.{Said}
+use Rattle.model.specs.Told.{Line}
 use Rattle.model.specs.declared.Side.{Side}
 use Rattle.model.specs.declared.Context.{Context}
 use Rattle.model.specs.Page.{Taken}

@@ -4,6 +4,8 @@ use Rattle.model.specs.declared.ControlPage.{ControlPage}
 use Rattle.model.specs.declared.Registers.{Registers}
 use Rattle.model.specs.declared.Answer.{Answer as Answered}
 use Rattle.model.specs.declared.Answer.TheVariants as Coded
+use Rattle.model.specs.declared.Line.{Line as CodedLine}
+use Rattle.model.specs.declared.Said.{Said as CodedSaid}
 use Rattle.model.specs.declared.fault.Fault.{Fault as Faulted}
 use Rattle.model.specs.declared.fault.Fault.TheVariants as Fault
 use Rattle.model.specs.declared.fault.NoFault.{NoFault}
@@ -24,7 +26,7 @@ use Rattle.model.specs.declared.instructions.Shape.TheVariants.{Bare, Plain, Add
 use Rattle.model.specs.Instruction.{absent, built_in, own, sme_code, rme_code, st1_code, stp_code, crp_code, dep_code, exi_code}
 use Rattle.model.specs.Instruction.{jump_operation, vep_operation}
 use Rattle.model.specs.Instruction.{bare, plain, addressed, counted, flagged, complete, creating}
-use Rattle.model.specs.Told.{Answer, Held, Verdict, Finding, Checked, Fit, Writing}
+use Rattle.model.specs.Told.{Answer, Held, Verdict, Finding, Checked, Fit, Writing, Said, Line}
 use Rattle.model.specs.Answer.{wrong_length, idle, no_instruction, no_interrupt, wrong_class, out_of_range, wrong_list, broken_layout, too_new, no_room}
 use Rattle.model.specs.Answer.{broken_pages, broken_waits, broken_records, broken_tables, broken_counters}
 use Rattle.model.specs.Answer.{absent_code, exi_of_exi, code_exists, kept_code, bad_wait, no_match, no_name, not_startable, name_exists, not_stopped, protected, bad_argument, above_itself}
@@ -182,3 +184,15 @@ broken_told (Err b) = Finding.Broken (class_number b.class) b.address
 unfoldable pub checked_told : Result (Unit {0}) Refusal → Checked
 checked_told (Ok u) = Checked.Good
 checked_told (Err e) = refusal (λ k. Checked.Bad k 0) Checked.Bad e
+
+-- ---- what is told of two memories
+unfoldable pub said_told : Option CodedSaid → Said
+said_told None = Said.Nothing
+said_told (Some (CodedSaid.OnlyIn s)) = Said.OnlyIn s
+said_told (Some (CodedSaid.DiffersIn d)) = Said.DiffersIn d
+
+unfoldable pub line_told : CodedLine → Line
+line_told (CodedLine.Word a x y) = Line.Word a x y
+line_told (CodedLine.Refused s e) = refusal (Line.Refused s) (Line.RefusedAt s) e
+line_told (CodedLine.Processor n s) = Line.Processor n (said_told (Some s))
+line_told CodedLine.Same = Line.Same

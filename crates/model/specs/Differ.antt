@@ -3,16 +3,14 @@
 -- differs. Queue content is compared by messages in order, and not by page numbers. If either is broken, only the word list and the reason are printed; if
 -- either file isn't 8,192 bytes, only 20 and which file." m is the first memory, k the second.
 use Rattle.std.specs.Prelude.{ℕ, zero, suc, ◌+◌, Bool, true, false, cond, not, ◌&&◌, List, [], ◌∷◌, ◌++◌, map, eqb, leb}
-use Rattle.model.specs.Told.{Finding}
+use Rattle.model.specs.Told.{Finding, Said, Line}
 use Rattle.model.specs.Told.Finding.{WrongLength, Broken}
 use Rattle.model.specs.declared.Side.{Side}
 use Rattle.model.specs.declared.Side.TheVariants.{First, Second}
 use Rattle.model.specs.declared.State.{State}
 use Rattle.model.specs.declared.Parts.{Parts}
-use Rattle.model.specs.declared.Said.{Said}
-use Rattle.model.specs.declared.Said.TheVariants.{Nothing, OnlyIn, DiffersIn}
-use Rattle.model.specs.declared.Line.{Line}
-use Rattle.model.specs.declared.Line.TheVariants.{Word, Refused, RefusedAt, Processor, Same}
+use Rattle.model.specs.Told.Said.{Nothing, OnlyIn, DiffersIn}
+use Rattle.model.specs.Told.Line.{Word, Refused, RefusedAt, Processor, Same}
 use Rattle.model.specs.Store.{Store}
 use Rattle.model.specs.Map.{memory_size, place, stop_in, wait_in, free_semaphore, reason, q1, q2, state, note, size, text, interrupts, first_name, last_name}
 use Rattle.model.specs.Address.{at, word, wrapped, unless}

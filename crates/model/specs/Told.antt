@@ -1,6 +1,8 @@
 -- What calls answer and tests find, by document 01's numbers. What the code's own types are among these is said in Coded.
 use Rattle.std.specs.Prelude.{ℕ}
 use Rattle.model.specs.declared.Registers.{Registers}
+use Rattle.model.specs.declared.Side.{Side}
+use Rattle.model.specs.declared.Parts.{Parts}
 
 -- what a call answers. Handed out: the program's address, and that of n+1 or of the arguments. Fault: its number, and the name. Refused: its number, and with 30-34
 -- the address, with 24 and 25 of a burst the place of the bad pair, with 29 of settings the version
@@ -46,3 +48,18 @@ pub data Writing : Type 0 where
   Written : ℕ → Writing
   Refused : ℕ → Writing
   RefusedAt : ℕ → ℕ → Writing
+
+-- what is said of a name
+pub data Said : Type 0 where
+  Nothing : Said
+  OnlyIn : Side → Said
+  DiffersIn : Parts → Said
+
+-- a line of what is printed of two memories: an address with both words, what refuses one of the two by its number, and with 30-34 the address, what is said of
+-- a name, or that they are the same
+pub data Line : Type 0 where
+  Word : ℕ → ℕ → ℕ → Line
+  Refused : Side → ℕ → Line
+  RefusedAt : Side → ℕ → ℕ → Line
+  Processor : ℕ → Said → Line
+  Same : Line

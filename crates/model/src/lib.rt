@@ -155,10 +155,9 @@ pub struct Parts {
     pub q2: bool,
 }
 
-// What is said of a name.
+// What is said of a name, where something is.
 #[derive(Clone, Copy)]
 pub enum Said {
-    Nothing,
     OnlyIn(Side),
     DiffersIn(Parts),
 }
@@ -167,8 +166,7 @@ pub enum Said {
 #[derive(Clone, Copy)]
 pub enum Line {
     Word(u16, u8, u8),
-    Refused(Side, u8),
-    RefusedAt(Side, u8, u16),
+    Refused(Side, Refusal),
     Processor(u8, Said),
     Same,
 }

@@ -11,7 +11,8 @@ use Rattle.model.specs.Page as Page
 use Rattle.model.specs.Page.{Taken}
 use Rattle.model.specs.Operate as Operate
 use Rattle.model.specs.Page.Taken.{took}
-use Rattle.model.specs.Bytes.{Memory, at, write, name, take_free, first_free, take_page, free_page, grant_page, give_back, Step, running, done, waits_for_page, with_page}
+use Rattle.model.specs.Bytes.{Memory, at, write, name, take_free, first_free, take_page}
+use Rattle.model.specs.Bytes.{free_page, grant_page, give_back, Step, running, done, waits_for_page, with_page}
 use Rattle.queues.proofs.Laws.{found_none, none_is, some_is, some_not}
 use Rattle.pages.specs.Taken.{Gives}
 
@@ -48,12 +49,14 @@ unfolding Page.give_back
 back_granted m m₁ q p e₁ e = rw (ne_eqb (at m page_queue) 0 (some_not _ p e), ← (some_is _ p e)) e₁
 
 -- ---- SME and CRP, with a page in hand or with none
-with_none : (m m₁ : Memory) (o : Step) (goes : ℕ → Memory → Memory) (len : ℕ) (t : Taken Memory) → take_page m (running m) ≡ t → Gives t None m₁ → o ≡ waits_for_page m₁
+with_none : (m m₁ : Memory) (o : Step) (goes : ℕ → Memory → Memory) (len : ℕ) (t : Taken Memory) → take_page m (running m) ≡ t → Gives t None m₁
+    → o ≡ waits_for_page m₁
     → o ≡ with_page m goes len
 unfolding Operate.with_page
 with_none m m₁ o goes len (took q n) e g h = rw (e, Operate.with_page, eq-eqb q 0 (none_is q g.0), ← g.1) h
 
-with_some : (m m₁ m₂ : Memory) (o : Step) (goes : ℕ → Memory → Memory) (len : ℕ) (p : ControlPage) (t : Taken Memory) → take_page m (running m) ≡ t → Gives t (Some p) m₁
+with_some : (m m₁ m₂ : Memory) (o : Step) (goes : ℕ → Memory → Memory) (len : ℕ) (p : ControlPage) (t : Taken Memory) → take_page m (running m) ≡ t
+    → Gives t (Some p) m₁
     → m₂ ≡ goes p.0 m₁ → o ≡ done m₂ len → o ≡ with_page m goes len
 unfolding Operate.with_page
 with_some m m₁ m₂ o goes len p (took q n) e g e₂ h =

@@ -7,7 +7,8 @@ use lib.Seq.{get_or-set_other, set-get_or}
 use mir.Val.{Fits}
 use mir.Syntax.{w8}
 use Rattle.model.specs.declared.Registers.{Registers}
-use Rattle.model.specs.Map.{place, high, low, joined, lower, p_in, z_in, ci_in, three_flags, flags_kept, p_set, stop_in, stop_set, stop_cleared, w_set, stop_put}
+use Rattle.model.specs.Map.{place, high, low, joined, lower, p_in, z_in, ci_in}
+use Rattle.model.specs.Map.{three_flags, flags_kept, p_set, stop_in, stop_set, stop_cleared, w_set, stop_put}
 use Rattle.model.specs.Map.{word_a, word_s, high_lr, low_lr, state}
 use Rattle.model.specs.Address.{wrapped}
 use Rattle.model.specs.Processor as Processor

@@ -11,7 +11,7 @@ use model::{ControlPage, Memory, Name, Registers, map, wide};
 use queues::Queue;
 use words::{at, lowered, raised, write};
 
-// The running processor's page; page 0: nobody runs.
+// The running processor's page; page 0: nobody runs. It is no Option, since the model reads and writes words of page 0 there (`advance`, `fault`).
 pub fn running(m: &Memory) -> ControlPage
     ensures { result.0 ≡ Model.running m.now }
 {

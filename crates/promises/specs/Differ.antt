@@ -8,8 +8,8 @@ use Rattle.model.specs.declared.Side.{Side}
 use Rattle.model.specs.declared.Side.TheVariants.{First, Second}
 use Rattle.model.specs.declared.State.{State}
 use Rattle.model.specs.declared.Parts.{Parts}
-use Rattle.model.specs.declared.Said.TheVariants.{Nothing, OnlyIn, DiffersIn}
-use Rattle.model.specs.declared.Line.TheVariants.{Word, Refused, RefusedAt, Same}
+use Rattle.model.specs.Told.Said.{Nothing, OnlyIn, DiffersIn}
+use Rattle.model.specs.Told.Line.{Word, Refused, RefusedAt, Same}
 use Rattle.model.specs.Map.{memory_size, place, first_name, last_name, q1, q2, stop_in, state, reason, interrupts, semaphore_after, header_after, free_semaphore}
 use Rattle.model.specs.Map.{page_queue, own_queue}
 use Rattle.model.specs.Lists.{count}

@@ -95,7 +95,8 @@ unfolding Queue.walk
 walk_stops zero m k a e = refl
 walk_stops (suc n) m k a e = rw (eq-eqb (at m a) 0 (none_is (at m a) e), Queue.walk)
 
-pub walk_goes : (n : ℕ) (m : Memory) (k a b : ℕ) (p : ControlPage) → (n ≡ 0 → ⊥) → Some p ≡ found (at m a) → b ≡ place p.0 k → walk n m k a ≡ p.0 ∷ walk (n - 1) m k b
+pub walk_goes : (n : ℕ) (m : Memory) (k a b : ℕ) (p : ControlPage) → (n ≡ 0 → ⊥) → Some p ≡ found (at m a) → b ≡ place p.0 k
+    → walk n m k a ≡ p.0 ∷ walk (n - 1) m k b
 unfolding Queue.walk
 walk_goes zero m k a b p o e eb = absurd (o refl)
 walk_goes (suc n) m k a b p o e eb =
@@ -118,7 +119,8 @@ pub no_zero : (n : ℕ) (m : Memory) (k a : ℕ) → NoZero (walk n m k a)
 unfolding Queue.walk
 no_zero zero m k a = tt
 no_zero (suc n) m k a =
-    no_zero_if (eqb (at m a) 0) (at m a) (walk n m k (place (at m a) k)) (λ e z. let h : eqb (at m a) 0 ≡ true = eq-eqb (at m a) 0 z in cc) (no_zero n m k (place (at m a) k))
+    no_zero_if (eqb (at m a) 0) (at m a) (walk n m k (place (at m a) k)) (λ e z. let h : eqb (at m a) 0 ≡ true = eq-eqb (at m a) 0 z in cc)
+    (no_zero n m k (place (at m a) k))
 
 -- what was found has its number, and is none where the number is 0
 none_found : (r : Option ControlPage) → option_map (λ (p : ControlPage). p.0) r ≡ None → r ≡ None
@@ -130,7 +132,8 @@ unfolding Coded.found
 page_found None x z e = cc
 page_found (Some p) x z e = let h : p.0 ≡ x = cc in rw (ne_eqb x 0 z, ← h)
 
-search_if : (b : Bool) (t : ℕ → Bool) (x : ℕ) (xs : List ℕ) (r : Option ControlPage) → (x ≡ 0 → ⊥) → (option_map (λ (p : ControlPage). p.0) r ≡ find t xs → r ≡ found (first t xs))
+search_if : (b : Bool) (t : ℕ → Bool) (x : ℕ) (xs : List ℕ) (r : Option ControlPage) → (x ≡ 0 → ⊥) → (option_map (λ (p : ControlPage). p.0) r ≡ find t xs
+    → r ≡ found (first t xs))
     → option_map (λ (p : ControlPage). p.0) r ≡ cond b (Some x) (find t xs) → r ≡ found (elim b [ true ↦ x | false ↦ first t xs ])
 search_if true t x xs r z more e = page_found r x z e
 search_if false t x xs r z more e = more e

@@ -47,7 +47,12 @@ impl<'m> Walk<'m> {
         requires { (link < 32) × (cell < 8192) }
         ensures { result ≡ Model.walk left m.now link cell }
     {
-        Self { m, link, cell, left }
+        Self {
+            m,
+            link,
+            cell,
+            left,
+        }
     }
 }
 

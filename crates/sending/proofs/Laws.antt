@@ -20,7 +20,8 @@ module _ (m m₁ m₂ : Memory) (q n f a l : ℕ) where
   unfolding Operate.posted
   posted_notice r z er e₁ e₂ = rw (eq-eqb (page_of m n) 0 (none_is _ z), ← er, ← e₁) e₂
 
-  pub posted_message : (p : ControlPage) (b : ℕ) → Some p ≡ found (page_of m n) → b ≡ wrapped a 1 → m₁ ≡ write_message m q f b l → m₂ ≡ deliver m₁ p.0 q → m₂ ≡ posted m q n f a l
+  pub posted_message : (p : ControlPage) (b : ℕ) → Some p ≡ found (page_of m n) → b ≡ wrapped a 1 → m₁ ≡ write_message m q f b l → m₂ ≡ deliver m₁ p.0 q
+      → m₂ ≡ posted m q n f a l
   unfolding Operate.posted
   posted_message p b z eb e₁ e₂ = rw (ne_eqb (page_of m n) 0 (some_not _ p z), ← eb, ← e₁, ← (some_is _ p z)) e₂
 
@@ -57,14 +58,15 @@ module _ (m : Memory) (o : Step) (n f a len : ℕ) where
   unfolding Operate.rme
   rme_none z e = rw (eq-eqb (in_q2 m n f) 0 (none_is _ z)) e
 
-  module _ (p : ControlPage) (l : ℕ) (c : Bool) (z : Some p ≡ found (in_q2 m n f)) (el : l ≡ word m p.0 size) (ec : c ≡ clear (head_words + length_in l) a) where
-    pub rme_done : (m₁ : Memory) → c ≡ true → m₁ ≡ received m p.0 a → o ≡ done m₁ len → o ≡ rme m n f a len
-    unfolding Operate.rme
-    rme_done m₁ h e₁ e = rw (ne_eqb (in_q2 m n f) 0 (some_not _ p z), ← (some_is _ p z), ← el, ← ec, h, ← e₁) e
+  module _ (p : ControlPage) (l : ℕ) (c : Bool) (z : Some p ≡ found (in_q2 m n f)) (el : l ≡ word m p.0 size) (ec : c ≡ clear (head_words + length_in l) a)
+    where
+      pub rme_done : (m₁ : Memory) → c ≡ true → m₁ ≡ received m p.0 a → o ≡ done m₁ len → o ≡ rme m n f a len
+      unfolding Operate.rme
+      rme_done m₁ h e₁ e = rw (ne_eqb (in_q2 m n f) 0 (some_not _ p z), ← (some_is _ p z), ← el, ← ec, h, ← e₁) e
 
-    pub rme_guarded : c ≡ false → o ≡ fault m protected → o ≡ rme m n f a len
-    unfolding Operate.rme
-    rme_guarded h e = rw (ne_eqb (in_q2 m n f) 0 (some_not _ p z), ← (some_is _ p z), ← el, ← ec, h) e
+      pub rme_guarded : c ≡ false → o ≡ fault m protected → o ≡ rme m n f a len
+      unfolding Operate.rme
+      rme_guarded h e = rw (ne_eqb (in_q2 m n f) 0 (some_not _ p z), ← (some_is _ p z), ← el, ← ec, h) e
 
   pub tme_none : None ≡ found (in_q2 m n f) → o ≡ tme_q1 m n f a len → o ≡ tme m n f a len
   unfolding Operate.tme
@@ -82,6 +84,14 @@ module _ (m : Memory) (o : Step) (n f a len : ℕ) where
     pub q1_none : b ≡ false → o ≡ done m₁ len → o ≡ tme_q1 m n f a len
     unfolding Operate.tme_q1
     q1_none h e = rw (← er, ← eb, Operate.tme_q1, h) e
+
+pub ruleset posts = (posted_notice, posted_message)
+
+pub ruleset waits_or_moves = (wnm_waits, wnm_moves)
+
+pub ruleset reads = (rme_none, rme_done, rme_guarded)
+
+pub ruleset looks = (tme_none, tme_some)
 
 pub ruleset texts = (text_long, text_sent, text_guarded)
 

@@ -17,7 +17,7 @@ use queues::Queue;
 use words::{at, clear, guarded, wrapped};
 
 // The page is posted to the processor of that name, with the text of that size behind the address; where there is none, it comes back as a notice.
-#[tactic(auto, using(crate::proofs::Laws::posted_notice))]
+#[tactic(auto, using(crate::proofs::Laws::posts))]
 fn post(m: &mut Memory, page: ControlPage, note: Note, address: u16, size: u8)
     requires { address < 8192 }
     ensures { m.new ≡ Model.posted m.old page.0 note.name.0 note.flag address size }
@@ -35,7 +35,8 @@ fn post(m: &mut Memory, page: ControlPage, note: Note, address: u16, size: u8)
     }
 }
 
-// A page is taken and posted; with none, the runner waits for one.
+// A page is taken and posted; with none, the runner waits for one. CRP has the same `match`: a function that both share would take a closure over the
+// memory, and its clauses be no plainer.
 #[tactic(auto, using(pages::proofs::Laws::page_none), unfolding(model::specs::Operate::sent))]
 fn send(m: &mut Memory, note: Note, address: u16, size: u8, length: u16) -> Answer
     requires { (address < 8192) × (length < 8192) }
@@ -83,6 +84,7 @@ pub fn sme(m: &mut Memory, note: Note, address: u16, length: u16) -> Answer
     sme_text(m, note, address, length)
 }
 
+#[tactic(auto, using(crate::proofs::Laws::waits_or_moves))]
 pub fn wnm(m: &mut Memory, asked: Note, length: u16) -> Answer
     requires { length < 8192 }
     ensures { gives (answered result) m.new ≡ Model.wnm m.old asked.name.0 asked.flag length }
@@ -109,6 +111,7 @@ fn receive(m: &mut Memory, message: ControlPage, address: u16)
     give_back(m, message);
 }
 
+#[tactic(auto, using(crate::proofs::Laws::reads), unfolding(model::specs::Coded::fault_number))]
 pub fn rme(m: &mut Memory, asked: Note, address: u16, length: u16) -> Answer
     requires { (address < 8192) × (length < 8192) }
     ensures { gives (answered result) m.new ≡ Model.rme m.old asked.name.0 asked.flag address length }
@@ -136,6 +139,7 @@ fn tme_q1(m: &mut Memory, asked: Note, address: u16, length: u16) -> Answer
     done(m, length)
 }
 
+#[tactic(auto, using(crate::proofs::Laws::looks))]
 pub fn tme(m: &mut Memory, asked: Note, address: u16, length: u16) -> Answer
     requires { length < 8192 }
     ensures { gives (answered result) m.new ≡ Model.tme m.old asked.name.0 asked.flag address length }

@@ -24,6 +24,7 @@ fn make(m: &mut Memory, e: Entry)
         address: e.address,
     };
     let runner = running(m);
+    // The definition makes it of page 0 where none is left, which no fresh memory shows.
     let page = take_page(m, runner).unwrap_or(ControlPage(0));
     newcomer.create(m, page);
 }

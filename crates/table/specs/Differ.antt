@@ -6,9 +6,9 @@ use Rattle.model.specs.Store.{bytes}
 use Rattle.model.specs.Same.{by_trees}
 use Rattle.model.specs.declared.Side.{Side}
 use Rattle.model.specs.declared.Side.TheVariants.{First, Second}
-use Rattle.model.specs.declared.Said.TheVariants.{Nothing, OnlyIn, DiffersIn}
-use Rattle.model.specs.declared.Line.{Line}
-use Rattle.model.specs.declared.Line.TheVariants.{Word, Refused, RefusedAt, Processor, Same}
+use Rattle.model.specs.Told.Said.{Nothing, OnlyIn, DiffersIn}
+use Rattle.model.specs.Told.{Line}
+use Rattle.model.specs.Told.Line.{Word, Refused, RefusedAt, Processor, Same}
 use Rattle.model.specs.Differ.{lines, names_lines}
 use Rattle.table.specs.Program.{win, sme, wnm, rme, st1, crp}
 use Rattle.table.specs.Script as Script

@@ -10,18 +10,18 @@ use Rattle.std.specs.Option.{option_eq}
 use Rattle.std.specs.Array.{IsFromFnResult, IsFromFnResultFrom}
 use Rattle.std.proofs.lemmas.List.FromFn.{fill_by_all}
 use Rattle.std.proofs.lemmas.Bool.{cases_eq}
-use lib.Dec.{ltb, eqb}
-use lib.ListN.{get_or, set, replicate}
+use lib.Dec.{eqb}
+use lib.ListN.{get_or}
 use borrow.Author.Tests.{lt-ltb, le-ltb, eq-eqb, ne_eqb}
 use native.Mathlib.Omega.{arith}
 use Rattle.std.specs.Prelude.{Option, Some, None, cond}
 use Rattle.model.specs.declared.ControlPage.{ControlPage}
 use Rattle.model.specs.Coded.{found}
 use Rattle.model.specs.declared.Context.{Context}
-use Rattle.model.specs.Map.{control_pages, list_link, processor_list, place, zero_place, keeps, kept_count}
+use Rattle.model.specs.Map.{control_pages, list_link, processor_list, zero_place, keeps, kept_count}
 use Rattle.model.specs.Turn as Turn
 use Rattle.model.specs.Turn.{fold, nineteen}
-use Rattle.model.specs.Bytes.{Memory, running, processors, chosen, at, word, store, write, walk, ready, priority, stays, above, better, context_of}
+use Rattle.model.specs.Bytes.{Memory, running, processors, chosen, store, write, ready, stays, above, better, context_of}
 use Rattle.model.specs.Bytes.{saved_of, on_page0, kept_on, kept, restored, save, load, runs, who_runs, hand_back}
 use Rattle.turn.specs.Leading.{above_leader}
 use Rattle.queues.proofs.Laws.{found_none, found_is, none_is, some_is, some_not, NoZero, no_zero}
@@ -36,7 +36,8 @@ page_or_none : (p : ControlPage) (b : Bool) → (p.0 ≡ 0 → ⊥) → then_som
 page_or_none p true z = sym (found_is p.0 z)
 page_or_none p false z = sym (found_none 0 refl)
 
-pub stays_some : (m : Memory) (r : Option ControlPage) (p : ControlPage) (b : Bool) → Some p ≡ found (running m) → b ≡ ready m p.0 → r ≡ then_some b p → r ≡ found (stays m (running m))
+pub stays_some : (m : Memory) (r : Option ControlPage) (p : ControlPage) (b : Bool) → Some p ≡ found (running m) → b ≡ ready m p.0 → r ≡ then_some b p
+    → r ≡ found (stays m (running m))
 unfolding Turn.stays
 stays_some m r p b e eb er =
     let z : running m ≡ 0 → ⊥ = some_not _ p e in
@@ -105,7 +106,8 @@ pub zero_later : (i : ℕ) → 3 ≤ i → 13 + i ≡ zero_place i
 zero_later i h = rw (le-ltb i 3 h)
 
 -- what is made by a function of the index, which calls to the closure compute
-from_fn_at : {F : Type 0} (g : Mut F (ℕ × Unit {0}) ℕ) (h : ℕ → ℕ) (f : F) (ys : List ℕ) (i n : ℕ) → ((x y : ℕ) (q : F) → Called g f (x, tt) y q → (q ≡ f) × (y ≡ h x))
+from_fn_at : {F : Type 0} (g : Mut F (ℕ × Unit {0}) ℕ) (h : ℕ → ℕ) (f : F) (ys : List ℕ) (i n : ℕ) → ((x y : ℕ) (q : F) → Called g f (x, tt) y q
+    → (q ≡ f) × (y ≡ h x))
     → IsFromFnResultFrom g f ys i n → (k : ℕ) → k < n → get_or ys (i + k) 0 ≡ h (i + k)
 from_fn_at g h f ys i zero calls e k l = absurd (omega arith)
 from_fn_at g h f ys i (suc n) calls e zero l = rw add-zero ((e.2).1 0 ∙ (calls i e.1 e.0 e.3).1)
@@ -114,9 +116,9 @@ from_fn_at g h f ys i (suc n) calls e (suc k) l =
     let more : IsFromFnResultFrom g f ys (i + 1) n = subst (λ q. IsFromFnResultFrom g q ys (i + 1) n) (calls i e.1 e.0 e.3).0 e.4 in
     rw s (from_fn_at g h f ys (i + 1) n calls more k (omega arith))
 
-pub words_made : {F : Type 0} (g : Mut F (ℕ × Unit {0}) ℕ) (h : ℕ → ℕ) (f : F) (ys : List ℕ) → IsFromFnResult g f ys 19
+pub words_made : {F : Type 0} {g : Mut F (ℕ × Unit {0}) ℕ} {f : F} (h : ℕ → ℕ) (ys : List ℕ) → IsFromFnResult g f ys 19
     → ((x y : ℕ) (q : F) → Called g f (x, tt) y q → (q ≡ f) × (y ≡ h x)) → ys ≡ nineteen h
-words_made g h f ys e calls =
+words_made {F} {g} {f} h ys e calls =
     fill_by_all h ys 19 0 e.long (λ k l. let z : 0 + k ≡ k = omega arith in rw z at (from_fn_at g h f ys 0 19 calls e.each k l))
 
 -- a turn of the loop that keeps, of the one that restores, and their ends: n words are left
@@ -125,7 +127,8 @@ unfolding Turn.kept
 kept_more zero j m p w e = absurd (omega arith)
 kept_more (suc n) j m p w e = let k : n ≡ j = omega arith in rw k
 
-pub kept_on_lem : (n : ℕ) (m m₁ r : Memory) (p : ℕ) (w : List ℕ) → kept n m p w ≡ r → 0 < n → m₁ ≡ store m p (keeps (n - 1)) (get_or w (n - 1) 0) → kept (n - 1) m₁ p w ≡ r
+pub kept_on_lem : (n : ℕ) (m m₁ r : Memory) (p : ℕ) (w : List ℕ) → kept n m p w ≡ r → 0 < n → m₁ ≡ store m p (keeps (n - 1)) (get_or w (n - 1) 0)
+    → kept (n - 1) m₁ p w ≡ r
 kept_on_lem n m m₁ r p w e l e₁ = rw e₁ (sym (kept_more n (n - 1) m p w (omega arith)) ∙ e)
 
 pub kept_end : (n : ℕ) (m r : Memory) (p : ℕ) (w : List ℕ) → kept n m p w ≡ r → n ≤ 0 → m ≡ r
@@ -140,7 +143,8 @@ unfolding Turn.restored
 restored_more zero j m w e = absurd (omega arith)
 restored_more (suc n) j m w e = let k : n ≡ j = omega arith in rw k
 
-pub restored_on : (n a : ℕ) (m m₁ r : Memory) (w : List ℕ) → restored n m w ≡ r → 0 < n → a ≡ zero_place (n - 1) → m₁ ≡ write m a (get_or w (n - 1) 0) → restored (n - 1) m₁ w ≡ r
+pub restored_on : (n a : ℕ) (m m₁ r : Memory) (w : List ℕ) → restored n m w ≡ r → 0 < n → a ≡ zero_place (n - 1) → m₁ ≡ write m a (get_or w (n - 1) 0)
+    → restored (n - 1) m₁ w ≡ r
 restored_on n a m m₁ r w e l ea e₁ = rw (e₁, ea) (sym (restored_more n (n - 1) m w (omega arith)) ∙ e)
 
 pub restored_end : (n : ℕ) (m r : Memory) (w : List ℕ) → restored n m w ≡ r → n ≤ 0 → m ≡ r
@@ -176,7 +180,8 @@ same_is None None e = refl
 same_is None (Some q) e = cc
 same_is (Some p) None e = cc
 same_is (Some p) (Some q) e =
-    ⊎_elim (λ (h : p.0 ≡ q.0). ap (λ (k : ℕ). Some (record { 0 = k })) h) (λ (z : p.0 ≡ q.0 → ⊥). let h : eqb p.0 q.0 ≡ false = ne_eqb p.0 q.0 z in cc) (cases_eq p.0 q.0)
+    ⊎_elim (λ (h : p.0 ≡ q.0). ap (λ (k : ℕ). Some (record { 0 = k })) h) (λ (z : p.0 ≡ q.0 → ⊥). let h : eqb p.0 q.0 ≡ false = ne_eqb p.0 q.0 z in cc)
+    (cases_eq p.0 q.0)
 
 same_self : (o : Option ControlPage) → same o o ≡ true
 same_self None = refl

@@ -90,7 +90,7 @@ pub fn saved_of(m: &Memory, page: ControlPage) -> Context
     }
 }
 
-// The words go to the page, to page 0.
+// The words go to the page, to page 0. These stay two: a function that both share would take the place of a word as a closure, and be no plainer.
 #[tactic(auto, using(crate::proofs::Laws::keeping))]
 fn keep(m: &mut Memory, page: ControlPage, words: &[u8; map::KEPT_WORDS])
     ensures { m.new ≡ Model.kept Map.kept_count m.old page.0 words.now }
@@ -140,7 +140,7 @@ fn label(m: &Memory, page: ControlPage) -> u8
     }
 }
 
-// The page runs; page 0: nobody.
+// The page runs; page 0: nobody. It is no Option, since the model's `runs` writes the 0.
 #[tactic(auto, unfolding(model::specs::Turn::runs))]
 pub fn runs(m: &mut Memory, page: ControlPage)
     ensures { m.new ≡ Model.runs m.old page.0 }

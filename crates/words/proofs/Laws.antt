@@ -6,9 +6,9 @@ use mathlib.Core.List.{List, [], ◌∷◌, ◌++◌}
 use native.Mathlib.Omega.{arith}
 use Rattle.std.specs.List.{list_all, range_with_len}
 use Rattle.std.specs.Prelude.{◌&&◌, take, drop, length, set, replicate}
-use Rattle.std.proofs.Common.{append_assoc, length-set}
+use Rattle.std.proofs.Common.{length-set}
 use Rattle.std.proofs.Math.Nat.{mod-eq_of_lt}
-use Rattle.std.proofs.lemmas.List.{take-set-le, drop-set, drop-drop, take-append-drop, replicate_more}
+use Rattle.std.proofs.lemmas.List.{take-set-le, drop-set, drop-drop, take-append-drop}
 use Rattle.std.proofs.lemmas.List.Folds.{list_all-append}
 use borrow.Rule.Slice.PartMut.{put_mid}
 use Rattle.model.specs.Address as Address
@@ -34,9 +34,9 @@ unfolding Address.clear
 clear_list zero a = refl
 clear_list (suc n) a =
     ap (list_all (free a)) (more_numbers 0 n n (omega arith))
-        ∙ list_all-append (free a) (range_with_len 0 n) (n ∷ [])
-        ∙ ap (λ c. c && (not (guarded (wrapped a n)) && true)) (clear_list n a)
-        ∙ both_ways (guarded (wrapped a n)) (clear n a)
+    ∙ list_all-append (free a) (range_with_len 0 n) (n ∷ [])
+    ∙ ap (λ c. c && (not (guarded (wrapped a n)) && true)) (clear_list n a)
+    ∙ both_ways (guarded (wrapped a n)) (clear n a)
 
 pub clear_all : (n a : ℕ) (r : Bool) → r ≡ list_all (free a) (range_with_len 0 n) → r ≡ clear n a
 clear_all n a r e = e ∙ clear_list n a
@@ -52,7 +52,8 @@ copy_none zero m a b e = refl
 copy_none (suc n) m a b e = absurd (omega arith)
 
 -- a turn of the loop that copies, and its end: k words are copied
-pub copy_on : (n k : ℕ) (m m₁ r : Memory) (a b v a₁ b₁ : ℕ) → copy (n - k) m a b ≡ r → k < n → v ≡ at m a → m₁ ≡ write m b v → a₁ ≡ wrapped a 1 → b₁ ≡ wrapped b 1
+pub copy_on : (n k : ℕ) (m m₁ r : Memory) (a b v a₁ b₁ : ℕ) → copy (n - k) m a b ≡ r → k < n → v ≡ at m a → m₁ ≡ write m b v → a₁ ≡ wrapped a 1
+    → b₁ ≡ wrapped b 1
     → copy (n - (k + 1)) m₁ a₁ b₁ ≡ r
 copy_on n k m m₁ r a b v a₁ b₁ e l ev e₁ ea eb = rw (e₁, ev, ea, eb) (sym (copy_more (n - k) (n - (k + 1)) m a b (omega arith)) ∙ e)
 
@@ -74,9 +75,9 @@ filled (suc n) m a l e =
     let h : a + n < length m = omega arith in
     let front : take a (set m (a + n) 0) ≡ take a m = take-set-le a m (a + n) 0 (omega arith) in
     let next : drop (a + n + 1) m ≡ drop (suc n) (drop a m) =
-        let k : a + n + 1 ≡ a + suc n = omega arith in ap (λ i. drop i m) k ∙ sym (drop-drop (suc n) a m) in
+    let k : a + n + 1 ≡ a + suc n = omega arith in ap (λ i. drop i m) k ∙ sym (drop-drop (suc n) a m) in
     let back : drop n (drop a (set m (a + n) 0)) ≡ 0 ∷ drop (suc n) (drop a m) =
-        drop-drop n a (set m (a + n) 0) ∙ drop-set m (a + n) 0 h ∙ ap (λ xs. 0 ∷ xs) next in
+    drop-drop n a (set m (a + n) 0) ∙ drop-set m (a + n) 0 h ∙ ap (λ xs. 0 ∷ xs) next in
     let left : put_mid a n (set m (a + n) 0) (replicate n 0) ≡ put_mid a (suc n) m (replicate (suc n) 0) =
-        rw (front, back) (ap (λ xs. take a m ++ xs) (zeros_on n (drop (suc n) (drop a m)))) in
+    rw (front, back) (ap (λ xs. take a m ++ xs) (zeros_on n (drop (suc n) (drop a m)))) in
     sym left ∙ filled n (set m (a + n) 0) a (rw length-set (omega arith)) (rw length-set e) ∙ rw w

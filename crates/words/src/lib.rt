@@ -1,4 +1,5 @@
-// Memory map: words read and written, 13-bit addresses, protected words.
+// Memory map: words read and written, 13-bit addresses, protected words. An address stays a number below 8,192, with no type of its own: nearly all are
+// constants of the map and sums of them, which a type would wrap and open at each use.
 #![tactic(auto)]
 
 ghost use Rattle.std.specs.Prelude.{◌≡◌, ◌<◌, ◌≤◌, ◌+◌};

@@ -1,4 +1,3 @@
-use Rattle.std.proofs.Common.{rules}
 use Rattle.turn.proofs.Laws.{leads_first, leads_taken, leads_unready, leads_below, leads_end}
 use Rattle.turn.proofs.chosen.Goals as goal
 use Rattle.turn.proofs.chosen.Goals.{else-ready-via-then-ready+else-above, else-ready-via-else-ready}
@@ -8,7 +7,8 @@ loop-page-init c = leads_first c.args.m.now c.stays-leader.result c.into_iter-pa
 
 pub loop-page-preserved-then-above : goal.loop-page-preserved-then-above
 loop-page-preserved-then-above c =
-    leads_taken c.args.m.now c.loop-page.leader c.loop-page.page-iterator c.next.new.self c.in-Some.page c.loop-page.invariant c.in-Some.ensures.steps c.if-ready.ensures
+    leads_taken c.args.m.now c.loop-page.leader c.loop-page.page-iterator c.next.new.self c.in-Some.page c.loop-page.invariant c.in-Some.ensures.steps
+    c.if-ready.ensures
     c.if-above.ensures
 
 pub loop-page-preserved : goal.loop-page-preserved

@@ -1,4 +1,4 @@
-use Rattle.std.proofs.Common.{rules, ℕ}
+use Rattle.std.proofs.Common.{rules}
 use Rattle.model.specs.Map as Map
 use Rattle.model.specs.Turn as Turn
 use Rattle.model.specs.Bytes as Model
@@ -7,4 +7,5 @@ use Rattle.turn.proofs.kept_on.Goals as goal
 
 pub returns : goal.returns
 unfolding Turn.kept_on
-returns c = let m = c.args.m.now in words_made _ (λ i. Model.word m c.args.page.0 (Map.keeps i)) _ c.from_fn.result c.from_fn.ensures.items (λ x y q k. search rules)
+returns c = let m = c.args.m.now in words_made (λ i. Model.word m c.args.page.0 (Map.keeps i)) c.from_fn.result c.from_fn.ensures.items
+    (λ x y q k. search rules)

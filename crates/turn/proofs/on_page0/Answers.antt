@@ -1,4 +1,4 @@
-use Rattle.std.proofs.Common.{rules, ℕ}
+use Rattle.std.proofs.Common.{rules}
 use Rattle.model.specs.Map as Map
 use Rattle.model.specs.Turn as Turn
 use Rattle.model.specs.Bytes as Model
@@ -7,4 +7,4 @@ use Rattle.turn.proofs.on_page0.Goals as goal
 
 pub returns : goal.returns
 unfolding Turn.on_page0
-returns c = let m = c.args.m.now in words_made _ (λ i. Model.at m (Map.zero_place i)) _ c.from_fn.result c.from_fn.ensures.items (λ x y q k. search rules)
+returns c = let m = c.args.m.now in words_made (λ i. Model.at m (Map.zero_place i)) c.from_fn.result c.from_fn.ensures.items (λ x y q k. search rules)

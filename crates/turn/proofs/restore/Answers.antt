@@ -4,7 +4,8 @@ use Rattle.turn.proofs.restore.Goals as goal
 pub loop-index-preserved : goal.loop-index-preserved
 loop-index-preserved c =
     let e = c.from.ensures in
-    restored_on c.loop-index.index c.zero_place.result c.loop-index.m c.write.new.m _ c.args.words.now c.loop-index.invariant c.loop-index-test.true c.zero_place.ensures.0
+    restored_on c.loop-index.index c.zero_place.result c.loop-index.m c.write.new.m _ c.args.words.now c.loop-index.invariant c.loop-index-test.true
+    c.zero_place.ensures.0
     (rw e at c.write.ensures)
 
 pub returns : goal.returns

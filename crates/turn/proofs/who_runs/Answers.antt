@@ -1,4 +1,4 @@
-use Rattle.std.proofs.Common.{◌≡◌, subst, sym, ◌∙◌}
+use Rattle.std.proofs.Common.{◌≡◌, ◌∙◌}
 use Rattle.model.specs.Bytes as Model
 use Rattle.turn.proofs.Laws.{turn_stays, turn_changes, saved_none, saved_some, loaded_none, loaded_some, runs_none, runs_some}
 use Rattle.turn.proofs.who_runs.Goals as goal

@@ -1,4 +1,4 @@
-use Rattle.std.proofs.Common.{rules, ◌-◌, ◌+◌, arith, sym, ◌∙◌, refl}
+use Rattle.std.proofs.Common.{◌-◌, ◌+◌, arith, sym, ◌∙◌, refl}
 use Rattle.model.specs.Map as Map
 use Rattle.deleting.proofs.Laws.{walk_none, walk_end, walk_on, empties}
 use Rattle.deleting.proofs.Leaving.empty.Goals as goal
@@ -10,7 +10,8 @@ returns-in_default c =
 pub loop-preserved : goal.loop-preserved
 loop-preserved c =
     sym
-    (walk_on empties (Map.control_pages - c.loop.counter) (Map.control_pages - (c.loop.counter + 1)) c.loop.m c.return_message.new.m c.args.self.name.0 c.args.header
+    (walk_on empties (Map.control_pages - c.loop.counter) (Map.control_pages - (c.loop.counter + 1)) c.loop.m c.return_message.new.m c.args.self.name.0
+    c.args.header
     c.args.header c.in-Some.message (omega arith) c.in-Some.ensures (cc) refl)
     ∙ c.loop.invariant
 

@@ -11,7 +11,8 @@ pub loop-preserved : goal.loop-preserved
 loop-preserved c = (
   search rules,
   sym
-      (walk_on marks_processors (Map.control_pages - c.loop.counter) (Map.control_pages - (c.loop.counter + 1)) c.loop.m c.mark_mail.new.m c.args.self.name.0 c.loop.cell
+      (walk_on marks_processors (Map.control_pages - c.loop.counter) (Map.control_pages - (c.loop.counter + 1)) c.loop.m c.mark_mail.new.m c.args.self.name.0
+      c.loop.cell
       c.place-cell.result c.in-Some.page (omega arith) c.in-Some.ensures c.mark_mail.ensures c.place-cell.ensures.0)
       ∙ c.loop.invariant.1,
 )

@@ -11,7 +11,8 @@ pub loop-preserved : goal.loop-preserved
 loop-preserved c = (
   search rules,
   sym
-      (walk_on marks_messages (Map.control_pages - c.loop.counter) (Map.control_pages - (c.loop.counter + 1)) c.loop.m c.mark.new.m c.args.self.name.0 c.loop.cell
+      (walk_on marks_messages (Map.control_pages - c.loop.counter) (Map.control_pages - (c.loop.counter + 1)) c.loop.m c.mark.new.m c.args.self.name.0
+      c.loop.cell
       c.place-cell.result c.in-Some.message (omega arith) c.in-Some.ensures c.mark.ensures c.place-cell.ensures.0)
       ∙ c.loop.invariant.1,
 )

@@ -1,4 +1,4 @@
-use Rattle.std.proofs.Common.{◌+◌, ◌-◌, ◌≡◌, arith}
+use Rattle.std.proofs.Common.{◌+◌, ◌-◌, arith}
 use Rattle.model.specs.Map as Map
 use Rattle.interrupts.proofs.Laws.{serves_first, serves_end, serves_none, serves_on}
 use Rattle.interrupts.proofs.Interrupt.serve.Goals as goal
@@ -15,7 +15,8 @@ returns-in_default c =
 pub loop-preserved : goal.loop-preserved
 loop-preserved c =
     serves_on (Map.control_pages - c.loop.counter) c.loop.m c.args.self.number c.args.self.class c.loop.next _ c.loop.invariant
-    (Map.control_pages - (c.loop.counter + 1)) c.strike.new.m c.in-Some.page c.place.result c.page_at-next-in-loop.result (omega arith) c.in-Some.is c.place.ensures.0
+    (Map.control_pages - (c.loop.counter + 1)) c.strike.new.m c.in-Some.page c.place.result c.page_at-next-in-loop.result (omega arith) c.in-Some.is
+    c.place.ensures.0
     c.page_at-next-in-loop.ensures c.strike.ensures
 
 pub returns : goal.returns

@@ -1,5 +1,4 @@
-use Rattle.std.proofs.Common.{rules, ◌≡◌, ◌<◌, ◌+◌, ℕ, List, ◌-◌, ◌*◌, length, [], ◌∷◌, sym, ◌∙◌, refl}
-use Rattle.model.specs.Bytes as Model
+use Rattle.std.proofs.Common.{sym, ◌∙◌}
 use Rattle.queues.proofs.Laws.{walk_none, walk_stops, walk_goes, fewer}
 use Rattle.queues.proofs.WalkIterator.next.Goals as goal
 
@@ -16,7 +15,8 @@ pub returns-clause-steps : goal.returns-clause-steps
 returns-clause-steps c =
     let w = c.self.inside in
     sym c.self.view_is
-        ∙ walk_goes w.left w.m.now w.link w.cell c.place-self-inside.result c.in_ok-page.page c.if-self-eq0.false c.in_ok-page.ensures c.place-self-inside.ensures.0
+    ∙ walk_goes w.left w.m.now w.link w.cell c.place-self-inside.result c.in_ok-page.page c.if-self-eq0.false c.in_ok-page.ensures
+    c.place-self-inside.ensures.0
 
 pub returns-clause-goes : goal.returns-clause-goes
 returns-clause-goes c =

@@ -1,4 +1,4 @@
-use Rattle.std.proofs.Common.{◌≡◌, ◌<◌, ℕ, ◌+◌, refl}
+use Rattle.std.proofs.Common.{◌≡◌, ◌<◌, ◌+◌, refl}
 use native.Mathlib.Omega.{arith}
 use denote.Enum.Declared.{tag_of}
 use Rattle.model.specs.declared.fault.Fault.{Fault}

@@ -1,4 +1,4 @@
-use Rattle.std.proofs.Common.{◌≡◌, ℕ, ◌+◌, refl}
+use Rattle.std.proofs.Common.{◌≡◌, ◌+◌, refl}
 use denote.Enum.Declared.{tag_of}
 use Rattle.model.specs.declared.refusal.Class.{Class}
 use Rattle.model.specs.declared.refusal.Class.TheVariants.{Pages, Waits, Records, Tables, Counters}
