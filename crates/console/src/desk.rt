@@ -3,7 +3,7 @@ ghost use Rattle.std.specs.Prelude.{◌≤◌};
 ghost use Rattle.lending.specs.Sizes.{buffer_words};
 
 use lending::sizes::BUFFER_WORDS;
-use model::{Answer, Writing, map};
+use model::{Answer, Refusal, map};
 use screen::kept::Kept;
 use std::io;
 
@@ -50,13 +50,13 @@ impl<'a, R: Print, E> Desk<'a, R, E> {
         self.kept.write(self.rt)
     }
 
-    pub fn answer(&mut self, given: Answer) -> io::Result<()> {
+    pub fn answer(&mut self, given: Result<Answer, Refusal>) -> io::Result<()> {
         self.kept.make_room(self.rt)?;
         self.kept.answer(given);
         Ok(())
     }
 
-    pub fn writing(&mut self, given: Writing) -> io::Result<()> {
+    pub fn writing(&mut self, given: Result<usize, Refusal>) -> io::Result<()> {
         self.kept.make_room(self.rt)?;
         self.kept.writing(given);
         Ok(())

@@ -4,7 +4,7 @@ use crate::desk::{Desk, Failure};
 use crate::sizes;
 use lending::sizes::BUFFER_WORDS;
 use lending::{fresh_from, write_in};
-use model::{Answer, Writing, map};
+use model::map;
 use script::Five;
 use std::io;
 use words::{guarded, low};
@@ -27,7 +27,7 @@ fn words_line<P: Print>(rt: &P, words: &[u8]) -> io::Result<()> {
 impl<'a, R: Print, E> Desk<'a, R, E> {
     // The values go to any of the 8,200 words; nothing is stored where one is wrong.
     pub fn put_anywhere(&mut self, address: u16, values: &[u16]) -> Result<(), Failure> {
-        let at = address as usize;
+        let at = usize::from(address);
         let end = at + values.len();
         if BUFFER_WORDS < end || values.iter().any(|value| map::WORD_VALUES <= *value) {
             return Err(Failure::NotAllowed);
@@ -40,7 +40,7 @@ impl<'a, R: Print, E> Desk<'a, R, E> {
 
     // The host's store.
     pub fn put(&mut self, address: u16, values: &[u16]) -> Result<(), Failure> {
-        let end = address as usize + values.len();
+        let end = usize::from(address) + values.len();
         if BUFFER_WORDS < end {
             return Err(Failure::NotAllowed);
         }
@@ -52,8 +52,8 @@ impl<'a, R: Print, E> Desk<'a, R, E> {
 
     // The words are written at once, behind what is kept.
     pub fn look(&mut self, address: u16, count: u16) -> Result<(), Failure> {
-        let at = address as usize;
-        let end = at + count as usize;
+        let at = usize::from(address);
+        let end = at + usize::from(count);
         if count == 0 || sizes::MOST_LOOKED_AT < count || BUFFER_WORDS < end {
             return Err(Failure::NotAllowed);
         }
@@ -82,7 +82,7 @@ impl<'a, R: Print, E> Desk<'a, R, E> {
 
     // What is lent from now on.
     pub fn lend(&mut self, wanted: u16) -> Result<(), Failure> {
-        let count = wanted as usize;
+        let count = usize::from(wanted);
         if BUFFER_WORDS < count {
             return Err(Failure::NotAllowed);
         }
@@ -91,24 +91,29 @@ impl<'a, R: Print, E> Desk<'a, R, E> {
     }
 
     // `settings ADDRESS LENGTH`: the file stands in some of the 8,200 words, whatever is lent of them.
-    pub fn settings(&mut self, address: u16, long: u16) -> Result<Answer, Failure> {
-        let at = address as usize;
-        let count = long as usize;
+    pub fn settings(&mut self, address: u16, long: u16) -> Result<(), Failure> {
+        let at = usize::from(address);
+        let count = usize::from(long);
         if BUFFER_WORDS < at + count {
             return Err(Failure::NotAllowed);
         }
-        Ok(fresh_from(&mut self.m, self.lent, at, count))
+        let given = fresh_from(&mut self.m, self.lent, at, count);
+        self.answer(given)?;
+        Ok(())
     }
 
     // `write FILE ROOM USED BLOCK LENGTH`, likewise.
-    pub fn write_settings(&mut self, wanted: Five) -> Result<Writing, Failure> {
-        let file = wanted.file as usize;
-        let room = wanted.room as usize;
-        let block = wanted.block as usize;
-        let long = wanted.length as usize;
+    pub fn write_settings(&mut self, wanted: Five) -> Result<(), Failure> {
+        let file = usize::from(wanted.file);
+        let room = usize::from(wanted.room);
+        let used = usize::from(wanted.used);
+        let block = usize::from(wanted.block);
+        let long = usize::from(wanted.length);
         if BUFFER_WORDS < file + room || BUFFER_WORDS < block + long {
             return Err(Failure::NotAllowed);
         }
-        Ok(write_in(&mut self.m, file, room, wanted.used as usize, block, long))
+        let given = write_in(&mut self.m, file, room, used, block, long);
+        self.writing(given)?;
+        Ok(())
     }
 }

@@ -6,7 +6,7 @@ use crate::desk::{Desk, Failure};
 use files::replace;
 use kernel::judge;
 use lending::gather;
-use model::{Answer, Registers, Verdict, Writing, map};
+use model::{Answer, Refusal, Registers};
 use screen::broken::broken;
 use screen::state;
 use script::{Order, Seven};
@@ -35,7 +35,11 @@ fn values(given: &[u16], count: usize) -> Result<&[u16], Failure> {
 }
 
 // A call on the first words of the memory, which it is lent.
-fn on_lent<F: FnOnce(&mut [u8]) -> Answer>(m: &mut [u8], lent: usize, call: F) -> Answer
+fn on_lent<F: FnOnce(&mut [u8]) -> Result<Answer, Refusal>>(
+    m: &mut [u8],
+    lent: usize,
+    call: F,
+) -> Result<Answer, Refusal>
     requires callable { F.IsAlwaysCallable call }
     requires within { lent ≤ length m.old }
 {
@@ -44,7 +48,7 @@ fn on_lent<F: FnOnce(&mut [u8]) -> Answer>(m: &mut [u8], lent: usize, call: F) -
 
 impl<'a, R: Files + Print, E: Print> Desk<'a, R, E> {
     // A call, and the line of its answer.
-    fn call<F: FnOnce(&mut [u8]) -> Answer>(&mut self, call: F) -> io::Result<()>
+    fn call<F: FnOnce(&mut [u8]) -> Result<Answer, Refusal>>(&mut self, call: F) -> io::Result<()>
         requires { F.IsAlwaysCallable call }
     {
         let given = on_lent(&mut self.m, self.lent, call);
@@ -69,11 +73,12 @@ impl<'a, R: Files + Print, E: Print> Desk<'a, R, E> {
     fn show(&mut self) -> io::Result<()> {
         self.write()?;
         match judge(&self.m[..self.lent]) {
-            Verdict::WellFormed => state(self.rt, &self.m[..map::MEMORY_WORDS]),
-            Verdict::Refused(refusal) => println!(self.rt;
-                "nothing to show: the length is not 8192 (refused {refusal})"
-            ),
-            Verdict::RefusedAt(refusal, place) => broken(self.rt, refusal, place),
+            Ok(()) => state(self.rt, self.m.first_chunk().unwrap()),
+            Err(Refusal::Broken(found)) => broken(self.rt, found),
+            Err(refusal) => {
+                let number = u8::from(refusal);
+                println!(self.rt; "nothing to show: the length is not 8192 (refused {number})")
+            }
         }
     }
 
@@ -83,12 +88,10 @@ impl<'a, R: Files + Print, E: Print> Desk<'a, R, E> {
         if script::sizes::LONGEST_LINE < end {
             return Err(Failure::NotAllowed);
         }
-        let Some(name) = line.get(begin..end) else {
-            return Err(Failure::NotAllowed);
-        };
+        let name = line.get(begin..end).ok_or(Failure::NotAllowed)?;
         self.write()?;
         if replace(self.rt, self.errors, name, &self.m[..self.lent]).is_ok() {
-            self.writing(Writing::Written(self.lent))?;
+            self.writing(Ok(self.lent))?;
         }
         Ok(())
     }
@@ -115,14 +118,8 @@ impl<'a, R: Files + Print, E: Print> Desk<'a, R, E> {
             Order::Put(address, count) => self.put(address, values(given, count)?)?,
             Order::Break(address, count) => self.put_anywhere(address, values(given, count)?)?,
             Order::Length(wanted) => self.lend(wanted)?,
-            Order::Settings(address, long) => {
-                let told = self.settings(address, long)?;
-                self.answer(told)?;
-            }
-            Order::Write(wanted) => {
-                let told = self.write_settings(wanted)?;
-                self.writing(told)?;
-            }
+            Order::Settings(address, long) => self.settings(address, long)?,
+            Order::Write(wanted) => self.write_settings(wanted)?,
             Order::Save(begin, end) => self.save(line, begin, end)?,
             Order::Words(address, count) => self.look(address, count)?,
             Order::Changes => self.changes()?,

@@ -55,8 +55,9 @@ fault_number Fault.AboveItself = above_itself
 unfoldable pub fault_of : ℕ → Result Faulted NoFault
 fault_of n =
     get_or
-    (Err (record { 0 = n }) ∷ Ok Fault.AbsentCode ∷ Ok Fault.ExiOfExi ∷ Ok Fault.CodeExists ∷ Ok Fault.KeptCode ∷ Ok Fault.BadWait ∷ Ok Fault.NoMatch ∷ Ok Fault.NoName
-    ∷ Ok Fault.NotStartable ∷ Ok Fault.NameExists ∷ Ok Fault.NotStopped ∷ Ok Fault.Protected ∷ Ok Fault.BadArgument ∷ Ok Fault.AboveItself ∷ [])
+    (Err (record { 0 = n }) ∷ Ok Fault.AbsentCode ∷ Ok Fault.ExiOfExi ∷ Ok Fault.CodeExists ∷ Ok Fault.KeptCode ∷ Ok Fault.BadWait
+    ∷ Ok Fault.NoMatch ∷ Ok Fault.NoName ∷ Ok Fault.NotStartable ∷ Ok Fault.NameExists
+    ∷ Ok Fault.NotStopped ∷ Ok Fault.Protected ∷ Ok Fault.BadArgument ∷ Ok Fault.AboveItself ∷ [])
     n
     (Err (record { 0 = n }))
 

@@ -171,7 +171,8 @@ written_fits l l₁ b u n r e z long = go (ltb (length l) u) (worse (of_used (ta
         let m : n ≡ new_length u b = cc in
         omega (arith, ltb-false (length l) (new_length u b) ey)
 
-pub written_ok : (l l₁ b : List ℕ) (u n : ℕ) (r : Result ℕ Refusal) → gives (writing_told r) l₁ ≡ write_settings l u b → r ≡ Ok n → length l₁ ≡ length l → n ≤ length l₁
+pub written_ok : (l l₁ b : List ℕ) (u n : ℕ) (r : Result ℕ Refusal) → gives (writing_told r) l₁ ≡ write_settings l u b → r ≡ Ok n → length l₁ ≡ length l
+    → n ≤ length l₁
 unfolding Coded.writing_told
 written_ok l l₁ b u n r e z long = written_fits l l₁ b u n (writing_told r) e (rw z refl) long
 
