@@ -25,16 +25,7 @@ use judge::judged;
 use model::{Broken, Class, Memory};
 
 // "The classes are tried in that order".
-#[tactic(
-    auto,
-    using(crate::proofs::InOrder::findings),
-    unfolding(
-        model::specs::Classes::told_of,
-        model::specs::Classes::classes,
-        model::specs::Coded::broken_told,
-        model::specs::Coded::class_number
-    )
-)]
+#[tactic(auto, using(crate::proofs::InOrder::findings), unfolding(model::specs::Classes::told_of, model::specs::Classes::classes, model::specs::Coded::broken_told, model::specs::Coded::class_number))]
 fn told(m: &Memory) -> Result<(), Broken>
     ensures { broken_told result ≡ Model.told_of m.now }
 {

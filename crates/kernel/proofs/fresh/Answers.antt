@@ -18,7 +18,7 @@ returns-then-not-startable-clause-numbers c = by_numbers numbers _ _ _ (returns-
 pub returns-clause-outcome : goal.returns-clause-outcome
 returns-clause-outcome c =
     fresh_done _ _ c.in-Some.ensures.cases c.args.line c.args.divider c.startable.result c.startable.ensures c.start.new.m c.low.result c.low-2.result c.if-not-startable.false c.start.ensures c.low.ensures
-        c.low-2.ensures
+    c.low-2.ensures
 
 pub returns-clause-numbers : goal.returns-clause-numbers
 returns-clause-numbers c = by_numbers numbers _ _ _ (returns-clause-outcome c)
