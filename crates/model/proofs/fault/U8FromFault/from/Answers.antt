@@ -2,7 +2,8 @@ use Rattle.std.proofs.Common.{◌≡◌, ◌<◌, ◌+◌, refl}
 use native.Mathlib.Omega.{arith}
 use denote.Enum.Declared.{tag_of}
 use Rattle.model.specs.declared.fault.Fault.{Fault}
-use Rattle.model.specs.declared.fault.Fault.TheVariants.{AbsentCode, ExiOfExi, CodeExists, KeptCode, BadWait, NoMatch, NoName, NotStartable, NameExists, NotStopped, Protected, BadArgument, AboveItself}
+use Rattle.model.specs.declared.fault.Fault.TheVariants.{AbsentCode, ExiOfExi, CodeExists, KeptCode, BadWait, NoMatch, NoName}
+use Rattle.model.specs.declared.fault.Fault.TheVariants.{NotStartable, NameExists, NotStopped, Protected, BadArgument, AboveItself}
 use Rattle.model.specs.contracts.fault.Fault.{the_type}
 use Rattle.model.specs.Coded.{fault_number}
 use Rattle.model.proofs.fault.U8FromFault.from.Goals as goal
