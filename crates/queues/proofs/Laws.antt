@@ -1,6 +1,6 @@
 -- A law for each way through the walks along links. Those of `walk` and `first` serve every recursion that looks for a page.
-use Prim.Native.Nat.{ℕ, zero, suc, ◌+◌, ◌-◌, ◌<◌, ◌≤◌}
-use mathlib.Core.Path.{◌≡◌, refl, sym, ◌∙◌}
+use Prim.Native.Nat.{ℕ, zero, suc, ◌-◌, ◌<◌}
+use mathlib.Core.Path.{◌≡◌, refl, sym, ap, ◌∙◌}
 use mathlib.Core.Bool.{Bool, true, false, cond}
 use mathlib.Core.List.{List, [], ◌∷◌}
 use lib.ListN.{length}
@@ -21,34 +21,23 @@ use Rattle.model.specs.Queue as Queue
 use Rattle.model.specs.Queue.{first}
 use Rattle.model.specs.Bytes.{Memory, at, write, store, walk, cell_of, join}
 
-cell_none : (n : ℕ) (m : Memory) (k a v : ℕ) → n ≡ 0 → a ≡ cell_of n m k a v
+pub cell_none : (n : ℕ) (m : Memory) (k a v : ℕ) → n ≡ 0 → a ≡ cell_of n m k a v
 unfolding Queue.cell_of
 cell_none zero m k a v e = refl
 cell_none (suc n) m k a v e = absurd (omega arith)
 
-cell_here : (n : ℕ) (m : Memory) (k a v : ℕ) → at m a ≡ v → a ≡ cell_of n m k a v
+pub cell_here : (n : ℕ) (m : Memory) (k a v w : ℕ) → w ≡ at m a → w ≡ v → a ≡ cell_of n m k a v
 unfolding Queue.cell_of
-cell_here zero m k a v h = refl
-cell_here (suc n) m k a v h = rw (eq-eqb (at m a) v h, Queue.cell_of)
+cell_here zero m k a v w e h = refl
+cell_here (suc n) m k a v w e h = rw (← e, eq-eqb w v h, Queue.cell_of)
 
-cell_more : (n j : ℕ) (m : Memory) (k a v : ℕ) → n ≡ j + 1 → (at m a ≡ v → ⊥) → cell_of n m k a v ≡ cell_of j m k (place (at m a) k) v
+pub cell_on : (n : ℕ) (m : Memory) (k a v w b r : ℕ) → w ≡ at m a → (n ≡ 0 → ⊥) → (w ≡ v → ⊥) → b ≡ place w k → r ≡ cell_of (n - 1) m k b v
+    → r ≡ cell_of n m k a v
 unfolding Queue.cell_of
-cell_more zero j m k a v e z = absurd (omega arith)
-cell_more (suc n) j m k a v e z = let s : n ≡ j = omega arith in rw (ne_eqb (at m a) v z, Queue.cell_of, s)
+cell_on zero m k a v w b r e o z eb h = absurd (o refl)
+cell_on (suc n) m k a v w b r e o z eb h = rw (← e, ne_eqb w v z, Queue.cell_of, ← e, ← eb) (simp sub-one at h)
 
--- a turn of the loop that goes along cells, where it stops, and its end: i cells were looked at
-pub cell_on : (n i : ℕ) (m : Memory) (k a v w b r : ℕ) → cell_of (n - i) m k a v ≡ r → i < n → w ≡ at m a → (w ≡ v → ⊥) → b ≡ place w k
-    → cell_of (n - (i + 1)) m k b v ≡ r
-cell_on n i m k a v w b r e l ew z eb =
-    rw (eb, ew) (sym (cell_more (n - i) (n - (i + 1)) m k a v (omega arith) (λ x. z (ew ∙ x))) ∙ e)
-
-pub cell_found : (n : ℕ) (m : Memory) (k a v w r : ℕ) → cell_of n m k a v ≡ r → w ≡ at m a → w ≡ v → a ≡ r
-cell_found n m k a v w r e ew h = cell_here n m k a v (sym ew ∙ h) ∙ e
-
-pub cell_end : (n i : ℕ) (m : Memory) (k a v r : ℕ) → cell_of (n - i) m k a v ≡ r → n ≤ i → a ≡ r
-cell_end n i m k a v r e l = cell_none (n - i) m k a v (omega arith) ∙ e
-
-pub ruleset cells = (cell_on, cell_found, cell_end)
+pub ruleset cells = (cell_none, cell_here, cell_on)
 
 -- ---- joining at the cell c
 pub join_is : (m m₁ m₂ : Memory) (h k q c : ℕ) → m₁ ≡ store m q k 0 → c ≡ cell_of control_pages m₁ k h 0 → m₂ ≡ write m₁ c q → m₂ ≡ join m h k q
@@ -105,6 +94,28 @@ walk_goes (suc n) m k a b p o e eb =
 -- a list that has given one has fewer left
 pub fewer : {s t : List ℕ} {x : ℕ} → s ≡ x ∷ t → length t < length s
 fewer e = rw e (omega arith)
+
+-- ---- a search by recursion along a walk
+module _ (t : ℕ → Bool) (n : ℕ) (m : Memory) (k a : ℕ) where
+  pub first_none : n ≡ 0 → None ≡ found (first t (walk n m k a))
+  unfolding Queue.first Coded.found
+  first_none e = rw (walk_none n m k a e)
+
+  pub first_end : None ≡ found (at m a) → None ≡ found (first t (walk n m k a))
+  unfolding Queue.first Coded.found
+  first_end e = rw (walk_stops n m k a e)
+
+  module _ (p : ControlPage) (c : Bool) (o : n ≡ 0 → ⊥) (e : Some p ≡ found (at m a)) (ec : c ≡ t p.0) where
+    pub first_here : c ≡ true → Some p ≡ found (first t (walk n m k a))
+    unfolding Queue.first
+    first_here h = rw (walk_goes n m k a (place p.0 k) p o e refl, ← ec, h, first) (e ∙ ap found (sym (some_is (at m a) p e)))
+
+    pub first_on : (b : ℕ) (r : Option ControlPage) → c ≡ false → b ≡ place p.0 k → r ≡ found (first t (walk (n - 1) m k b))
+        → r ≡ found (first t (walk n m k a))
+    unfolding Queue.first
+    first_on b r h eb er = rw (walk_goes n m k a b p o e eb, ← ec, h, first) er
+
+pub ruleset searches = (first_none, first_end, first_here, first_on)
 
 -- ---- a search along a walk: no page of it is 0
 abbrev pub NoZero : List ℕ → Type 0

@@ -1,12 +1,13 @@
 // Memory map: "A header holds the first page, a link the next, 0 ends." A cell is the address of a word that points to a page, a header or a
-// link alike.
+// link alike; a search goes by recursion along links, with at most twenty pages left.
 #![tactic(auto)]
 
-ghost use Rattle.std.specs.Prelude.{◌≡◌, ◌<◌, ℕ, List};
+ghost use Rattle.std.specs.Prelude.{◌≡◌, ◌<◌, ℕ, List, eqb};
 ghost use Rattle.std.specs.Iterator.{item_count};
 ghost use Rattle.std.specs.Map.Iter.{TakesFirst};
 ghost use Rattle.model.specs.Coded.{found};
 ghost use Rattle.model.specs.Map as Map;
+ghost use Rattle.model.specs.Queue.{first};
 ghost use Rattle.model.specs.Bytes as Model;
 
 use model::{ControlPage, Memory, map};
@@ -74,6 +75,38 @@ impl<'m> Iterator for Walk<'m> {
     }
 }
 
+// From a cell on, along the links in one word, the first cell that holds the page, at most so many links on.
+#[tactic(auto, using(crate::proofs::Laws::cells))]
+fn cell_from(m: &Memory, link: u16, cell: u16, page: ControlPage, left: u8) -> u16
+    requires { (link < 32) × (cell < 8192) }
+    ensures { (result ≡ Model.cell_of left m.now link cell page.0) × (result < 8192) }
+{
+    if left == 0 {
+        return cell;
+    }
+    let word = at(m, cell);
+    if word == page.0 {
+        return cell;
+    }
+    cell_from(m, link, ControlPage(word).place(link), page, left - 1)
+}
+
+// The page, if it hangs from the cell along the links of wait queues, at most so many on.
+#[tactic(auto, using(crate::proofs::Laws::searches))]
+pub fn find_page(m: &Memory, page: ControlPage, cell: u16, left: u8) -> Option<ControlPage>
+    requires { cell < 8192 }
+    ensures { result ≡ found (first (eqb page.0) (Model.walk left m.now Map.link cell)) }
+{
+    if left == 0 {
+        return None;
+    }
+    let next = page_at(m, cell)?;
+    if page == next {
+        return Some(next);
+    }
+    find_page(m, page, next.place(map::LINK), left - 1)
+}
+
 // A queue, by the place of its header and by the word of a page that links to the next.
 #[derive(Clone, Copy)]
 pub struct Queue {
@@ -112,19 +145,10 @@ impl Queue {
     }
 
     // The first cell that holds the page, at most so many links on: the header, or the link of the page before it. Page 0: the end's.
-    #[tactic(auto, using(crate::proofs::Laws::cells))]
     pub fn cell_of(self, m: &Memory, page: ControlPage, left: u8) -> u16
         ensures { (result ≡ Model.cell_of left m.now self.link self.header page.0) × (result < 8192) }
     {
-        let mut cell = self.header;
-        for _ in 0..left {
-            let word = at(m, cell);
-            if word == page.0 {
-                return cell;
-            }
-            cell = ControlPage(word).place(self.link);
-        }
-        cell
+        cell_from(m, self.link, self.header, page, left)
     }
 
     // The page joins it at its end.
