@@ -1,13 +1,17 @@
 -- A law for each way through waiting.
 use Prim.Native.Nat.{ℕ, zero, suc, ◌+◌, ◌-◌, ◌<◌, ◌≤◌}
-use mathlib.Core.Path.{◌≡◌, refl, sym, ◌∙◌}
+use mathlib.Core.Path.{◌≡◌, refl, sym, ap, ◌∙◌}
 use mathlib.Core.Bool.{Bool, true, false}
 use mathlib.Core.List.{List, [], ◌∷◌}
 use lib.Dec.{eqb}
 use borrow.Author.Tests.{eq-eqb, ne_eqb}
 use Rattle.std.proofs.Common.{subst, ⊎_elim}
 use Rattle.std.proofs.lemmas.Bool.{cases_eq}
+use Rattle.std.specs.Prelude.{Option, is_some}
 use Rattle.std.specs.List.{list_any}
+use Rattle.model.specs.declared.ControlPage.{ControlPage}
+use Rattle.model.specs.Coded as Coded
+use Rattle.model.specs.Coded.{found}
 use Rattle.model.specs.Queue as Queue
 use Rattle.model.specs.Queue.{first}
 use native.Mathlib.Omega.{arith}
@@ -51,6 +55,18 @@ queued_zero m s p e = rw e (rw (first_zero (queue m (s + 1))))
 pub queued_other : (m : Memory) (s p : ℕ) (b : Bool) → (p ≡ 0 → ⊥) → b ≡ list_any (λ x. eqb x p) (queue m (s + 1)) → b ≡ queued m s p
 unfolding Wait.queued
 queued_other m s p b o e = e ∙ first_other p o (queue m (s + 1))
+
+-- a page that is found is one of the list
+found_any : (p : ℕ) → (p ≡ 0 → ⊥) → (xs : List ℕ) → is_some (found (first (eqb p) xs)) ≡ list_any (λ x. eqb x p) xs
+unfolding Queue.first Coded.found
+found_any p o [] = refl
+found_any p o (x ∷ xs) =
+    ⊎_elim (λ (h : p ≡ x). let z : x ≡ 0 → ⊥ = λ e. o (h ∙ e) in rw (eq-eqb p x h, Queue.first, ne_eqb x 0 z, eq-eqb x p (sym h)))
+    (λ (z : p ≡ x → ⊥). rw (ne_eqb p x z, Queue.first, ne_eqb x p (λ e. z (sym e))) (found_any p o xs)) (cases_eq p x)
+
+pub queued_found : (m : Memory) (s p : ℕ) (r : Option ControlPage) (b : Bool) → (p ≡ 0 → ⊥) → r ≡ found (first (eqb p) (queue m (s + 1))) → b ≡ is_some r
+    → b ≡ queued m s p
+queued_found m s p r b o er e = queued_other m s p b o (e ∙ ap is_some er ∙ found_any p o (queue m (s + 1)))
 
 -- ---- the loop over the interrupts, from behind: n are left, and what comes of all is r
 pub seat_here : (n : ℕ) (m : Memory) (p s r : ℕ) (b : Bool) → seat n m p ≡ r → 0 < n → s ≡ semaphore_of (n - 1 + 1) → b ≡ queued m s p → b ≡ true → s ≡ r

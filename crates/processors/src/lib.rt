@@ -8,7 +8,7 @@ ghost use Rattle.model.specs.Map as Map;
 ghost use Rattle.model.specs.Bytes as Model;
 
 use model::{ControlPage, Memory, Name, Registers, map, wide};
-use queues::Queue;
+use queues::{Queue, find_page};
 use words::{at, lowered, raised, write};
 
 // The running processor's page; page 0: nobody runs. It is no Option, since the model reads and writes words of page 0 there (`advance`, `fault`).
@@ -193,11 +193,11 @@ impl WaitQueue {
     }
 
     // Whether the page waits there; page 0, which is no control page, passes for one that does.
-    #[tactic(auto, using(crate::proofs::Laws::queued_zero, crate::proofs::Laws::queued_other))]
+    #[tactic(auto, using(crate::proofs::Laws::queued_zero, crate::proofs::Laws::queued_found))]
     pub fn holds(self, m: &Memory, page: ControlPage) -> bool
         ensures { result ≡ Model.queued m.now self.semaphore page.0 }
     {
-        page.0 == 0 || self.waiters().pages(m).any(|waiter| waiter == page)
+        page.0 == 0 || find_page(m, page, self.semaphore + 1, map::CONTROL_PAGES).is_some()
     }
 }
 
