@@ -1,5 +1,5 @@
--- The head of a call, what a call comes to behind its refusals, and that a call allows one outcome only.
-use Rattle.std.proofs.Common.{◌≡◌, ◌≢◌, ℕ, List, length, refl, sym, ap, ◌∙◌}
+-- The head of a call, what a call comes to behind its refusals, and that a call allows one outcome only, by what is told and by the code's own result.
+use Rattle.std.proofs.Common.{◌≡◌, ◌≢◌, ℕ, ◌-◌, List, [], ◌∷◌, length, get_or, cond, eqb, refl, sym, ap, ◌∙◌}
 use Rattle.std.specs.Prelude.{Bool, true, false, Result, Ok, Err}
 use Rattle.std.specs.Array.{IsWholeChunk}
 use Rattle.std.specs.Result.{IsErrAnd}
@@ -9,14 +9,17 @@ use Rattle.model.specs.declared.Answer.{Answer as Answered}
 use Rattle.model.specs.declared.Answer.TheVariants.{Done}
 use Rattle.model.specs.declared.ControlPage.{ControlPage}
 use Rattle.model.specs.declared.Registers.{Registers}
+use Rattle.model.specs.declared.fault.Fault.{Fault as Faulted}
+use Rattle.model.specs.declared.fault.NoFault.{NoFault}
+use Rattle.model.specs.declared.refusal.Class.{Class}
 use Rattle.model.specs.declared.refusal.Broken.{Broken as BrokenAt}
 use Rattle.model.specs.declared.refusal.Refusal.{Refusal}
-use Rattle.model.specs.Told.{Answer, Held, Verdict, Fit}
+use Rattle.model.specs.Told.{Answer, Held, Verdict, Writing, Fit}
 use Rattle.model.specs.Map.{memory_size, low}
-use Rattle.model.specs.Answer.{Outcome}
+use Rattle.model.specs.Answer.{Outcome, wrong_length, no_interrupt, wrong_class, too_new, broken_pages}
 use Rattle.model.specs.Answer.Outcome.{gives}
 use Rattle.model.specs.Coded as Coded
-use Rattle.model.specs.Coded.{told, held_told, verdict_told, fit_told, broken_told}
+use Rattle.model.specs.Coded.{told, held_told, verdict_told, writing_told, fit_told, broken_told, fault_number, fault_of, class_number}
 use Rattle.model.specs.Fresh.{startable}
 use Rattle.model.specs.Call as Call
 use Rattle.model.specs.Layout as Layout
@@ -193,6 +196,165 @@ module _ (f : List ℕ) where
 -- ---- two outcomes that one statement allows are equal, in answer and in memory: of each call, f being its outcome
 pub one_outcome : {A : Type 0} (a b : A) (m n : Memory) (f : Outcome A Memory) → gives a m ≡ f → gives b n ≡ f → (a ≡ b) × (m ≡ n)
 one_outcome a b m n f p q = let e : gives a m ≡ gives b n = p ∙ sym q in (cc, cc)
+
+-- ---- what is told of a result, told back: the fault with a number, the refusal with a number alone, and that with one number beside it
+fault_back : (f : Faulted) → fault_of (fault_number f) ≡ Ok f
+unfolding Coded.fault_of Coded.fault_number
+fault_back Faulted.AbsentCode = refl
+fault_back Faulted.ExiOfExi = refl
+fault_back Faulted.CodeExists = refl
+fault_back Faulted.KeptCode = refl
+fault_back Faulted.BadWait = refl
+fault_back Faulted.NoMatch = refl
+fault_back Faulted.NoName = refl
+fault_back Faulted.NotStartable = refl
+fault_back Faulted.NameExists = refl
+fault_back Faulted.NotStopped = refl
+fault_back Faulted.Protected = refl
+fault_back Faulted.BadArgument = refl
+fault_back Faulted.AboveItself = refl
+
+abbrev faulted : Result Faulted NoFault → ℕ → Result Answered Refusal
+faulted (Ok f) n = Ok (Answered.Fault f (record { 0 = n }))
+faulted (Err e) n = Ok Answered.Done
+
+-- no refusal has the number 21
+abbrev bare : ℕ → Refusal
+bare k =
+    get_or
+    (Refusal.WrongLength ∷ Refusal.WrongLength ∷ Refusal.Idle ∷ Refusal.NoInstruction ∷ Refusal.NoInterrupt ∷ Refusal.WrongClass ∷ Refusal.OutOfRange
+    ∷ Refusal.WrongList ∷ Refusal.BrokenLayout ∷ [])
+    (k - wrong_length)
+    Refusal.NoRoom
+
+abbrev class_of : ℕ → Class
+class_of k = get_or (Class.Pages ∷ Class.Waits ∷ Class.Records ∷ Class.Tables ∷ []) (k - broken_pages) Class.Counters
+
+class_back : (c : Class) → class_of (class_number c) ≡ c
+unfolding Coded.class_number
+class_back Class.Pages = refl
+class_back Class.Waits = refl
+class_back Class.Records = refl
+class_back Class.Tables = refl
+class_back Class.Counters = refl
+
+abbrev broken_at : ℕ → ℕ → Refusal
+broken_at k a = Refusal.Broken (record { class = class_of k; address = a })
+
+abbrev placed : ℕ → ℕ → Refusal
+placed k a =
+    cond (eqb k no_interrupt) (Refusal.NoInterruptAt a)
+    (cond (eqb k wrong_class) (Refusal.WrongClassAt a) (cond (eqb k too_new) (Refusal.TooNew a) (broken_at k a)))
+
+placed_broken : (b : BrokenAt) → placed (class_number b.class) b.address ≡ Refusal.Broken b
+unfolding Coded.class_number
+placed_broken b = go b.class
+  where
+    go : (c : Class) → placed (class_number c) b.address ≡ Refusal.Broken (record { class = c; address = b.address })
+    go Class.Pages = refl
+    go Class.Waits = refl
+    go Class.Records = refl
+    go Class.Tables = refl
+    go Class.Counters = refl
+
+refusal_back : {A X : Type 0} (back : A → Result X Refusal) (refuses : ℕ → A) (tells : ℕ → ℕ → A) → ((k : ℕ) → back (refuses k) ≡ Err (bare k))
+    → ((k a : ℕ) → back (tells k a) ≡ Err (placed k a)) → (e : Refusal) → back (Coded.refusal refuses tells e) ≡ Err e
+unfolding Coded.refusal
+refusal_back back refuses tells alone beside Refusal.WrongLength = alone 20
+refusal_back back refuses tells alone beside Refusal.Idle = alone 22
+refusal_back back refuses tells alone beside Refusal.NoInstruction = alone 23
+refusal_back back refuses tells alone beside Refusal.NoInterrupt = alone 24
+refusal_back back refuses tells alone beside (Refusal.NoInterruptAt i) = beside 24 i
+refusal_back back refuses tells alone beside Refusal.WrongClass = alone 25
+refusal_back back refuses tells alone beside (Refusal.WrongClassAt i) = beside 25 i
+refusal_back back refuses tells alone beside Refusal.OutOfRange = alone 26
+refusal_back back refuses tells alone beside Refusal.WrongList = alone 27
+refusal_back back refuses tells alone beside Refusal.BrokenLayout = alone 28
+refusal_back back refuses tells alone beside (Refusal.TooNew v) = beside 29 v
+refusal_back back refuses tells alone beside (Refusal.Broken b) = rw placed_broken at (beside (class_number b.class) b.address)
+refusal_back back refuses tells alone beside Refusal.NoRoom = alone 35
+
+abbrev answer_back : Answer → Result Answered Refusal
+answer_back Answer.Done = Ok Answered.Done
+answer_back Answer.Waits = Ok Answered.Waits
+answer_back (Answer.HandedOut p a) = Ok (Answered.HandedOut p a)
+answer_back (Answer.Fault f n) = faulted (fault_of f) n
+answer_back (Answer.Refused k) = Err (bare k)
+answer_back (Answer.RefusedAt k a) = Err (placed k a)
+
+told_back : (r : Result Answered Refusal) → answer_back (told r) ≡ r
+unfolding Coded.told Coded.answered
+told_back (Ok Answered.Done) = refl
+told_back (Ok Answered.Waits) = refl
+told_back (Ok (Answered.HandedOut p a)) = refl
+told_back (Ok (Answered.Fault f n)) = ap (λ (q : Result Faulted NoFault). faulted q n.0) (fault_back f)
+told_back (Err e) = refusal_back answer_back Answer.Refused Answer.RefusedAt (λ k. refl) (λ k a. refl) e
+
+abbrev held_back : Held → Result Registers Refusal
+held_back (Held.Has r) = Ok r
+held_back (Held.Refused k) = Err (bare k)
+held_back (Held.RefusedAt k a) = Err (placed k a)
+
+held_told_back : (r : Result Registers Refusal) → held_back (held_told r) ≡ r
+unfolding Coded.held_told
+held_told_back (Ok r) = refl
+held_told_back (Err e) = refusal_back held_back Held.Refused Held.RefusedAt (λ k. refl) (λ k a. refl) e
+
+abbrev verdict_back : Verdict → Result (Unit {0}) Refusal
+verdict_back Verdict.WellFormed = Ok tt
+verdict_back (Verdict.Refused k) = Err (bare k)
+verdict_back (Verdict.RefusedAt k a) = Err (placed k a)
+
+verdict_told_back : (r : Result (Unit {0}) Refusal) → verdict_back (verdict_told r) ≡ r
+unfolding Coded.verdict_told
+verdict_told_back (Ok u) = refl
+verdict_told_back (Err e) = refusal_back verdict_back Verdict.Refused Verdict.RefusedAt (λ k. refl) (λ k a. refl) e
+
+abbrev writing_back : Writing → Result ℕ Refusal
+writing_back (Writing.Written n) = Ok n
+writing_back (Writing.Refused k) = Err (bare k)
+writing_back (Writing.RefusedAt k a) = Err (placed k a)
+
+writing_told_back : (r : Result ℕ Refusal) → writing_back (writing_told r) ≡ r
+unfolding Coded.writing_told
+writing_told_back (Ok n) = refl
+writing_told_back (Err e) = refusal_back writing_back Writing.Refused Writing.RefusedAt (λ k. refl) (λ k a. refl) e
+
+-- ---- so two results of which the same is told are one
+once : {A R : Type 0} (tell : R → A) (back : A → R) → ((r : R) → back (tell r) ≡ r) → (r s : R) → tell r ≡ tell s → r ≡ s
+once tell back h r s e = sym (h r) ∙ ap back e ∙ h s
+
+pub told_once : (r s : Result Answered Refusal) → told r ≡ told s → r ≡ s
+told_once = once told answer_back told_back
+
+pub held_told_once : (r s : Result Registers Refusal) → held_told r ≡ held_told s → r ≡ s
+held_told_once = once held_told held_back held_told_back
+
+pub verdict_told_once : (r s : Result (Unit {0}) Refusal) → verdict_told r ≡ verdict_told s → r ≡ s
+verdict_told_once = once verdict_told verdict_back verdict_told_back
+
+pub writing_told_once : (r s : Result ℕ Refusal) → writing_told r ≡ writing_told s → r ≡ s
+writing_told_once = once writing_told writing_back writing_told_back
+
+-- ---- and two results and memories that one statement allows are equal: of each call, f being its outcome
+one_of : {A R : Type 0} (tell : R → A) → ((r s : R) → tell r ≡ tell s → r ≡ s) → (r s : R) (m n : Memory) (f : Outcome A Memory) → gives (tell r) m ≡ f
+    → gives (tell s) n ≡ f → (r ≡ s) × (m ≡ n)
+one_of tell same r s m n f p q = let e = one_outcome (tell r) (tell s) m n f p q in (same r s e.0, e.1)
+
+pub one_result : (r s : Result Answered Refusal) (m n : Memory) (f : Outcome Answer Memory) → gives (told r) m ≡ f → gives (told s) n ≡ f → (r ≡ s) × (m ≡ n)
+one_result = one_of told told_once
+
+pub one_held_result : (r s : Result Registers Refusal) (m n : Memory) (f : Outcome Held Memory) → gives (held_told r) m ≡ f → gives (held_told s) n ≡ f
+    → (r ≡ s) × (m ≡ n)
+one_held_result = one_of held_told held_told_once
+
+pub one_verdict_result : (r s : Result (Unit {0}) Refusal) (m n : Memory) (f : Outcome Verdict Memory) → gives (verdict_told r) m ≡ f
+    → gives (verdict_told s) n ≡ f → (r ≡ s) × (m ≡ n)
+one_verdict_result = one_of verdict_told verdict_told_once
+
+pub one_writing_result : (r s : Result ℕ Refusal) (m n : Memory) (f : Outcome Writing Memory) → gives (writing_told r) m ≡ f → gives (writing_told s) n ≡ f
+    → (r ≡ s) × (m ≡ n)
+one_writing_result = one_of writing_told writing_told_once
 
 -- ---- the same by numbers
 pub by_numbers : {A : Type 0} (ns : A → List ℕ) (a : A) (m : Memory) (o : Outcome A Memory) → gives a m ≡ o → gives (ns a) m ≡ spoken ns o
