@@ -83,6 +83,85 @@ pub struct Row {
     pub shape: Shape,
 }
 
+// CVI DVI GIN WIN SME WNM RME TME ST1 STP ST2 CRP DEP 13 EXI.
+const TABLE: [Row; 15] = [
+    Row {
+        length: 4,
+        count: 3,
+        shape: Shape::Addressed,
+    },
+    Row {
+        length: 2,
+        count: 1,
+        shape: Shape::Plain,
+    },
+    Row {
+        length: 2,
+        count: 0,
+        shape: Shape::Bare,
+    },
+    Row {
+        length: 4,
+        count: 2,
+        shape: Shape::Counted,
+    },
+    Row {
+        length: 4,
+        count: 4,
+        shape: Shape::Complete,
+    },
+    Row {
+        length: 3,
+        count: 2,
+        shape: Shape::Flagged,
+    },
+    Row {
+        length: 4,
+        count: 4,
+        shape: Shape::Complete,
+    },
+    Row {
+        length: 4,
+        count: 4,
+        shape: Shape::Complete,
+    },
+    Row {
+        length: 2,
+        count: 1,
+        shape: Shape::Plain,
+    },
+    Row {
+        length: 2,
+        count: 1,
+        shape: Shape::Plain,
+    },
+    Row {
+        length: 4,
+        count: 3,
+        shape: Shape::Addressed,
+    },
+    Row {
+        length: 5,
+        count: 5,
+        shape: Shape::Creating,
+    },
+    Row {
+        length: 2,
+        count: 1,
+        shape: Shape::Plain,
+    },
+    Row {
+        length: 4,
+        count: 4,
+        shape: Shape::Complete,
+    },
+    Row {
+        length: 4,
+        count: 0,
+        shape: Shape::Complete,
+    },
+];
+
 impl TryFrom<u8> for Code {
     type Error = Fault;
 
@@ -154,39 +233,12 @@ impl TryFrom<u8> for Operation {
     }
 }
 
-fn listed(length: u8, count: u8, shape: Shape) -> Row
-    ensures { (result.length ≡ length) × (result.count ≡ count) × (result.shape ≡ shape) }
-{
-    Row {
-        length,
-        count,
-        shape,
-    }
-}
-
 impl Code {
-    #[tactic(auto, unfolding(crate::specs::Coded::code_number, crate::specs::Coded::shape_number))]
     pub fn row(self) -> Row
         ensures { (result.length ≡ Instruction.length_for (code_number self)) × (result.count ≡ Instruction.count_for (code_number self))
             × (shape_number result.shape ≡ Instruction.shape_for (code_number self)) × (2 ≤ result.length) × (result.length ≤ 5) × (result.count ≤ 5) }
     {
-        match self {
-            Code::Cvi => listed(4, 3, Shape::Addressed),
-            Code::Dvi => listed(2, 1, Shape::Plain),
-            Code::Gin => listed(2, 0, Shape::Bare),
-            Code::Win => listed(4, 2, Shape::Counted),
-            Code::Sme => listed(4, 4, Shape::Complete),
-            Code::Wnm => listed(3, 2, Shape::Flagged),
-            Code::Rme => listed(4, 4, Shape::Complete),
-            Code::Tme => listed(4, 4, Shape::Complete),
-            Code::St1 => listed(2, 1, Shape::Plain),
-            Code::Stp => listed(2, 1, Shape::Plain),
-            Code::St2 => listed(4, 3, Shape::Addressed),
-            Code::Crp => listed(5, 5, Shape::Creating),
-            Code::Dep => listed(2, 1, Shape::Plain),
-            Code::Thirteen => listed(4, 4, Shape::Complete),
-            Code::Exi => listed(4, 0, Shape::Complete),
-        }
+        TABLE[self as usize]
     }
 }
 
