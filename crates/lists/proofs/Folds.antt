@@ -11,6 +11,7 @@ use borrow.Author.Tests.{eq-eqb, ne_eqb, le-leb, lt-leb}
 use Rattle.std.specs.Prelude.{filter}
 use Rattle.std.specs.List.{list_all, range_with_len}
 use Rattle.std.proofs.lemmas.List.Folds.{list_all-append}
+use Rattle.queues.proofs.Laws.{walk_end}
 use Rattle.model.specs.Map.{place, grants, grants_end, processor_list}
 use Rattle.model.specs.Queue as Queue
 use Rattle.model.specs.Rule.{Rule, same, most, both, each, below, when_same, unless_same, when_most, among, holds, all, every}
@@ -139,6 +140,10 @@ lists_is m a = go (is_grant a)
     go : (b : Bool) → elim b [ true ↦ some (at m a) | false ↦ walk 21 m (link_of a) a ] ≡ walk (cond b 1 21) m (link_of a) a
     go true = some_walk (at m a)
     go false = refl
+
+-- that of an empty head
+pub lists_none : (m : Memory) (a w : ℕ) → w ≡ at m a → w ≡ 0 → lists m a ≡ []
+lists_none m a w e z = lists_is m a ∙ walk_end (reach a) m (link_of a) a w e z
 
 pub processors_walk : (m : Memory) → lists m processor_list ≡ walk 21 m 1 processor_list
 unfolding Lists.lists Lists.is_grant Lists.link_of

@@ -13,6 +13,7 @@ ghost use Rattle.model.specs.Bytes as Model;
 
 use model::{Memory, map, wide};
 use queues::Walk;
+use words::at;
 
 // Whether both hold; `telling` asks both, whatever the first says.
 pub fn both(a: bool, b: bool) -> bool
@@ -81,6 +82,9 @@ pub fn length_of(m: &Memory, head: u16) -> u8
     requires { head < 8192 }
     ensures { result ≡ length (Model.lists m.now head) }
 {
+    if at(m, head) == 0 {
+        return 0;
+    }
     list_of(m, head).count() as u8
 }
 

@@ -9,6 +9,7 @@ use crate::{list_of, processors};
 use model::{ControlPage, Memory, map, wide};
 use queues::Walk;
 use std::marker::Model;
+use words::at;
 
 const ALL_PAGES: u32 = 1048575;
 
@@ -60,11 +61,14 @@ impl Seen {
         None
     }
 
-    // With the list of the head.
+    // With the list of the head. Most are empty, and passed over.
     fn list(self, m: &Memory, head: u16) -> Option<Self>
         requires { head < 8192 }
         ensures { result ≡ Pages.see_all self (Model.lists m.now head) }
     {
+        if at(m, head) == 0 {
+            return Some(self);
+        }
         list_of(m, head).try_fold(self, |seen, page| seen.see(page.0))
     }
 
