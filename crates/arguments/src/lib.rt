@@ -1,14 +1,49 @@
-// Instructions: the arguments of each code, direct and for EXI.
+// Instructions: what the table says of a code by its number, and the arguments of each code, direct and for EXI.
 #![tactic(auto)]
 
 ghost use Rattle.std.specs.Prelude.{◌≡◌, ◌<◌, ◌≤◌};
 ghost use Rattle.model.specs.Address.{wrapped};
 ghost use Rattle.model.specs.Coded.{shape_number};
+ghost use Rattle.model.specs.Instruction as Instruction;
 ghost use Rattle.model.specs.Bytes as Model;
 
-use model::instructions::Shape;
+use model::instructions::{Code, Row, Shape};
 use model::{Arguments, Memory, map, wide};
 use words::{address_at, at, wrapped};
+
+// The row of a code by its number; one that has none is as short as any, and has no arguments.
+fn row_for(code: u8) -> Row
+    ensures { (result.length ≡ Instruction.length_for code) × (result.count ≡ Instruction.count_for code)
+        × (shape_number result.shape ≡ Instruction.shape_for code) × (2 ≤ result.length) × (result.length ≤ 5) × (result.count ≤ 5) }
+{
+    match Code::try_from(code) {
+        Ok(code) => code.row(),
+        Err(_) => Row {
+            length: 2,
+            count: 0,
+            shape: Shape::Bare,
+        },
+    }
+}
+
+// Its length, how many argument words it has for EXI, and their shape.
+pub fn length_for(code: u8) -> u8
+    ensures { (result ≡ Instruction.length_for code) × (2 ≤ result) × (result ≤ 5) }
+{
+    row_for(code).length
+}
+
+pub fn count_for(code: u8) -> u8
+    ensures { (result ≡ Instruction.count_for code) × (result ≤ 5) }
+{
+    row_for(code).count
+}
+
+pub fn shape_for(code: u8) -> u8
+    ensures { (result ≡ Instruction.shape_for code) × (result ≤ 6) }
+{
+    row_for(code).shape as u8
+}
 
 // The words from a start on, in which an instruction's arguments stand.
 #[derive(Drop)]
