@@ -1,5 +1,5 @@
 -- Laws of the parser, a law for each way through a loop. They begin with the loop's invariant, that what is left to read decides; z is what the whole comes to.
-use Rattle.std.proofs.Common.{◌≡◌, refl, sym, subst, ℕ, zero, suc, ◌+◌, ◌-◌, ◌<◌, ◌≤◌, arith, add-one, Bool, true, false, cond, ltb, ltb-true}
+use Rattle.std.proofs.Common.{◌≡◌, refl, sym, ap, subst, ◌∙◌, ℕ, zero, suc, ◌+◌, ◌-◌, ◌<◌, ◌≤◌, arith, add-one, Bool, true, false, cond, ltb, ltb-true}
 use Rattle.std.proofs.Common.{List, [], ◌∷◌, length, get_or, set, take, drop, drop-cons, length-drop, Option, Some, None, IsUtf8, codes}
 use Rattle.std.specs.Bool.{then_some}
 use Rattle.std.specs.Str.{bytes_eq}
@@ -8,7 +8,7 @@ use Rattle.std.proofs.lemmas.Slice.Eq.{bytes_eq-Decides}
 use Rattle.std.proofs.lemmas.Str.{IsUtf8-from_ascii}
 use Rattle.script.specs.Sizes.{most_numbers}
 use Rattle.script.specs.Script as Script
-use Rattle.script.specs.Script.{skip, ended, more, decimal, whole_number, digits_len, numbers, Read}
+use Rattle.script.specs.Script.{skip, ends, ended, more, decimal, whole_number, digits_len, numbers, Read}
 use Rattle.script.specs.Script.{word_len, call_order, host_order, asked, counted, ordered}
 use Rattle.script.specs.Script.Read.{read}
 use Rattle.script.specs.Script.Parsed.{parsed}
@@ -35,15 +35,19 @@ module _ (s : List ℕ) (i v : ℕ) (z : Option ℕ) where
 pub ruleset decimals = (decimal_end, decimal_wrong, decimal_more)
 
 -- ---- the numbers of what is left of a line, s, of which k are read
-module _ (s v : List ℕ) (k : ℕ) (z : Read) (b : Bool) (i : numbers (most_numbers - k) s v ≡ z) (e : b ≡ ended s) where
-  pub numbers_full : (o : Option ℕ) (j : ℕ) → most_numbers ≤ k → j ≡ most_numbers → o ≡ then_some b j → read o v ≡ z
+module _ (s v : List ℕ) (k : ℕ) (z : Read) (b : Bool) (i : numbers (most_numbers - k) s v ≡ z) where
+  pub numbers_full : (o : Option ℕ) (j : ℕ) → b ≡ ended s → most_numbers ≤ k → j ≡ most_numbers → o ≡ then_some b j → read o v ≡ z
   unfolding Script.numbers
-  numbers_full o j h ej eo =
+  numbers_full o j e h ej eo =
       let none_left : most_numbers - k ≡ 0 = omega arith in
       rw (eo, ej, e) (rw (none_left, numbers) at i)
 
-  -- room is left for one more; the number in its place stays where none is read
-  module _ (h : k < most_numbers) where
+  -- room is left for one more, and t is what is left behind the blanks; the number in its place stays where none is read
+  module _ (t : List ℕ) (et : t ≡ skip s) (eb : b ≡ ends t) (h : k < most_numbers) where
+    is_ended : b ≡ ended s
+    unfolding Script.ended
+    is_ended = eb ∙ ap ends et
+
     one_more : most_numbers - k ≡ suc (most_numbers - (k + 1))
     one_more = omega arith
 
@@ -52,17 +56,17 @@ module _ (s v : List ℕ) (k : ℕ) (z : Read) (b : Bool) (i : numbers (most_num
 
     pub numbers_ended : b ≡ true → read (Some k) (set v k (get_or v k 0)) ≡ z
     unfolding Script.numbers
-    numbers_ended t = rw set-get_or (rw (one_more, numbers, ← e, t, this_place) at i)
+    numbers_ended y = rw set-get_or (rw (one_more, numbers, ← is_ended, y, this_place) at i)
 
-    module _ (t f r : List ℕ) (d : ℕ) (o : Option ℕ) (n : b ≡ false) (et : t ≡ skip s) (ed : d ≡ digits_len t) (ef : f ≡ take d t) (er : r ≡ drop d t)
+    module _ (f r : List ℕ) (d : ℕ) (o : Option ℕ) (n : b ≡ false) (ed : d ≡ digits_len t) (ef : f ≡ take d t) (er : r ≡ drop d t)
         (eo : o ≡ whole_number f) where
       pub numbers_wrong : (a : Option ℕ) → o ≡ None → a ≡ None → read a (set v k (get_or v k 0)) ≡ z
       unfolding Script.numbers
-      numbers_wrong a w ea = rw (set-get_or, ea) (rw (one_more, numbers, ← e, n, ← et, ← ed, ← ef, ← eo, w) at i)
+      numbers_wrong a w ea = rw (set-get_or, ea) (rw (one_more, numbers, ← is_ended, n, ← et, ← ed, ← ef, ← eo, w) at i)
 
       pub numbers_on : (x : ℕ) → o ≡ Some x → numbers (most_numbers - (k + 1)) r (set v k x) ≡ z
       unfolding Script.numbers
-      numbers_on x w = rw (one_more, numbers, ← e, n, ← et, ← ed, ← ef, ← eo, w, ← et, ← ed, ← er, this_place) at i
+      numbers_on x w = rw (one_more, numbers, ← is_ended, n, ← et, ← ed, ← ef, ← eo, w, ← et, ← ed, ← er, this_place) at i
 
 pub ruleset reads = (numbers_full, numbers_ended, numbers_wrong, numbers_on)
 

@@ -62,7 +62,7 @@ fn more(value: u16, character: u8) -> Option<u16>
     ensures { result ≡ Script.more value character }
 {
     let digit = char::from(character).to_digit(10)?;
-    value.checked_mul(10)?.checked_add(digit as u16)
+    u16::try_from(u32::from(value) * 10 + digit).ok()
 }
 
 // A word as a number: digits only, 0 to 65535.
@@ -98,10 +98,10 @@ pub fn numbers(text: &[u8], given: &mut [u16]) -> Option<usize>
 {
     let mut left = text;
     for (count, place) in given.iter_mut().enumerate() {
-        if ended(left) {
+        let from = skip(left);
+        if ends(from) {
             return Some(count);
         }
-        let from = skip(left);
         let (digits, behind) = from.split_at(digits_len(from));
         *place = whole_number(digits)?;
         left = behind;
