@@ -1,6 +1,6 @@
 // What is to be written is kept, so that many lines are one write. A line is put together from its pieces, and has room: `write!` answers a Result, and these
 // lines cannot fail.
-ghost use Rattle.std.specs.Prelude.{◌≡◌, ◌≤◌, ◌+◌, ◌++◌, ℕ, List, [], IfOk, length};
+ghost use Rattle.std.specs.Prelude.{◌≡◌, ◌≤◌, ◌+◌, ◌++◌, ℕ, List, [], IfOk, OnErr, length};
 ghost use Rattle.screen.specs.Sizes.{line_room, kept_room};
 
 use arrayvec::ArrayVec;
@@ -37,9 +37,10 @@ impl Kept {
         }
     }
 
-    // What is kept is written; then nothing is.
+    // What is kept is written; then nothing is. Where it cannot be written, it stays.
     pub fn write<P: Print>(&mut self, rt: &P) -> io::Result<()>
-        ensures { IfOk result (λ _. self.new ≡ []) }
+        ensures written { IfOk result (λ _. self.new ≡ []) }
+        ensures err { OnErr result (self.new ≡ self.old) }
     {
         rt.write_all(self.bytes.as_slice())?;
         self.bytes.clear();
@@ -48,7 +49,8 @@ impl Kept {
 
     // Room for a line: where too little is left, what is kept is written.
     pub fn make_room<P: Print>(&mut self, rt: &P) -> io::Result<()>
-        ensures { IfOk result (λ _. length self.new + line_room ≤ kept_room) }
+        ensures room { IfOk result (λ _. length self.new + line_room ≤ kept_room) }
+        ensures err { OnErr result (self.new ≡ self.old) }
     {
         if LINE_ROOM <= self.bytes.remaining_capacity() {
             return Ok(());
