@@ -13,7 +13,6 @@ use Rattle.model.specs.declared.Arguments.{Arguments}
 use Rattle.model.specs.declared.fault.Fault.{Fault}
 use Rattle.model.specs.declared.fault.Fault.TheVariants.{AbsentCode, ExiOfExi, Protected, BadArgument}
 use Rattle.model.specs.declared.instructions.Code.{Code}
-use Rattle.model.specs.declared.instructions.Code.TheVariants.{Cvi, Dvi, Gin, Win, Sme, Wnm, Rme, Tme, St1, Stp, St2, Crp, Dep, Thirteen, Exi}
 use Rattle.model.specs.declared.instructions.Kind.TheVariants.{BuiltIn, Own}
 use Rattle.model.specs.Coded.{fault_number, code_number, code_of, kind_number}
 use Rattle.model.specs.Map.{upper}
@@ -27,29 +26,9 @@ use Rattle.model.specs.Execute as Execute
 use Rattle.model.specs.Bytes as Model
 use Rattle.model.specs.Bytes.{Memory, Step, at, kind, program, indexed, within, fault, run, exi, argued, foreign, is_foreign}
 use Rattle.model.specs.Bytes.{argument_fault, execute, taken, decoded, coded, fetched}
+use Rattle.model.proofs.Codes.{by_code, number_of, no_code}
 use Rattle.execute.specs.Given as Given
 use Rattle.execute.specs.Given.{direct, pointed, direct_of, pointed_of}
-
--- ---- a code by its number: one of fifteen, or none
-module _ (P : ℕ → Result Code Fault → Type 0) (f : (k : Code) → P (code_number k) (Ok k)) (g : (c : ℕ) → 15 ≤ c → P c (Err AbsentCode)) where
-  by_code : (c : ℕ) → P c (code_of c)
-  unfolding code_of code_number
-  by_code zero = f Cvi
-  by_code (suc zero) = f Dvi
-  by_code (suc (suc zero)) = f Gin
-  by_code (suc (suc (suc zero))) = f Win
-  by_code (suc (suc (suc (suc zero)))) = f Sme
-  by_code (suc (suc (suc (suc (suc zero))))) = f Wnm
-  by_code (suc (suc (suc (suc (suc (suc zero)))))) = f Rme
-  by_code (suc (suc (suc (suc (suc (suc (suc zero))))))) = f Tme
-  by_code (suc (suc (suc (suc (suc (suc (suc (suc zero)))))))) = f St1
-  by_code (suc (suc (suc (suc (suc (suc (suc (suc (suc zero))))))))) = f Stp
-  by_code (suc (suc (suc (suc (suc (suc (suc (suc (suc (suc zero)))))))))) = f St2
-  by_code (suc (suc (suc (suc (suc (suc (suc (suc (suc (suc (suc zero))))))))))) = f Crp
-  by_code (suc (suc (suc (suc (suc (suc (suc (suc (suc (suc (suc (suc zero)))))))))))) = f Dep
-  by_code (suc (suc (suc (suc (suc (suc (suc (suc (suc (suc (suc (suc (suc zero))))))))))))) = f Thirteen
-  by_code (suc (suc (suc (suc (suc (suc (suc (suc (suc (suc (suc (suc (suc (suc zero)))))))))))))) = f Exi
-  by_code (suc (suc (suc (suc (suc (suc (suc (suc (suc (suc (suc (suc (suc (suc (suc c))))))))))))))) = g _ (omega arith)
 
 -- ---- a code that is not built in
 module _ (m : Memory) (c : ℕ) (b : Bool) where
@@ -113,24 +92,36 @@ module _ (m : Memory) (c n : ℕ) (r : Result Code Fault) (er : r ≡ code_of c)
 pub ruleset given = (direct_none, direct_given, direct_guarded, pointed_none, pointed_given, pointed_guarded, pointed_bad)
 
 -- ---- what is run of it
-abbrev pub ran : ℕ → Memory → (ℕ → ℕ) → Result (Code × Arguments) Fault → Step
-ran d m len (Ok t) = execute d m (code_number t.0) t.1 (len (code_number t.0))
-ran d m len (Err f) = fault m (fault_number f)
+abbrev pub ran : ℕ → Memory → ℕ → ℕ → Result (Code × Arguments) Fault → Step
+ran d m c len (Ok t) = execute d m c t.1 len
+ran d m c len (Err f) = fault m (fault_number f)
 
 absent_run : (d : ℕ) (m : Memory) (c : ℕ) (x : Arguments) (len : ℕ) → 15 ≤ c → execute d m c x len ≡ fault m (fault_number AbsentCode)
 unfolding Execute.run fault_number
 absent_run d m c x len l = rw get_or-eq_default
 
+-- what is run by the number: of a code, or the fault that there is none
+module _ (m : Memory) (c : ℕ) (x : Arguments) (len d : ℕ) (o : Step) where
+  pub run_code : (k : Code) → Ok k ≡ code_of c → o ≡ execute d m (code_number k) x len → o ≡ execute d m c x len
+  run_code k e h = h ∙ ap (λ i. execute d m i x len) (number_of c k e)
+
+  pub run_none : (f : Fault) → Err f ≡ code_of c → o ≡ fault m (fault_number f) → o ≡ execute d m c x len
+  run_none f e h =
+      let n : (15 ≤ c) × (f ≡ AbsentCode) = no_code c f e in
+      h ∙ ap (λ i. fault m (fault_number i)) n.1 ∙ sym (absent_run d m c x len n.0)
+
+pub ruleset numbers = (run_code, run_none)
+
 -- "11 at other instruction words"
 module _ (m : Memory) (n : ℕ) where
   taken_if : (k : Code) (v : Bool)
       → cond v (execute 1 m (code_number k) (Model.direct m n (shape_for (code_number k))) (length_for (code_number k))) (fault m protected)
-      ≡ ran 1 m length_for (cond v (Ok (k, Model.direct m n (shape_for (code_number k)))) (Err Protected))
+      ≡ ran 1 m (code_number k) (length_for (code_number k)) (cond v (Ok (k, Model.direct m n (shape_for (code_number k)))) (Err Protected))
   unfolding fault_number
   taken_if k true = refl
   taken_if k false = refl
 
-  taken_one : (k : Code) → taken m n (code_number k) ≡ ran 1 m length_for (direct_of m n (Ok k))
+  taken_one : (k : Code) → taken m n (code_number k) ≡ ran 1 m (code_number k) (length_for (code_number k)) (direct_of m n (Ok k))
   unfolding Execute.taken
   taken_one k = taken_if k (clear (length_for (code_number k) - 2) (wrapped n 2))
 
@@ -140,9 +131,9 @@ module _ (m : Memory) (n : ℕ) where
       let e : length_for c ≡ 2 = get_or-eq_default lengths 2 l in
       rw e (absent_run 1 m c (Model.direct m n (shape_for c)) 2 l)
 
-  taken_by : (c : ℕ) → taken m n c ≡ ran 1 m length_for (direct m n c)
+  taken_by : (c : ℕ) → taken m n c ≡ ran 1 m c (length_for c) (direct m n c)
   unfolding Given.direct
-  taken_by = by_code (λ c r. taken m n c ≡ ran 1 m length_for (direct_of m n r)) taken_one taken_none
+  taken_by = by_code (λ c r. taken m n c ≡ ran 1 m c (length_for c) (direct_of m n r)) taken_one taken_none
 
 -- EXI: "2, pointed code 1 or handed out, then 11; 12"
 module _ (m : Memory) (d e : ℕ) where
@@ -156,7 +147,8 @@ module _ (m : Memory) (d e : ℕ) where
       → cond (eqb (cond b 0 (cond v (cond w 0 bad_argument) protected)) 0)
       (execute d m (code_number k) (Model.pointed m e (shape_for (code_number k))) (length_for exi_code))
       (fault m (cond b 0 (cond v (cond w 0 bad_argument) protected)))
-      ≡ ran d m (λ c. length_for exi_code) (cond v (cond w (Ok (k, Model.pointed m e (shape_for (code_number k)))) (Err BadArgument)) (Err Protected))
+      ≡ ran d m (code_number k) (length_for exi_code)
+      (cond v (cond w (Ok (k, Model.pointed m e (shape_for (code_number k)))) (Err BadArgument)) (Err Protected))
   unfolding fault_number
   tested_if k true true true h g = refl
   tested_if k true true false h g = absurd (false≢true (g refl))
@@ -173,7 +165,7 @@ module _ (m : Memory) (d e : ℕ) where
   unfolding Instruction.within
   exi_within c h = rw (eqb-true c exi_code h)
 
-  tested_one : (k : Code) → tested (code_number k) ≡ ran d m (λ c. length_for exi_code) (pointed_of m e (Ok k))
+  tested_one : (k : Code) → tested (code_number k) ≡ ran d m (code_number k) (length_for exi_code) (pointed_of m e (Ok k))
   unfolding Execute.argument_fault
   tested_one k =
       tested_if k (eqb (code_number k) exi_code) (clear (count_for (code_number k)) e) (within (count_for (code_number k)) m e (shape_for (code_number k)))
@@ -186,9 +178,9 @@ module _ (m : Memory) (d e : ℕ) where
       let y : count_for c ≡ 0 = get_or-eq_default argument_counts 0 l in
       rw (ne_eqb c exi_code (λ z. omega arith), y) (absent_run d m c (Model.pointed m e (shape_for c)) (length_for exi_code) l)
 
-  tested_by : (c : ℕ) → tested c ≡ ran d m (λ c. length_for exi_code) (pointed m c e)
+  tested_by : (c : ℕ) → tested c ≡ ran d m c (length_for exi_code) (pointed m c e)
   unfolding Given.pointed
-  tested_by = by_code (λ c r. tested c ≡ ran d m (λ c. length_for exi_code) (pointed_of m e r)) tested_one tested_none
+  tested_by = by_code (λ c r. tested c ≡ ran d m c (length_for exi_code) (pointed_of m e r)) tested_one tested_none
 
 -- ---- EXI by depth
 module _ (m : Memory) (o : Step) (x : Arguments) where
@@ -206,15 +198,15 @@ module _ (m : Memory) (o : Step) (x : Arguments) where
     pub exi_fault : (d : ℕ) (f : Fault) → (d ≡ 0 → ⊥) → b ≡ false → Err f ≡ pointed m x.field e → o ≡ fault m (fault_number f) → o ≡ exi d m x
     unfolding Execute.exi Execute.argued
     exi_fault zero f y z g h = absurd (y refl)
-    exi_fault (suc d) f y z g h = rw (← ee, ← eb, z) (h ∙ ap (ran d m (λ c. length_for exi_code)) g ∙ sym (tested_by m d e x.field))
+    exi_fault (suc d) f y z g h = rw (← ee, ← eb, z) (h ∙ ap (ran d m x.field (length_for exi_code)) g ∙ sym (tested_by m d e x.field))
 
     pub exi_runs : (d w : ℕ) (k : Code) (v : Arguments) → (d ≡ 0 → ⊥) → b ≡ false → Ok (k, v) ≡ pointed m x.field e → w ≡ length_for exi_code
-        → o ≡ execute (d - 1) m (code_number k) v w
+        → o ≡ execute (d - 1) m x.field v w
         → o ≡ exi d m x
     unfolding Execute.exi Execute.argued
     exi_runs zero w k v y z g ew h = absurd (y refl)
     exi_runs (suc d) w k v y z g ew h =
-        rw (← ee, ← eb, z) (rw ew at (simp sub-one at h) ∙ ap (ran d m (λ c. length_for exi_code)) g ∙ sym (tested_by m d e x.field))
+        rw (← ee, ← eb, z) (rw ew at (simp sub-one at h) ∙ ap (ran d m x.field (length_for exi_code)) g ∙ sym (tested_by m d e x.field))
 
 pub ruleset exis = (exi_none, exi_foreign, exi_fault, exi_runs)
 
@@ -222,13 +214,12 @@ pub ruleset exis = (exi_none, exi_foreign, exi_fault, exi_runs)
 module _ (m : Memory) (o : Step) (n : ℕ) where
   module _ (c : ℕ) where
     -- w is the length made wide
-    pub taken_runs : (k : Code) (l w : ℕ) (x : Arguments) → Ok (k, x) ≡ direct m n c → l ≡ length_for (code_number k) → w ≡ l
-        → o ≡ execute 1 m (code_number k) x w
+    pub taken_runs : (k : Code) (l w : ℕ) (x : Arguments) → Ok (k, x) ≡ direct m n c → l ≡ length_for c → w ≡ l → o ≡ execute 1 m c x w
         → o ≡ taken m n c
-    taken_runs k l w x g el ew h = h ∙ ap (λ i. execute 1 m (code_number k) x i) (ew ∙ el) ∙ ap (ran 1 m length_for) g ∙ sym (taken_by m n c)
+    taken_runs k l w x g el ew h = h ∙ ap (λ i. execute 1 m c x i) (ew ∙ el) ∙ ap (ran 1 m c (length_for c)) g ∙ sym (taken_by m n c)
 
     pub taken_fault : (f : Fault) → Err f ≡ direct m n c → o ≡ fault m (fault_number f) → o ≡ taken m n c
-    taken_fault f g h = h ∙ ap (ran 1 m length_for) g ∙ sym (taken_by m n c)
+    taken_fault f g h = h ∙ ap (ran 1 m c (length_for c)) g ∙ sym (taken_by m n c)
 
     module _ (b : Bool) (eb : b ≡ eqb (kind m c) (kind_number BuiltIn)) where
       pub decoded_taken : b ≡ true → o ≡ taken m n c → o ≡ decoded m n c

@@ -7,9 +7,10 @@ ghost use Rattle.model.specs.Coded.{answered, code_number, told};
 ghost use Rattle.model.specs.Instruction as Instruction;
 ghost use Rattle.model.specs.Bytes as Model;
 ghost use Rattle.execute.specs.Given as Given;
+ghost use Rattle.execute.specs.Orders.{order_of};
 
 use answers::fault;
-use arguments::Words;
+use arguments::{Words, length_for};
 use codes::{cvi, dvi, gin, indexed, is_of_kind, program, thirteen, win};
 use creating::{Newcomer, Order, crp, named, st2};
 use mail::Note;
@@ -89,10 +90,21 @@ fn exi_length() -> u16
     wide(Code::Exi.row().length)
 }
 
+// What ST1, STP and DEP order; no other code is asked.
+fn order_of(code: Code) -> Order
+    ensures { result ≡ order_of code }
+{
+    match code {
+        Code::St1 => Order::Start,
+        Code::Stp => Order::Stop,
+        _ => Order::Delete,
+    }
+}
+
 // The instruction with the code and what it is given; depth more EXIs are allowed.
 #[cycle(execute_exi_step)]
 #[tactic(auto, unfolding(model::specs::Execute::run, model::specs::Coded::code_number))]
-pub fn execute(m: &mut Memory, code: Code, given: Arguments, length: u16, depth: u8) -> Answer
+fn run(m: &mut Memory, code: Code, given: Arguments, length: u16, depth: u8) -> Answer
     requires { length < 8192 }
     ensures { gives (answered result) m.new ≡ Model.execute depth m.old (code_number code) given length }
 {
@@ -110,13 +122,24 @@ pub fn execute(m: &mut Memory, code: Code, given: Arguments, length: u16, depth:
         Code::Wnm => wnm(m, note, length),
         Code::Rme => rme(m, note, given.address, length),
         Code::Tme => tme(m, note, given.address, length),
-        Code::St1 => named(m, Order::Start, name, length),
-        Code::Stp => named(m, Order::Stop, name, length),
+        Code::St1 | Code::Stp | Code::Dep => named(m, order_of(code), name, length),
         Code::St2 => st2(m, name, given.address, length),
         Code::Crp => crp(m, newcomer(given), length),
-        Code::Dep => named(m, Order::Delete, name, length),
         Code::Thirteen => thirteen(m, given.field, given.second, given.address, length),
         Code::Exi => exi_step(m, given, depth),
+    }
+}
+
+// The same of a code by its number; a number that names none is fault 1.
+#[cycle(execute_exi_step)]
+#[tactic(auto, using(crate::proofs::Laws::numbers))]
+pub fn execute(m: &mut Memory, code: u8, given: Arguments, length: u16, depth: u8) -> Answer
+    requires { length < 8192 }
+    ensures { gives (answered result) m.new ≡ Model.execute depth m.old code given length }
+{
+    match Code::try_from(code) {
+        Ok(code) => run(m, code, given, length, depth),
+        Err(absent) => fault(m, absent),
     }
 }
 
@@ -134,7 +157,7 @@ fn exi_step(m: &mut Memory, given: Arguments, depth: u8) -> Answer
         return foreign(m, given.field, start);
     }
     match pointed(m, given.field, start) {
-        Ok((code, pointed)) => execute(m, code, pointed, exi_length(), depth - 1),
+        Ok((_, pointed)) => execute(m, given.field, pointed, exi_length(), depth - 1),
         Err(found) => fault(m, found),
     }
 }
@@ -146,7 +169,7 @@ fn taken(m: &mut Memory, address: u16, code: u8) -> Answer
     ensures { gives (answered result) m.new ≡ Model.taken m.old address code }
 {
     match direct(m, address, code) {
-        Ok((code, given)) => execute(m, code, given, wide(code.row().length), 1),
+        Ok((_, given)) => execute(m, code, given, wide(length_for(code)), 1),
         Err(found) => fault(m, found),
     }
 }
