@@ -61,6 +61,11 @@ pub met_is : (m : Memory) (a k n : ℕ) → k ≡ link_of a → n ≡ reach a �
 unfolding Walks.met
 met_is m a k n ek en = rw (ek, en)
 
+-- that of a head that holds no control page
+pub met_empty : (m : Memory) (a w : ℕ) (b : Bool) → w ≡ at m a → b ≡ holds (among w first_control last_control) → b ≡ false → met m a ≡ []
+unfolding Walks.met
+met_empty m a w b e eb h = path_end (reach a) m (link_of a) a w b e eb h
+
 -- no list has more than 21
 path_short : (n : ℕ) (m : Memory) (k a : ℕ) → length (path n m k a) ≤ n
 unfolding Walks.path

@@ -8,8 +8,10 @@ ghost use Rattle.telling.specs.Met.{marked_all};
 
 use crate::places::{grant_for, header_after};
 use crate::walks::{Path, met, processors};
+use lists::lies;
 use model::{ControlPage, Memory, map};
 use std::marker::Model;
+use words::at;
 
 // Below what marks of twenty pages can be; a clause sees the number.
 #[derive(Clone, Copy)]
@@ -70,33 +72,41 @@ impl Marks {
     {
         pages.fold(self, |marks, p| marks.with(p))
     }
+
+    // So are those of the list of a head. Most hold no page, and are passed over.
+    fn with_list(self, m: &Memory, head: u16) -> Self
+        requires { head < 8192 }
+        ensures { result ≡ marked_all self (Model.met m.now head) }
+    {
+        if !lies(at(m, head), map::FIRST_CONTROL, map::LAST_CONTROL) {
+            return self;
+        }
+        self.with_all(met(m, head))
+    }
 }
 
 // Of all that is used, of all that wait, of the processors.
 pub fn used_marks(m: &Memory) -> Marks
     ensures { result ≡ Met.used_marks m.now }
 {
-    let listed = list_marks(m).with_all(met(m, map::FREE_LIST));
+    let listed = list_marks(m).with_list(m, map::FREE_LIST);
     let mailed = processors(m).fold(listed, |marks, p| {
         marks
-            .with_all(met(m, p.place(map::Q1)))
-            .with_all(met(m, p.place(map::Q2)))
+            .with_list(m, p.place(map::Q1))
+            .with_list(m, p.place(map::Q2))
     });
-    (1..map::FIELD).fold(
-        mailed,
-        |marks, name| marks.with_all(met(m, grant_for(name))),
-    )
+    (1..map::FIELD).fold(mailed, |marks, name| marks.with_list(m, grant_for(name)))
 }
 
 pub fn wait_marks(m: &Memory) -> Marks
     ensures { result ≡ Met.wait_marks m.now }
 {
-    let paged = Marks::none().with_all(met(m, map::PAGE_QUEUE));
+    let paged = Marks::none().with_list(m, map::PAGE_QUEUE);
     let owned = processors(m).fold(
         paged,
-        |marks, p| marks.with_all(met(m, p.place(map::OWN_QUEUE))),
+        |marks, p| marks.with_list(m, p.place(map::OWN_QUEUE)),
     );
-    (0..map::INTERRUPTS).fold(owned, |marks, k| marks.with_all(met(m, header_after(k))))
+    (0..map::INTERRUPTS).fold(owned, |marks, k| marks.with_list(m, header_after(k)))
 }
 
 #[tactic(auto, unfolding(crate::specs::Met::list_marks))]

@@ -7,6 +7,6 @@ use Rattle.telling.proofs.met.wait_marks.Goals as goal
 pub returns : goal.returns
 returns c =
     let m = c.args.m.now in
-    waits_is m _ _ _ (rw (c.none.ensures, c.met.ensures) at c.with_all-paged.ensures)
+    waits_is m _ _ _ (rw c.none.ensures at c.with_list-paged.ensures)
     (fold_from_yields_List _ (owns_of m) _ _ c.fold-owned.ensures.ran (YieldsList-from_rest _ c.processors.ensures) (λ a x b q e. search rules))
     (fold_from_yields_List {v = λ x. x} _ (queue_of m) _ _ c.fold.ensures.ran (YieldsList-from_range 0 54 54 refl refl) (λ a x b q e. search rules))
