@@ -28,6 +28,7 @@ const WORDS: usize = 3;
 const NAME_ROOM: usize = 4096;
 
 // All that is printed of two memories, line by line to the last, many by one write.
+#[tactic(auto, using(crate::proofs::Laws::telling))]
 fn tell<P: Print>(rt: &P, first: &[u8], second: &[u8]) -> io::Result<()> {
     let mut kept = Kept::new();
     for line in Lines::new(first, second) {
