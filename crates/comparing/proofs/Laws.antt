@@ -12,7 +12,7 @@ use Rattle.std.specs.List.{range_with_len, list_all}
 use Rattle.std.specs.Map.Iter.{TakesFirst}
 use Rattle.model.specs.declared.ControlPage.{ControlPage}
 use Rattle.model.specs.Coded.{found, said_told, line_told, broken_told, refusal}
-use Rattle.model.specs.Told.{Finding}
+use Rattle.model.specs.Told.{Finding, Line}
 use Rattle.model.specs.declared.refusal.Broken.{Broken as BrokenAt}
 use Rattle.model.specs.declared.refusal.Refusal.TheVariants as Refusal
 use Rattle.model.specs.declared.Line.{Line as CodedLine}
@@ -350,6 +350,12 @@ module _ (m k : Memory) (c : Cursor) where
 -- a list that has given one has fewer left
 pub fewer : {A : Type 0} {s t : List A} {x : A} → s ≡ x ∷ t → length t < length s
 fewer e = rw e (omega arith)
+
+-- so behind each line that a step tells, fewer are left
+pub fewer_left : (m k : Memory) (c d : Cursor) (l : Line) (r : Step) → gives r m k ≡ lines_from c m k → r ≡ Some (l, d)
+    → length (lines_from d m k) < length (lines_from c m k)
+unfolding Cursors.gives
+fewer_left m k c d l r e h = let n : lines_from c m k ≡ l ∷ lines_from d m k = sym (rw h at e) in fewer n
 
 -- ---- what the step tells: the memories as arrays are those that were lent
 not_whole : (m : Memory) → (length m ≡ 8192 → ⊥) → is_whole m ≡ false

@@ -7,6 +7,7 @@ pub mod saying;
 mod sizes;
 
 ghost use Rattle.std.specs.Prelude.{◌≡◌, ◌≤◌, IfOk, IfSome, length};
+ghost use Rattle.files.specs.declared.Unread.TheVariants as Unread;
 ghost use Rattle.files.specs.Files.{name_room};
 
 use laying::lay_new_name;
@@ -25,6 +26,8 @@ pub enum Unread {
 }
 
 impl From<Told> for Unread {
+    ghost from_gives = { λ t e. e ≡ Unread.Told };
+
     fn from(_told: Told) -> Unread {
         Unread::Told
     }

@@ -20,6 +20,8 @@ use Rattle.model.specs.Answer.{Outcome, wrong_length, no_interrupt, wrong_class,
 use Rattle.model.specs.Answer.Outcome.{gives}
 use Rattle.model.specs.Coded as Coded
 use Rattle.model.specs.Coded.{told, held_told, verdict_told, writing_told, fit_told, broken_told, fault_number, fault_of, class_number}
+use Rattle.model.specs.Burst as Burst
+use Rattle.model.specs.Burst.{is_list}
 use Rattle.model.specs.Fresh.{startable}
 use Rattle.model.specs.Call as Call
 use Rattle.model.specs.Layout as Layout
@@ -92,6 +94,12 @@ held = record { refuses = Held.Refused; tells = Held.RefusedAt; says = held_told
 
 abbrev pub verdict : Way Verdict (Unit {0})
 verdict = record { refuses = Verdict.Refused; tells = Verdict.RefusedAt; says = verdict_told; err = verdict_err }
+
+-- ---- a wrong list, which is refused behind the head of a call and not before it: n is m, as an array. A control of the edit `list_before_memory` stands on it
+module _ (m n : Memory) (h : IsWholeChunk m n memory_size) (l : List ℕ) (b : Bool) (eb : b ≡ is_list l) where
+  pub list_wrong : b ≡ false → broken_told (Ok tt) ≡ told_of n → gives (told (Err Refusal.WrongList)) n ≡ Model.burst m l
+  unfolding Burst.burst Burst.burst_judged Coded.told Coded.refusal
+  list_wrong f x = head_goes step (λ k. Model.burst_judged k l) m n h (Err Refusal.WrongList) n x (rw (← eb, f))
 
 -- ---- the fresh start; n is m, as an array
 pub fresh_short : (m : Memory) (l d : ℕ) → length m ≢ memory_size → gives (told (Err Refusal.WrongLength)) m ≡ Model.fresh m l d
